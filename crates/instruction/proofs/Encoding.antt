@@ -1,0 +1,78 @@
+-- The one answer of encode and the one content of its room, from the tests of the code.
+-- Assumes nothing.
+use mathlib.Core.Path.{_≡_, refl, ap, sym, _∙_, subst}
+use mathlib.Core.Bool.{Bool, true, false}
+use mathlib.Core.List.{List, [], _∷_, _++_}
+use Prim.Native.Nat.{ℕ, _<_, _≤_}
+use lib.IntN.{ℤ, pos}
+use lib.ListN.{length, take, drop}
+use borrow.Author.Tests.{lt-ltb, le-ltb}
+use Rattle.instruction.specs.Answer.{Answer, accepted, refused, after}
+use Rattle.instruction.specs.Encode.{unfit, formIn, misfits, fitAnswer, encodeAnswer, encodeRoom, bytesIn, codeOf}
+use Rattle.instruction.specs.Forms.{formAt, bits, sizeOf}
+use Rattle.instruction.specs.Kinds.{kindAt}
+use Rattle.instruction.specs.Parts.{partsOf}
+use Rattle.instruction.specs.Pattern.{filled}
+use Rattle.instruction.specs.declared.instr.Instr.{Instr}
+use Rattle.instruction.specs.declared.instr.Parts.{Parts}
+use Rattle.instruction.proofs.Judging.{pass, stop, done, first-of, past-all}
+
+-- operand n of an instruction does not fit, or does
+abbrev pub Unfit1 : Instr → Bool → Type 0
+Unfit1 i t = unfit (kindAt (formIn i .shape) 0) (partsOf i .a) ≡ t
+
+abbrev pub Unfit2 : Instr → Bool → Type 0
+Unfit2 i t = unfit (kindAt (formIn i .shape) 1) (partsOf i .b) ≡ t
+
+abbrev pub Unfit3 : Instr → Bool → Type 0
+Unfit3 i t = unfit (kindAt (formIn i .shape) 2) (partsOf i .c) ≡ t
+
+module _ (i : Instr) where
+  pub fit1 : Unfit1 i true → refused 7 (pos 1 ∷ partsOf i .a ∷ []) ≡ fitAnswer i
+  unfolding fitAnswer
+  fit1 a = sym (stop _ _ _ a)
+
+  pub fit2 : Unfit1 i false → Unfit2 i true → refused 7 (pos 2 ∷ partsOf i .b ∷ []) ≡ fitAnswer i
+  unfolding fitAnswer
+  fit2 a b = sym (pass _ _ _ a ∙ stop _ _ _ b)
+
+  pub fit3 : Unfit1 i false → Unfit2 i false → Unfit3 i true → refused 7 (pos 3 ∷ partsOf i .c ∷ []) ≡ fitAnswer i
+  unfolding fitAnswer
+  fit3 a b c = sym (pass _ _ _ a ∙ pass _ _ _ b ∙ stop _ _ _ c)
+
+  pub fits : Unfit1 i false → Unfit2 i false → Unfit3 i false → accepted tt ≡ fitAnswer i
+  unfolding fitAnswer
+  fits a b c = sym (pass _ _ _ a ∙ pass _ _ _ b ∙ pass _ _ _ c ∙ done _)
+
+-- ---- encode
+
+module _ (i : Instr) (room : List ℕ) where
+  abbrev need : ℕ
+  need = sizeOf (formIn i)
+
+  -- what is left to say once the answer is known
+  held : (r : Answer ℕ) → encodeAnswer i room ≡ r → (t : List ℕ) → after r (bytesIn i ++ drop need room) room ≡ t → (r ≡ encodeAnswer i room) × (t ≡ encodeRoom i room)
+  unfolding encodeRoom
+  held r e t f = (sym e, rw e (sym f))
+
+  -- a field that does not fit: encode answers what the check of the fields answered
+  pub refuses : (n : ℕ) (vs : List ℤ) → refused n vs ≡ fitAnswer i → (refused n vs ≡ encodeAnswer i room) × (room ≡ encodeRoom i room)
+  unfolding fitAnswer encodeAnswer
+  refuses n vs e = held (refused n vs) (first-of _ tt need (misfits i) n vs (sym e)) room refl
+
+  pub no-room : accepted tt ≡ fitAnswer i → length room < need → (refused 11 (pos need ∷ []) ≡ encodeAnswer i room) × (room ≡ encodeRoom i room)
+  unfolding fitAnswer encodeAnswer
+  no-room e h = held (refused 11 (pos need ∷ [])) (past-all _ tt need (misfits i) (sym e) ∙ stop _ _ _ (lt-ltb (length room) need h)) room refl
+
+  pub writes : accepted tt ≡ fitAnswer i → need ≤ length room → (t : List ℕ) → bytesIn i ++ drop need room ≡ t → (accepted need ≡ encodeAnswer i room) × (t ≡ encodeRoom i room)
+  unfolding fitAnswer encodeAnswer
+  writes e h t f =
+      held (accepted need) (past-all _ tt need (misfits i) (sym e) ∙ pass _ _ _ (le-ltb (length room) need h) ∙ done _) t f
+
+  -- the bytes that the code laid over the room are the pattern's
+  pub wrote : (v : Parts) → v ≡ partsOf i → (n x y z : ℕ) (l : List ℕ) → n ≡ sizeOf (formAt (v .form)) → x ≡ codeOf (v .a) → y ≡ codeOf (v .b) → z ≡ codeOf (v .c) → take (sizeOf (formAt (v .form))) l ≡ filled (bits (formAt (v .form))) (x ∷ y ∷ z ∷ []) → bytesIn i ++ drop need room ≡ take n l ++ drop n room
+  unfolding bytesIn
+  wrote v e n x y z l p a b c q = rw (p, q, a, b, c, e)
+
+  pub need-is : (v : Parts) → v ≡ partsOf i → (n : ℕ) → n ≡ sizeOf (formAt (v .form)) → n ≡ need
+  need-is v e n p = rw (p, e)

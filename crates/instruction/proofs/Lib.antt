@@ -1,0 +1,17 @@
+pub mod Every
+pub mod Table
+pub mod Rest
+pub mod Sign
+pub mod Known
+pub mod Bits
+pub mod Shapes
+pub mod Reading
+pub mod Judging
+pub mod Rule
+pub mod Decoding
+pub mod Writing
+pub mod Over
+pub mod Encoding
+pub mod Named
+pub mod Resolving
+pub mod Resolved

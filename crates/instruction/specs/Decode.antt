@@ -1,0 +1,64 @@
+-- What decode answers. Document 01, 'Forms', and refusals 12 and 5 of 'Numbers given when a call says no'.
+-- Assumes nothing.
+use Prim.Native.Nat.{ℕ, _-_}
+use mathlib.Core.Bool.{cond}
+use mathlib.Core.List.{List, [], _∷_}
+use lib.Dec.{ltb, eqb}
+use lib.IntN.{ℤ, pos, negsuc}
+use lib.ListN.{length, getD}
+use Rattle.instruction.specs.Answer.{Answer, accepted, refused, refuse, judge}
+use Rattle.instruction.specs.Forms.{formAt, formOf, bits, sizeOf}
+use Rattle.instruction.specs.Kinds.{kindAt}
+use Rattle.instruction.specs.Parts.{madeOf}
+use Rattle.instruction.specs.Pattern.{field}
+use Rattle.instruction.specs.declared.answer.CutOff.{CutOff}
+use Rattle.instruction.specs.declared.decode.Decoded.{Decoded}
+use Rattle.instruction.specs.declared.decode.Decoded.the-variants.{Found, Nothing, Cut}
+use Rattle.instruction.specs.declared.instr.Instr.{Instr}
+use Rattle.instruction.specs.declared.instr.Parts.{Parts}
+use Rattle.instruction.specs.declared.kind.Kind.{Kind}
+use Rattle.instruction.specs.declared.kind.Kind.the-variants.{Absent, Immediate, Direct, Register, BitNumber, Page, Far, Short, Long}
+
+-- the offset byte read as a number from -128 to 127
+abbrev pub shortOf : ℕ → ℤ
+shortOf n = cond (ltb n 128) (pos n) (negsuc (255 - n))
+
+-- the operand that a pattern's number stands for
+abbrev pub operandOf : Kind → ℕ → ℤ
+operandOf Absent n = pos n
+operandOf Immediate n = pos n
+operandOf Direct n = pos n
+operandOf Register n = pos n
+operandOf BitNumber n = pos n
+operandOf Page n = pos n
+operandOf Far n = pos n
+operandOf Short n = shortOf n
+operandOf Long n = pos n
+
+-- operand l of the form k in a byte string
+abbrev pub operandIn : ℕ → List ℕ → ℕ → ℤ
+operandIn k s l = operandOf (kindAt (formAt k .shape) l) (field l (bits (formAt k)) s 0)
+
+-- the fields that the pattern of the form k reads
+unfoldable pub fieldsIn : ℕ → List ℕ → Parts
+fieldsIn k s = record { form = k; a = operandIn k s 0; b = operandIn k s 1; c = operandIn k s 2 }
+
+-- the values of refusal 5: position, first byte
+abbrev pub cutValues : CutOff → List ℤ
+cutValues c = pos (c .position) ∷ pos (c .first) ∷ []
+
+-- the number and values of each answer
+abbrev pub decodedOf : Decoded → Answer Instr
+decodedOf (Found i) = accepted i
+decodedOf Nothing = refused 12 (pos 0 ∷ [])
+decodedOf (Cut c) = refused 5 (cutValues c)
+
+-- nothing: 12; cut off by the end: 5, with position 0; else the instruction of the form whose pattern matches
+unfoldable pub decodeAnswer : List ℕ → Answer Instr
+decodeAnswer s =
+    let k : ℕ = formOf (getD s 0 0) in
+    judge
+    (refuse (eqb (length s) 0) 12 (pos 0 ∷ [])
+    ∷ refuse (ltb (length s) (sizeOf (formAt k))) 5 (pos 0 ∷ pos (getD s 0 0) ∷ [])
+    ∷ [])
+    (madeOf (fieldsIn k s))

@@ -1,0 +1,9 @@
+pub mod Answer
+pub mod Pattern
+pub mod Kinds
+pub mod Forms
+pub mod Parts
+pub mod Grid
+pub mod Decode
+pub mod Encode
+pub mod Resolve
