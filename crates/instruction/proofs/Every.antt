@@ -2,7 +2,7 @@
 -- Assumes nothing.
 use mathlib.Core.Bool.{Bool, true, false, _&&_}
 use mathlib.Core.Path.{_≡_, refl, subst, sym}
-use Prim.Native.Nat.{ℕ, zero, suc, _<_}
+use Prim.Native.Nat.{ℕ, zero, suc, _+_, _-_, _<_, _≤_}
 use native.Mathlib.Omega.{arith}
 use lib.Dec.{T, eqb, eqb→eq}
 use borrow.Author.Tests.{eqb-false}
@@ -27,3 +27,11 @@ last f n k false e p h r = let q : k ≡ n → ⊥ = eqb-false k n e in r (omega
 pub holds : (f : ℕ → Bool) (n : ℕ) → T (upTo f n) → (k : ℕ) → k < n → T (f k)
 holds f zero t k h = absurd (let z : k < 0 = h in omega arith)
 holds f (suc n) t k h = last f n k (eqb k n) refl t h (holds f n (and-right (f n) (upTo f n) t) k)
+
+-- the same from a number on
+pub holds-from : (f : ℕ → Bool) (low n : ℕ) → T (upTo (λ j. f (low + j)) n) → (k : ℕ) → low ≤ k → k < low + n → T (f k)
+holds-from f low n t k h l =
+    subst (λ (m : ℕ). T (f m)) (back k h) (holds (λ j. f (low + j)) n t (k - low) (omega arith))
+  where
+    back : (k : ℕ) → low ≤ k → low + (k - low) ≡ k
+    back k h = omega arith

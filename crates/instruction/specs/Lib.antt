@@ -7,3 +7,5 @@ pub mod Grid
 pub mod Decode
 pub mod Encode
 pub mod Resolve
+pub mod Flow
+pub mod Mnemonic

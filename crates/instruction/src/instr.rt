@@ -101,6 +101,11 @@ impl Parts {
 }
 
 impl Instr {
+    // A base is the address after an instruction, and may be the end of memory.
+    pub const HIGHEST_BASE: u32 = 65_536;
+
+    pub const HIGHEST_ADDRESS: i32 = 65_535;
+
     // One of the two functions that go through all forms: the instruction taken apart.
     pub fn apart(self) -> Parts
         ensures { λ r. ⌜ r ≡ partsOf self ⌝ }

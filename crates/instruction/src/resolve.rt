@@ -55,7 +55,7 @@ fn plain(n: u8, kind: Kind, z: i32) -> Field
 fn page(n: u8, z: i32, base: u32) -> Field
     ensures { λ r. ⌜ operandAnswer r ≡ judge (operandRefusals base n Page z) (fieldOf base Page z) ⌝ }
 {
-    if signed::is_outside(0, 65535, z) {
+    if signed::is_outside(0, Instr::HIGHEST_ADDRESS, z) {
         return Field::Not(Why::Unfit(Misfit::new(n, z)));
     }
     let address = signed::code(z);
@@ -72,7 +72,7 @@ fn short(z: i32, base: u32) -> Field
     requires { ⌜ base ≤ 65536 ⌝ }
     ensures { λ r. ⌜ operandAnswer r ≡ judge (operandRefusals base 0 Short z) (fieldOf base Short z) ⌝ }
 {
-    if signed::is_outside(0, 65535, z) {
+    if signed::is_outside(0, Instr::HIGHEST_ADDRESS, z) {
         return Field::Not(Why::NoAddress(z));
     }
     let offset = signed::minus(z, base);
@@ -87,7 +87,7 @@ fn long(z: i32, base: u32) -> Field
     requires { ⌜ base ≤ 65536 ⌝ }
     ensures { λ r. ⌜ operandAnswer r ≡ judge (operandRefusals base 0 Long z) (fieldOf base Long z) ⌝ }
 {
-    if signed::is_outside(0, 65535, z) {
+    if signed::is_outside(0, Instr::HIGHEST_ADDRESS, z) {
         return Field::Not(Why::NoAddress(z));
     }
     let address = (signed::code(z) % 65536) as u16;
@@ -119,7 +119,7 @@ impl Instr {
     pub fn resolve(self, base: u32) -> Resolved
         ensures { λ r. ⌜ resolvedOf r ≡ resolveAnswer self base ⌝ }
     {
-        if 65536 < base {
+        if Instr::HIGHEST_BASE < base {
             return Resolved::FarBase(base);
         }
         let v = self.apart();

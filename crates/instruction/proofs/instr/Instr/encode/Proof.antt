@@ -18,7 +18,7 @@ use Rattle.instruction.specs.declared.encode.Fit.{Fit}
 use Rattle.instruction.specs.declared.instr.Instr.{Instr}
 use Rattle.instruction.specs.declared.instr.Parts.{Parts}
 use Rattle.instruction.proofs.Encoding.{refuses, no-room, writes, wrote, need-is}
-use Rattle.instruction.proofs.Known.{known}
+use Rattle.instruction.proofs.Known.{form-small}
 use Rattle.instruction.proofs.Shapes.{size-range}
 use Rattle.instruction.proofs.instr.Instr.encode.Statement.{statement}
 use Rattle.instruction.proofs.instr.Instr.encode.Tie as tie
@@ -40,7 +40,7 @@ returns c =
     let f = c .before .before .before in refuses (self f) (room f) 7 _ (ap fitOf (sym (c .before .m .given .1)) ∙ f .fit .ensures)
 
 small : (c : tie.After-apart) → c .apart .result .form < 70
-small c = subst (λ (v : Parts). v .form < 70) (sym (c .apart .ensures)) (known (self (c .before .before .before)) .small)
+small c = form-small (self (c .before .before .before)) (c .apart .ensures)
 
 -- the bytes needed, as the code has them
 needed : (c : tie.After-size-of) → c .size-of .result ≡ sizeOf (formIn (self (c .before .before .before .before)))

@@ -16,7 +16,7 @@ use Rattle.instruction.specs.declared.instr.Instr.{Instr}
 use Rattle.instruction.specs.declared.instr.Parts.{Parts}
 use Rattle.instruction.specs.declared.kind.Kind.{Kind}
 use Rattle.instruction.specs.declared.kind.Kinds.{Kinds}
-use Rattle.instruction.proofs.Known.{known}
+use Rattle.instruction.proofs.Known.{form-small}
 use Rattle.instruction.proofs.Reading.{make4}
 use Rattle.instruction.proofs.Resolved.{far, no1, no2, no3, yes}
 use Rattle.instruction.proofs.Resolving.{answerOf}
@@ -40,7 +40,7 @@ near : (k : tie.After-kinds) → base k ≤ 65536
 near k = k .before .before .if1 .left
 
 small : (k : tie.After-kinds) → k .before .apart .result .form < 70
-small k = subst (λ (v : Parts). v .form < 70) (sym (k .before .apart .ensures)) (known (self k) .small)
+small k = form-small (self k) (k .before .apart .ensures)
 
 -- the answers for the three operands, and what is known where one is accepted
 abbrev kinds1 : tie.After-operand → tie.After-kinds

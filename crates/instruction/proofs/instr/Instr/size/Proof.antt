@@ -1,16 +1,15 @@
 -- `Instr::size` meets its contract.
 -- Assumes nothing.
-use mathlib.Core.Path.{ap, subst, sym, _∙_}
-use Prim.Native.Nat.{_<_}
+use mathlib.Core.Path.{ap, _∙_}
 use borrow.Author.Needs.{needs}
 use Rattle.instruction.specs.Forms.{formAt, sizeOf}
 use Rattle.instruction.specs.declared.instr.Parts.{Parts}
-use Rattle.instruction.proofs.Known.{known}
+use Rattle.instruction.proofs.Known.{form-small}
 use Rattle.instruction.proofs.instr.Instr.size.Statement.{statement}
 use Rattle.instruction.proofs.instr.Instr.size.Tie as tie
 
 size-of-requires : tie.Need-size-of-requires
-size-of-requires c κs = subst (λ (v : Parts). v .form < 70) (sym (c .apart .ensures)) (known (c .before .args .self) .small)
+size-of-requires c κs = form-small (c .before .args .self) (c .apart .ensures)
 
 returns : tie.Need-returns
 returns c = c .size-of .ensures ∙ ap (λ (v : Parts). sizeOf (formAt (v .form))) (c .before .apart .ensures)
