@@ -6,13 +6,13 @@ use Prim.Native.Nat.{ℕ, _<_, _≤_}
 use lib.IntN.{pos}
 use lib.ListN.{getD, length}
 use borrow.Author.Tests.{eq-eqb, ne-eqb, lt-ltb, le-ltb}
-use Rattle.instruction.specs.Answer.{accepted, refused}
+use Rattle.operand.specs.Answer.{accepted, refused}
 use Rattle.instruction.specs.Decode.{decodeAnswer, fieldsIn}
 use Rattle.instruction.specs.Forms.{formAt, formOf, sizeOf}
 use Rattle.instruction.specs.Parts.{madeOf}
 use Rattle.instruction.specs.declared.instr.Instr.{Instr}
 use Rattle.instruction.specs.declared.instr.Parts.{Parts}
-use Rattle.instruction.proofs.Judging.{pass, stop, done}
+use Rattle.operand.proofs.Judging.{pass, stop, done}
 
 module _ (s : List ℕ) where
   pub nothing : length s ≡ 0 → refused 12 (pos 0 ∷ []) ≡ decodeAnswer s

@@ -7,15 +7,16 @@ use Prim.Native.Nat.{ℕ, _<_, _≤_}
 use lib.IntN.{ℤ, pos}
 use lib.ListN.{length, take, drop}
 use borrow.Author.Tests.{lt-ltb, le-ltb}
-use Rattle.instruction.specs.Answer.{Answer, accepted, refused, after}
-use Rattle.instruction.specs.Encode.{unfit, formIn, misfits, fitAnswer, encodeAnswer, encodeRoom, bytesIn, codeOf}
+use Rattle.operand.specs.Answer.{Answer, accepted, refused, after}
+use Rattle.instruction.specs.Encode.{formIn, misfits, fitAnswer, encodeAnswer, encodeRoom, bytesIn, codeOf}
+use Rattle.operand.specs.Range.{unfit}
 use Rattle.instruction.specs.Forms.{formAt, bits, sizeOf}
-use Rattle.instruction.specs.Kinds.{kindAt}
+use Rattle.operand.specs.Kinds.{kindAt}
 use Rattle.instruction.specs.Parts.{partsOf}
 use Rattle.instruction.specs.Pattern.{filled}
 use Rattle.instruction.specs.declared.instr.Instr.{Instr}
 use Rattle.instruction.specs.declared.instr.Parts.{Parts}
-use Rattle.instruction.proofs.Judging.{pass, stop, done, first-of, past-all}
+use Rattle.operand.proofs.Judging.{pass, stop, done, first-of, past-all}
 
 -- operand n of an instruction does not fit, or does
 abbrev pub Unfit1 : Instr → Bool → Type 0

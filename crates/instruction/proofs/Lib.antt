@@ -6,7 +6,6 @@ pub mod Known
 pub mod Bits
 pub mod Shapes
 pub mod Reading
-pub mod Judging
 pub mod Rule
 pub mod Decoding
 pub mod Writing

@@ -10,11 +10,11 @@ use lib.IntN.{ℤ, pos}
 use lib.ListN.{getD, length, length-map}
 use Rattle.instruction.specs.Decode.{shortOf, operandOf, fieldsIn}
 use Rattle.instruction.specs.Forms.{formAt, bits}
-use Rattle.instruction.specs.Kinds.{kindsOf, kindAt}
+use Rattle.operand.specs.Kinds.{kindsOf, kindAt}
 use Rattle.instruction.specs.Pattern.{Bit, O, I, of, bitOf, gives, part, field}
 use Rattle.instruction.specs.declared.instr.Parts.{Parts}
-use Rattle.instruction.specs.declared.kind.Shape.{Shape}
-use Rattle.instruction.specs.declared.kind.Shape.the-variants.{Bare, Imm, D9, Ri, ImmD9, ImmRi, D9B3, A12, A16, R16, R8, D9B3R8, D9R8, RiR8, ImmR8, RiImmR8}
+use Rattle.operand.specs.declared.kind.Shape.{Shape}
+use Rattle.operand.specs.declared.kind.Shape.the-variants.{Bare, Imm, D9, Ri, ImmD9, ImmRi, D9B3, A12, A16, R16, R8, D9B3R8, D9R8, RiR8, ImmR8, RiImmR8}
 use Rattle.instruction.proofs.Bits.{low8, high8, low3, high3}
 use Rattle.instruction.proofs.Shapes.{blank, freed, free, laid}
 

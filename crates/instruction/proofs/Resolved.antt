@@ -5,17 +5,17 @@ use mathlib.Core.List.{List, [], _∷_, _++_, append-nil}
 use Prim.Native.Nat.{ℕ, _<_, _≤_}
 use lib.IntN.{ℤ, pos}
 use borrow.Author.Tests.{lt-ltb, le-ltb}
-use Rattle.instruction.specs.Answer.{Answer, accepted, refused, Refusal, judge}
+use Rattle.operand.specs.Answer.{Answer, accepted, refused, Refusal, judge}
 use Rattle.instruction.specs.Encode.{formIn}
-use Rattle.instruction.specs.Kinds.{kindAt}
+use Rattle.operand.specs.Kinds.{kindAt}
 use Rattle.instruction.specs.Parts.{partsOf, madeOf}
 use Rattle.instruction.specs.Resolve.{operandRefusals, fieldOf, whyOf, resolveAnswer}
 use Rattle.instruction.specs.declared.instr.Instr.{Instr}
 use Rattle.instruction.specs.declared.instr.Parts.{Parts}
-use Rattle.instruction.specs.declared.kind.Kind.{Kind}
+use Rattle.operand.specs.declared.kind.Kind.{Kind}
 use Rattle.instruction.specs.declared.resolve.Why.{Why}
 use Rattle.instruction.specs.declared.resolve.Why.the-variants.{Unfit, NoAddress, TooFar, OtherPage}
-use Rattle.instruction.proofs.Judging.{pass, stop, done, first-of, past-all, accepts}
+use Rattle.operand.proofs.Judging.{pass, stop, done, first-of, past-all, accepts}
 use Rattle.instruction.proofs.Resolving.{answerOf}
 
 -- why an operand is refused is why the whole is, whatever the whole would have answered

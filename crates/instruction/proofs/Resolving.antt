@@ -8,13 +8,15 @@ use native.Mathlib.Omega.{arith}
 use lib.Dec.{ltb}
 use lib.IntN.{ℤ, pos, negsuc, natAbs, subℕ, _+ℤ_, _-ℤ_}
 use borrow.Author.Tests.{eq-eqb, ne-eqb, ltb-true, ltb-false}
-use Rattle.instruction.specs.Answer.{Answer, accepted, refused, refuse, judge}
-use Rattle.instruction.specs.Encode.{outside, unfit, codeOf}
+use Rattle.operand.specs.Answer.{Answer, accepted, refused, refuse, judge}
+use Rattle.instruction.specs.Encode.{codeOf}
+use Rattle.operand.specs.Range.{outside, unfit}
 use Rattle.instruction.specs.Resolve.{noAddress, top, wrapped, operandRefusals, fieldOf}
-use Rattle.instruction.specs.declared.kind.Kind.{Kind}
-use Rattle.instruction.specs.declared.kind.Kind.the-variants.{Page, Short, Long}
-use Rattle.instruction.proofs.Judging.{pass, stop, done}
-use Rattle.instruction.proofs.Sign.{natural, diff}
+use Rattle.operand.specs.declared.kind.Kind.{Kind}
+use Rattle.operand.specs.declared.kind.Kind.the-variants.{Page, Short, Long}
+use Rattle.operand.proofs.Judging.{pass, stop, done}
+use Rattle.instruction.proofs.Sign.{diff}
+use Rattle.operand.proofs.Sign.{natural}
 
 -- an address is its own number
 pub address-is : (z : ℤ) → noAddress z ≡ false → codeOf z ≡ natAbs z

@@ -11,8 +11,8 @@ use lib.Dec.{T, ltb, ltb→lt}
 use Rattle.instruction.proofs.Every.{and-left, and-right, holds}
 use Rattle.instruction.specs.Pattern.{Bit, O, I, of, pattern, bytesOf, onto, given, next}
 use Rattle.instruction.specs.Forms.{Form, forms, formAt, bits, sizeOf}
-use Rattle.instruction.specs.declared.kind.Shape.{Shape}
-use Rattle.instruction.specs.declared.kind.Shape.the-variants.{Bare, Imm, D9, Ri, ImmD9, ImmRi, D9B3, A12, A16, R16, R8, D9B3R8, D9R8, RiR8, ImmR8, RiImmR8}
+use Rattle.operand.specs.declared.kind.Shape.{Shape}
+use Rattle.operand.specs.declared.kind.Shape.the-variants.{Bare, Imm, D9, Ri, ImmD9, ImmRi, D9B3, A12, A16, R16, R8, D9B3R8, D9R8, RiR8, ImmR8, RiImmR8}
 
 -- eight bits of an operand, from bit k up
 abbrev pub eight : ℕ → ℕ → List Bit

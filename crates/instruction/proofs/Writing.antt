@@ -9,8 +9,8 @@ use native.Mathlib.Nat.{zero-add, add-zero, pow-suc, zero-div}
 use lib.ListN.{getD, length, take, drop, length-map}
 use Rattle.instruction.specs.Forms.{formAt, bits, sizeOf}
 use Rattle.instruction.specs.Pattern.{Bit, O, I, of, bitOf, digit, value, filled}
-use Rattle.instruction.specs.declared.kind.Shape.{Shape}
-use Rattle.instruction.specs.declared.kind.Shape.the-variants.{Bare, Imm, D9, Ri, ImmD9, ImmRi, D9B3, A12, A16, R16, R8, D9B3R8, D9R8, RiR8, ImmR8, RiImmR8}
+use Rattle.operand.specs.declared.kind.Shape.{Shape}
+use Rattle.operand.specs.declared.kind.Shape.the-variants.{Bare, Imm, D9, Ri, ImmD9, ImmRi, D9B3, A12, A16, R16, R8, D9B3R8, D9R8, RiR8, ImmR8, RiImmR8}
 use Rattle.instruction.proofs.Bits.{sum8-is, high-is, low2-is, low3, high3-is}
 use Rattle.instruction.proofs.Shapes.{blank, freed, free, laid, tail-laid, sized}
 

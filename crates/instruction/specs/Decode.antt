@@ -6,18 +6,18 @@ use mathlib.Core.List.{List, [], _∷_}
 use lib.Dec.{ltb, eqb}
 use lib.IntN.{ℤ, pos, negsuc}
 use lib.ListN.{length, getD}
-use Rattle.instruction.specs.Answer.{Answer, accepted, refused, refuse, judge}
+use Rattle.operand.specs.Answer.{Answer, accepted, refused, refuse, judge}
 use Rattle.instruction.specs.Forms.{formAt, formOf, bits, sizeOf}
-use Rattle.instruction.specs.Kinds.{kindAt}
+use Rattle.operand.specs.Kinds.{kindAt}
 use Rattle.instruction.specs.Parts.{madeOf}
 use Rattle.instruction.specs.Pattern.{field}
-use Rattle.instruction.specs.declared.answer.CutOff.{CutOff}
+use Rattle.operand.specs.declared.answer.CutOff.{CutOff}
 use Rattle.instruction.specs.declared.decode.Decoded.{Decoded}
 use Rattle.instruction.specs.declared.decode.Decoded.the-variants.{Found, Nothing, Cut}
 use Rattle.instruction.specs.declared.instr.Instr.{Instr}
 use Rattle.instruction.specs.declared.instr.Parts.{Parts}
-use Rattle.instruction.specs.declared.kind.Kind.{Kind}
-use Rattle.instruction.specs.declared.kind.Kind.the-variants.{Absent, Immediate, Direct, Register, BitNumber, Page, Far, Short, Long}
+use Rattle.operand.specs.declared.kind.Kind.{Kind}
+use Rattle.operand.specs.declared.kind.Kind.the-variants.{Absent, Immediate, Direct, Register, BitNumber, Page, Far, Short, Long}
 
 -- the offset byte read as a number from -128 to 127
 abbrev pub shortOf : ℕ → ℤ

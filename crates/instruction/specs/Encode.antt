@@ -1,41 +1,22 @@
 -- What encode answers and writes. Document 01, 'Resolving operands' (the ranges of fields) and refusals 7 and 11, in this order.
 -- Assumes nothing.
 use Prim.Native.Nat.{ℕ, suc, _-_}
-use mathlib.Core.Bool.{Bool, true, false, _||_}
 use mathlib.Core.List.{List, [], _∷_, _++_}
 use lib.Dec.{ltb}
 use lib.IntN.{ℤ, pos, negsuc}
 use lib.ListN.{length, drop}
-use lib.Signed.{ltZ}
-use Rattle.instruction.specs.Answer.{Answer, accepted, refused, Refusal, refuse, judge, after}
+use Rattle.operand.specs.Answer.{Answer, accepted, refused, Refusal, refuse, judge, after}
 use Rattle.instruction.specs.Forms.{Form, formAt, bits, sizeOf}
-use Rattle.instruction.specs.Kinds.{kindAt}
+use Rattle.operand.specs.Kinds.{kindAt}
+use Rattle.operand.specs.Range.{unfit}
 use Rattle.instruction.specs.Parts.{partsOf}
 use Rattle.instruction.specs.Pattern.{filled}
-use Rattle.instruction.specs.declared.answer.Misfit.{Misfit}
+use Rattle.operand.specs.declared.answer.Misfit.{Misfit}
 use Rattle.instruction.specs.declared.encode.Encoded.{Encoded}
 use Rattle.instruction.specs.declared.encode.Encoded.the-variants.{Written, Unfit, NoRoom}
 use Rattle.instruction.specs.declared.encode.Fit.{Fit}
 use Rattle.instruction.specs.declared.encode.Fit.the-variants.{Fits, Outside}
 use Rattle.instruction.specs.declared.instr.Instr.{Instr}
-use Rattle.instruction.specs.declared.kind.Kind.{Kind}
-use Rattle.instruction.specs.declared.kind.Kind.the-variants.{Absent, Immediate, Direct, Register, BitNumber, Page, Far, Short, Long}
-
--- z is not from low to high
-abbrev pub outside : ℤ → ℤ → ℤ → Bool
-outside low high z = ltZ z low || ltZ high z
-
--- the number does not fit the field
-unfoldable pub unfit : Kind → ℤ → Bool
-unfit Absent z = false
-unfit Immediate z = outside (pos 0) (pos 255) z
-unfit Direct z = outside (pos 0) (pos 511) z
-unfit Register z = outside (pos 0) (pos 3) z
-unfit BitNumber z = outside (pos 0) (pos 7) z
-unfit Page z = outside (pos 0) (pos 4095) z
-unfit Far z = outside (pos 0) (pos 65535) z
-unfit Short z = outside (negsuc 127) (pos 127) z
-unfit Long z = outside (pos 0) (pos 65535) z
 
 -- the form of an instruction
 abbrev pub formIn : Instr → Form

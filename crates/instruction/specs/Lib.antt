@@ -1,6 +1,4 @@
-pub mod Answer
 pub mod Pattern
-pub mod Kinds
 pub mod Forms
 pub mod Parts
 pub mod Grid

@@ -5,15 +5,16 @@ use mathlib.Core.Bool.{Bool, not}
 use mathlib.Core.List.{List, [], _∷_, _++_}
 use lib.Dec.{ltb, eqb}
 use lib.IntN.{ℤ, pos, negsuc, natAbs, _+ℤ_, _-ℤ_}
-use Rattle.instruction.specs.Answer.{Answer, accepted, refused, Refusal, refuse, judge}
-use Rattle.instruction.specs.Encode.{outside, misfitValues, formIn}
-use Rattle.instruction.specs.Kinds.{kindAt}
+use Rattle.operand.specs.Answer.{Answer, accepted, refused, Refusal, refuse, judge}
+use Rattle.instruction.specs.Encode.{misfitValues, formIn}
+use Rattle.operand.specs.Range.{outside}
+use Rattle.operand.specs.Kinds.{kindAt}
 use Rattle.instruction.specs.Parts.{partsOf, madeOf}
-use Rattle.instruction.specs.declared.answer.Tops.{Tops}
+use Rattle.operand.specs.declared.answer.Tops.{Tops}
 use Rattle.instruction.specs.declared.instr.Instr.{Instr}
 use Rattle.instruction.specs.declared.instr.Parts.{Parts}
-use Rattle.instruction.specs.declared.kind.Kind.{Kind}
-use Rattle.instruction.specs.declared.kind.Kind.the-variants.{Absent, Immediate, Direct, Register, BitNumber, Page, Far, Short, Long}
+use Rattle.operand.specs.declared.kind.Kind.{Kind}
+use Rattle.operand.specs.declared.kind.Kind.the-variants.{Absent, Immediate, Direct, Register, BitNumber, Page, Far, Short, Long}
 use Rattle.instruction.specs.declared.resolve.Field.{Field}
 use Rattle.instruction.specs.declared.resolve.Field.the-variants.{Is, Not}
 use Rattle.instruction.specs.declared.resolve.Resolved.{Resolved}

@@ -6,13 +6,13 @@ ghost use Prim.Native.Nat.{_+_, _*_, _/_, _%_, _<_};
 ghost use lib.IntN.{pos};
 ghost use lib.ListN.{getD};
 ghost use Rattle.instruction.specs.Decode.{decodedOf, decodeAnswer, fieldsIn};
-use crate::answer::CutOff;
 use crate::build;
 use crate::form;
 use crate::instr::Instr;
 use crate::instr::Parts;
-use crate::kind::Shape;
 use crate::signed;
+use operand::CutOff;
+use operand::Shape;
 
 pub enum Decoded {
     Found(Instr),

@@ -4,15 +4,15 @@ ghost use mathlib.Core.Path.{_≡_};
 ghost use mathlib.Core.List.{[], _∷_, _++_};
 ghost use Prim.Native.Nat.{_<_, _≤_, _%_};
 ghost use lib.ListN.{length, take, drop};
-ghost use Rattle.instruction.specs.Encode.{unfit, fitOf, fitAnswer, encodedOf, encodeAnswer, encodeRoom};
+ghost use Rattle.instruction.specs.Encode.{fitOf, fitAnswer, encodedOf, encodeAnswer, encodeRoom};
 ghost use Rattle.instruction.specs.Forms.{formAt, bits, sizeOf};
 ghost use Rattle.instruction.specs.Pattern.{filled};
-use crate::answer::Misfit;
 use crate::form;
 use crate::instr::Instr;
-use crate::kind::Kind;
-use crate::kind::Shape;
 use crate::signed;
+use operand::Misfit;
+use operand::Shape;
+use operand::range;
 
 pub enum Encoded {
     // The number of bytes written.
@@ -34,23 +34,6 @@ struct Three {
     first: u8,
     second: u8,
     third: u8,
-}
-
-// Whether a number does not fit a field.
-pub fn is_unfit(kind: Kind, z: i32) -> bool
-    ensures { λ r. ⌜ r ≡ unfit kind z ⌝ }
-{
-    match kind {
-        Kind::Absent => false,
-        Kind::Immediate => signed::is_outside(0, 255, z),
-        Kind::Direct => signed::is_outside(0, 511, z),
-        Kind::Register => signed::is_outside(0, 3, z),
-        Kind::BitNumber => signed::is_outside(0, 7, z),
-        Kind::Page => signed::is_outside(0, 4095, z),
-        Kind::Far => signed::is_outside(0, 65535, z),
-        Kind::Short => signed::is_outside(-128, 127, z),
-        Kind::Long => signed::is_outside(0, 65535, z),
-    }
 }
 
 fn low(n: u32) -> u8
@@ -178,13 +161,13 @@ impl Instr {
         let ka = k.a;
         let kb = k.b;
         let kc = k.c;
-        if is_unfit(ka, a) {
+        if range::is_unfit(ka, a) {
             return Fit::Outside(Misfit::new(1, a));
         }
-        if is_unfit(kb, b) {
+        if range::is_unfit(kb, b) {
             return Fit::Outside(Misfit::new(2, b));
         }
-        if is_unfit(kc, c) {
+        if range::is_unfit(kc, c) {
             return Fit::Outside(Misfit::new(3, c));
         }
         Fit::Fits

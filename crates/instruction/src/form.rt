@@ -6,7 +6,7 @@ ghost use lib.ListN.{getD};
 ghost use Rattle.instruction.specs.Forms.{formAt, bits, sizeOf};
 ghost use Rattle.instruction.specs.Grid.{ruleOf};
 ghost use Rattle.instruction.specs.Pattern.{value};
-use crate::kind::Shape;
+use operand::Shape;
 
 // The form of each first byte: sixteen a row, as in document 01's table.
 const FORM: [u8; 256] = [

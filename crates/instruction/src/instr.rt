@@ -5,11 +5,11 @@ ghost use Prim.Native.Nat.{_<_};
 ghost use Rattle.instruction.specs.Encode.{formIn};
 ghost use Rattle.instruction.specs.Forms.{sizeOf};
 ghost use Rattle.instruction.specs.Grid.{ruleOf};
-ghost use Rattle.instruction.specs.Kinds.{threeOf};
+ghost use Rattle.operand.specs.Kinds.{threeOf};
 ghost use Rattle.instruction.specs.Parts.{partsOf, madeOf};
 use crate::build;
 use crate::form;
-use crate::kind::Kinds;
+use operand::Kinds;
 
 pub enum Instr {
     Add_i8(i32),

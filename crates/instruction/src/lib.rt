@@ -1,29 +1,21 @@
 // The instructions of the LC86K: the 70 forms, decode, encode and the resolving of operands.
 // Ported from src/instruction.rs of wtetzner/waterbear (Apache-2.0, see NOTICE), and changed: an instruction holds numbers alone, the
 // derived functions are a table and fields written out, and every answer is an enum.
-pub mod answer;
 mod build;
 pub mod decode;
 pub mod encode;
 pub mod flow;
 mod form;
 pub mod instr;
-pub mod kind;
 pub mod mnemonic;
 pub mod resolve;
 mod signed;
 
-pub use answer::CutOff;
-pub use answer::Misfit;
-pub use answer::Tops;
 pub use decode::Decoded;
 pub use encode::Encoded;
 pub use encode::Fit;
 pub use flow::Flow;
 pub use instr::Instr;
 pub use instr::Parts;
-pub use kind::Kind;
-pub use kind::Kinds;
-pub use kind::Shape;
 pub use resolve::Resolved;
 pub use resolve::Why;

@@ -4,17 +4,17 @@ ghost use mathlib.Core.Path.{_≡_};
 ghost use mathlib.Core.List.{[], _∷_};
 ghost use Prim.Native.Nat.{_≤_};
 ghost use lib.IntN.{pos};
-ghost use Rattle.instruction.specs.Answer.{refuse, judge};
-ghost use Rattle.instruction.specs.Encode.{unfit};
-ghost use Rattle.instruction.specs.declared.kind.Kind.the-variants.{Page, Short, Long};
+ghost use Rattle.operand.specs.Answer.{refuse, judge};
+ghost use Rattle.operand.specs.Range.{unfit};
+ghost use Rattle.operand.specs.declared.kind.Kind.the-variants.{Page, Short, Long};
 ghost use Rattle.instruction.specs.Resolve.{operandRefusals, fieldOf, operandAnswer, resolvedOf, resolveAnswer};
-use crate::answer::Misfit;
-use crate::answer::Tops;
 use crate::build;
-use crate::encode;
 use crate::instr::Instr;
-use crate::kind::Kind;
 use crate::signed;
+use operand::Kind;
+use operand::Misfit;
+use operand::Tops;
+use operand::range;
 
 // Why an operand is refused.
 pub enum Why {
@@ -45,7 +45,7 @@ enum Field {
 fn plain(n: u8, kind: Kind, z: i32) -> Field
     ensures { λ r. ⌜ operandAnswer r ≡ judge (refuse (unfit kind z) 7 (pos n ∷ z ∷ []) ∷ []) z ⌝ }
 {
-    if encode::is_unfit(kind, z) {
+    if range::is_unfit(kind, z) {
         return Field::Not(Why::Unfit(Misfit::new(n, z)));
     }
     Field::Is(z)
@@ -55,7 +55,7 @@ fn plain(n: u8, kind: Kind, z: i32) -> Field
 fn page(n: u8, z: i32, base: u32) -> Field
     ensures { λ r. ⌜ operandAnswer r ≡ judge (operandRefusals base n Page z) (fieldOf base Page z) ⌝ }
 {
-    if signed::is_outside(0, Instr::HIGHEST_ADDRESS, z) {
+    if range::is_outside(0, Instr::HIGHEST_ADDRESS, z) {
         return Field::Not(Why::Unfit(Misfit::new(n, z)));
     }
     let address = signed::code(z);
@@ -72,11 +72,11 @@ fn short(z: i32, base: u32) -> Field
     requires { ⌜ base ≤ 65536 ⌝ }
     ensures { λ r. ⌜ operandAnswer r ≡ judge (operandRefusals base 0 Short z) (fieldOf base Short z) ⌝ }
 {
-    if signed::is_outside(0, Instr::HIGHEST_ADDRESS, z) {
+    if range::is_outside(0, Instr::HIGHEST_ADDRESS, z) {
         return Field::Not(Why::NoAddress(z));
     }
     let offset = signed::minus(z, base);
-    if signed::is_outside(-128, 127, offset) {
+    if range::is_outside(-128, 127, offset) {
         return Field::Not(Why::TooFar(offset));
     }
     Field::Is(offset)
@@ -87,7 +87,7 @@ fn long(z: i32, base: u32) -> Field
     requires { ⌜ base ≤ 65536 ⌝ }
     ensures { λ r. ⌜ operandAnswer r ≡ judge (operandRefusals base 0 Long z) (fieldOf base Long z) ⌝ }
 {
-    if signed::is_outside(0, Instr::HIGHEST_ADDRESS, z) {
+    if range::is_outside(0, Instr::HIGHEST_ADDRESS, z) {
         return Field::Not(Why::NoAddress(z));
     }
     let address = (signed::code(z) % 65536) as u16;

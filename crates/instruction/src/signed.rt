@@ -4,7 +4,8 @@ ghost use mathlib.Core.Bool.{false};
 ghost use Prim.Native.Nat.{_<_, _≤_};
 ghost use lib.IntN.{pos, _-ℤ_};
 ghost use Rattle.instruction.specs.Decode.{shortOf};
-ghost use Rattle.instruction.specs.Encode.{outside, codeOf};
+ghost use Rattle.instruction.specs.Encode.{codeOf};
+ghost use Rattle.operand.specs.Range.{outside};
 
 // A number that fits sixteen bits, as an operand.
 pub fn num(n: u32) -> i32
@@ -19,16 +20,6 @@ pub fn short(p: u8) -> i32
     ensures { λ r. ⌜ r ≡ shortOf p ⌝ }
 {
     if p < 128 { p as i32 } else { (p as i32) - 256 }
-}
-
-// Whether z is not from low to high.
-pub fn is_outside(low: i32, high: i32, z: i32) -> bool
-    ensures { λ r. ⌜ r ≡ outside low high z ⌝ }
-{
-    if z < low {
-        return true;
-    }
-    high < z
 }
 
 // The number that a field puts into its pattern: 256 more where it is below 0.

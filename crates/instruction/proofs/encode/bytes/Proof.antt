@@ -7,8 +7,8 @@ use borrow.Author.Needs.{needs}
 use lib.ListN.{take}
 use Rattle.instruction.specs.Forms.{formAt, bits, sizeOf}
 use Rattle.instruction.specs.Pattern.{filled}
-use Rattle.instruction.specs.declared.kind.Shape.{Shape}
-use Rattle.instruction.specs.declared.kind.Shape.the-variants.{Bare, Imm, D9, Ri, ImmD9, ImmRi, D9B3, A12, A16, R16, R8, D9B3R8, D9R8, RiR8, ImmR8, RiImmR8}
+use Rattle.operand.specs.declared.kind.Shape.{Shape}
+use Rattle.operand.specs.declared.kind.Shape.the-variants.{Bare, Imm, D9, Ri, ImmD9, ImmRi, D9B3, A12, A16, R16, R8, D9B3R8, D9R8, RiR8, ImmR8, RiImmR8}
 use Rattle.instruction.proofs.Writing.{written, write}
 use Rattle.instruction.proofs.encode.bytes.Statement.{statement}
 use Rattle.instruction.proofs.encode.bytes.Tie as tie

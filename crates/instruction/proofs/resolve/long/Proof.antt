@@ -8,11 +8,11 @@ use borrow.Author.Needs.{needs}
 use lib.IntN.{ℤ, pos}
 use mir.Syntax.{w32}
 use mir.Val.{toZ, ofZ}
-use Rattle.instruction.specs.Answer.{accepted}
+use Rattle.operand.specs.Answer.{accepted}
 use Rattle.instruction.specs.Encode.{codeOf}
 use Rattle.instruction.specs.Resolve.{noAddress}
 use Rattle.instruction.proofs.Resolving.{wraps-is, long-no, long-is}
-use Rattle.instruction.proofs.Sign.{back}
+use Rattle.operand.proofs.Sign.{back}
 use Rattle.instruction.proofs.resolve.long.Statement.{statement}
 use Rattle.instruction.proofs.resolve.long.Tie as tie
 

@@ -6,13 +6,13 @@ use borrow.Author.Needs.{needs}
 use lib.IntN.{ℤ, pos}
 use mir.Syntax.{w32}
 use mir.Val.{toZ, ofZ}
-use Rattle.instruction.specs.Answer.{Answer, accepted, refuse, judge}
-use Rattle.instruction.specs.Encode.{unfit}
+use Rattle.operand.specs.Answer.{Answer, accepted, refuse, judge}
+use Rattle.operand.specs.Range.{unfit}
 use Rattle.instruction.specs.Resolve.{operandRefusals, fieldOf}
-use Rattle.instruction.specs.declared.kind.Kind.{Kind}
-use Rattle.instruction.proofs.Judging.{done}
+use Rattle.operand.specs.declared.kind.Kind.{Kind}
+use Rattle.operand.proofs.Judging.{done}
 use Rattle.instruction.proofs.Resolving.{answerOf}
-use Rattle.instruction.proofs.Sign.{back}
+use Rattle.operand.proofs.Sign.{back}
 use Rattle.instruction.proofs.resolve.operand.Statement.{statement}
 use Rattle.instruction.proofs.resolve.operand.Tie as tie
 

@@ -8,12 +8,12 @@ use borrow.Author.Needs.{needs}
 use lib.IntN.{ℤ, pos, natAbs}
 use mir.Syntax.{w32}
 use mir.Val.{toZ, ofZ}
-use Rattle.instruction.specs.Answer.{Answer, accepted, refused}
+use Rattle.operand.specs.Answer.{Answer, accepted, refused}
 use Rattle.instruction.specs.Resolve.{noAddress, top}
-use Rattle.instruction.specs.declared.answer.Tops.{Tops}
+use Rattle.operand.specs.declared.answer.Tops.{Tops}
 use Rattle.instruction.proofs.Named.{named}
 use Rattle.instruction.proofs.Resolving.{address-is, page-no, page-other, page-is}
-use Rattle.instruction.proofs.Sign.{back}
+use Rattle.operand.proofs.Sign.{back}
 use Rattle.instruction.proofs.resolve.page.Statement.{statement}
 use Rattle.instruction.proofs.resolve.page.Tie as tie
 

@@ -2,10 +2,10 @@
 -- Assumes nothing.
 use mathlib.Core.Path.{_≡_, sym, _∙_}
 use borrow.Author.Needs.{needs}
-use Rattle.instruction.specs.Encode.{unfit}
+use Rattle.operand.specs.Range.{unfit}
 use Rattle.instruction.proofs.Named.{named}
 use Rattle.instruction.proofs.Resolving.{plain-no, plain-is}
-use Rattle.instruction.proofs.Sign.{back}
+use Rattle.operand.proofs.Sign.{back}
 use Rattle.instruction.proofs.resolve.plain.Statement.{statement}
 use Rattle.instruction.proofs.resolve.plain.Tie as tie
 

@@ -7,11 +7,11 @@ use borrow.Author.Needs.{needs}
 use lib.IntN.{ℤ, pos, negsuc, _-ℤ_}
 use mir.Syntax.{w32}
 use mir.Val.{toZ, ofZ}
-use Rattle.instruction.specs.Answer.{Answer, accepted, refused}
-use Rattle.instruction.specs.Encode.{outside}
+use Rattle.operand.specs.Answer.{Answer, accepted, refused}
+use Rattle.operand.specs.Range.{outside}
 use Rattle.instruction.specs.Resolve.{noAddress}
 use Rattle.instruction.proofs.Resolving.{short-no, short-far, short-is}
-use Rattle.instruction.proofs.Sign.{back}
+use Rattle.operand.proofs.Sign.{back}
 use Rattle.instruction.proofs.resolve.short.Statement.{statement}
 use Rattle.instruction.proofs.resolve.short.Tie as tie
 

@@ -10,7 +10,8 @@ use mir.Facts.{toZ-ofZ}
 use mir.Syntax.{w32}
 use mir.Val.{toZ, ofZ, SFits}
 use Rattle.instruction.specs.Encode.{codeOf}
-use Rattle.instruction.proofs.Sign.{back, code-far, code-near, code-le, code-pos, cast-pos}
+use Rattle.instruction.proofs.Sign.{code-far, code-near, code-le, code-pos, cast-pos}
+use Rattle.operand.proofs.Sign.{back}
 use Rattle.instruction.proofs.signed.code.Statement.{statement}
 use Rattle.instruction.proofs.signed.code.Tie as tie
 

@@ -8,7 +8,8 @@ use borrow.Author.Needs.{needs}
 use mir.Facts.{toZ-ofZ, toZ-pos}
 use mir.Syntax.{w32}
 use mir.Val.{toZ, ofZ, SFits}
-use Rattle.instruction.proofs.Sign.{back, Natural, natural, diff-fits}
+use Rattle.instruction.proofs.Sign.{diff-fits}
+use Rattle.operand.proofs.Sign.{back, Natural, natural}
 use Rattle.instruction.proofs.signed.minus.Statement.{statement}
 use Rattle.instruction.proofs.signed.minus.Tie as tie
 

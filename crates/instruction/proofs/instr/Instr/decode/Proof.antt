@@ -8,7 +8,7 @@ use lib.IntN.{ℤ, pos}
 use lib.ListN.{getD}
 use mir.Syntax.{w32}
 use mir.Val.{toZ, ofZ}
-use Rattle.instruction.specs.Answer.{refused}
+use Rattle.operand.specs.Answer.{refused}
 use Rattle.instruction.specs.Decode.{fieldsIn}
 use Rattle.instruction.specs.Forms.{formOf}
 use Rattle.instruction.specs.Grid.{ruleOf}

@@ -9,7 +9,7 @@ use lib.IntN.{ℤ, pos}
 use lib.ListN.{length, take, drop}
 use mir.Syntax.{w32}
 use mir.Val.{toZ, ofZ}
-use Rattle.instruction.specs.Answer.{Answer, accepted, refused}
+use Rattle.operand.specs.Answer.{Answer, accepted, refused}
 use Rattle.instruction.specs.Encode.{codeOf, fitAnswer, fitOf, misfitValues, bytesIn, formIn, encodeAnswer, encodeRoom}
 use Rattle.instruction.specs.Forms.{formAt, bits, sizeOf}
 use Rattle.instruction.specs.Parts.{partsOf}

@@ -7,15 +7,15 @@ use borrow.Author.Needs.{needs}
 use lib.IntN.{ℤ, pos}
 use mir.Syntax.{w32}
 use mir.Val.{toZ, ofZ}
-use Rattle.instruction.specs.Answer.{Answer, accepted}
+use Rattle.operand.specs.Answer.{Answer, accepted}
 use Rattle.instruction.specs.Encode.{formIn}
-use Rattle.instruction.specs.Kinds.{kindAt}
+use Rattle.operand.specs.Kinds.{kindAt}
 use Rattle.instruction.specs.Parts.{partsOf, madeOf}
 use Rattle.instruction.specs.Resolve.{operandAnswer, whyOf}
 use Rattle.instruction.specs.declared.instr.Instr.{Instr}
 use Rattle.instruction.specs.declared.instr.Parts.{Parts}
-use Rattle.instruction.specs.declared.kind.Kind.{Kind}
-use Rattle.instruction.specs.declared.kind.Kinds.{Kinds}
+use Rattle.operand.specs.declared.kind.Kind.{Kind}
+use Rattle.operand.specs.declared.kind.Kinds.{Kinds}
 use Rattle.instruction.proofs.Known.{form-small}
 use Rattle.instruction.proofs.Reading.{make4}
 use Rattle.instruction.proofs.Resolved.{far, no1, no2, no3, yes}

@@ -2,9 +2,9 @@
 -- Assumes nothing.
 use mathlib.Core.Path.{ap, sym, _∙_}
 use borrow.Author.Needs.{needs}
-use Rattle.instruction.specs.Kinds.{kindsOf, threeOf}
-use Rattle.instruction.proofs.kind.Shape.kinds.Statement.{statement}
-use Rattle.instruction.proofs.kind.Shape.kinds.Tie as tie
+use Rattle.operand.specs.Kinds.{kindsOf, threeOf}
+use Rattle.operand.proofs.kind.Shape.kinds.Statement.{statement}
+use Rattle.operand.proofs.kind.Shape.kinds.Tie as tie
 
 pub kinds-spec : {M : Type 1} → statement M
 unfolding kindsOf

@@ -1,14 +1,14 @@
--- `encode::is_unfit` meets its contract.
+-- `range::is_unfit` meets its contract.
 -- Assumes nothing.
 use mathlib.Core.Path.{_≡_, ap, sym, _∙_}
 use borrow.Author.Needs.{needs}
 use mir.Syntax.{w32}
 use mir.Val.{toZ, ofZ}
-use Rattle.instruction.specs.Encode.{unfit}
-use Rattle.instruction.specs.declared.kind.Kind.{Kind}
-use Rattle.instruction.proofs.Sign.{back}
-use Rattle.instruction.proofs.encode.is_unfit.Statement.{statement}
-use Rattle.instruction.proofs.encode.is_unfit.Tie as tie
+use Rattle.operand.specs.Range.{unfit}
+use Rattle.operand.specs.declared.kind.Kind.{Kind}
+use Rattle.operand.proofs.Sign.{back}
+use Rattle.operand.proofs.range.is_unfit.Statement.{statement}
+use Rattle.operand.proofs.range.is_unfit.Tie as tie
 
 read : (c : tie.Start) {k : Kind} → c .args .kind ≡ k → unfit k (toZ w32 (ofZ w32 (c .args .z))) ≡ unfit (c .args .kind) (c .args .z)
 read c e = rw (back (c .fits .z)) (ap (λ (k : Kind). unfit k (c .args .z)) (sym e))

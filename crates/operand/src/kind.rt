@@ -1,6 +1,6 @@
 // Operands: the kind of each, and the 16 combinations of kinds that the forms have.
 ghost use mathlib.Core.Path.{_≡_};
-ghost use Rattle.instruction.specs.Kinds.{threeOf};
+ghost use Rattle.operand.specs.Kinds.{threeOf};
 
 // What an operand is, and so which numbers fit it and how it is resolved.
 pub enum Kind {

@@ -1,8 +1,8 @@
--- `signed::is_outside` meets its contract.
+-- `range::is_outside` meets its contract.
 -- Assumes nothing.
-use Rattle.instruction.proofs.Sign.{back, below, not-below}
-use Rattle.instruction.proofs.signed.is_outside.Statement.{statement}
-use Rattle.instruction.proofs.signed.is_outside.Tie as tie
+use Rattle.operand.proofs.Sign.{back, below, not-below}
+use Rattle.operand.proofs.range.is_outside.Statement.{statement}
+use Rattle.operand.proofs.range.is_outside.Tie as tie
 
 returns : tie.Need-returns
 returns c =
