@@ -68,14 +68,14 @@ fn page(n: u8, z: i32, base: u32) -> Field
 }
 
 // The address of a short branch, as a signed offset from the base.
-fn short(z: i32, base: u32) -> Field
+fn short(address: i32, base: u32) -> Field
     requires { ⌜ base ≤ 65536 ⌝ }
-    ensures { λ r. ⌜ operandAnswer r ≡ judge (operandRefusals base 0 Short z) (fieldOf base Short z) ⌝ }
+    ensures { λ r. ⌜ operandAnswer r ≡ judge (operandRefusals base 0 Short address) (fieldOf base Short address) ⌝ }
 {
-    if range::is_outside(0, Instr::HIGHEST_ADDRESS, z) {
-        return Field::Not(Why::NoAddress(z));
+    if range::is_outside(0, Instr::HIGHEST_ADDRESS, address) {
+        return Field::Not(Why::NoAddress(address));
     }
-    let offset = signed::minus(z, base);
+    let offset = signed::minus(address, base);
     if range::is_outside(-128, 127, offset) {
         return Field::Not(Why::TooFar(offset));
     }

@@ -1,0 +1,71 @@
+//! The original's private tracing functions, made callable. Each function here calls one of them and
+//! sorts what comes out of a hash table; what they answer is not judged here.
+
+use super::*;
+use crate::budget::{self, Ended};
+
+/// What `build_instruction_graph` answers where it finds a whole instruction at each position.
+pub struct Graph(InstructionGraph<i32, u8>);
+
+/// The position and first byte of an instruction that the image's end cuts off.
+#[derive(Debug, PartialEq)]
+pub struct CutOff(pub usize, pub u8);
+
+/// Traces from the entries, giving up after `visits` positions taken up, repeats counted.
+pub fn trace(entries: &[usize], image: &[u8], visits: u64) -> Ended<Result<Graph, CutOff>> {
+    budget::within(visits, || match build_instruction_graph(entries, image) {
+        Ok(graph) => Ok(Graph(graph)),
+        Err(DisasmError::NoInstruction(position, first)) => Err(CutOff(position, first)),
+        Err(_) => unreachable!("the other errors are about files"),
+    })
+}
+
+impl Graph {
+    /// The traced positions, ascending.
+    pub fn positions(&self) -> Vec<usize> {
+        sorted(self.0.instrs().keys())
+    }
+
+    pub fn instruction(&self, position: usize) -> Option<&Instr<i32, u8>> {
+        self.0.instrs().get(&position)
+    }
+
+    pub fn mask(&self, image: &[u8]) -> Vec<bool> {
+        build_byte_mask(image, &self.0)
+    }
+
+    /// The positions that get a label, ascending, those outside the image too.
+    pub fn labels(&self) -> Vec<usize> {
+        sorted(build_names(&self.0).labels.keys())
+    }
+
+    pub fn overlaps(&self, position: usize) -> Vec<usize> {
+        self.0.find_overlaps(position)
+    }
+
+    /// The positions from which this one is reached, ascending.
+    pub fn arrivals(&self, position: usize) -> Vec<usize> {
+        self.0.jump_from.get(&position).map_or(vec![], sorted)
+    }
+
+    /// The targets that a position had on any of its visits, ascending.
+    pub fn jumps(&self, position: usize) -> Vec<usize> {
+        self.0.jump_to.get(&position).map_or(vec![], sorted)
+    }
+}
+
+/// The targets of an instruction when nothing is traced yet.
+pub fn targets_alone(position: usize, instruction: &Instr<i32, u8>) -> Vec<usize> {
+    targets(position, instruction, &InstructionGraph::<i32, u8>::new())
+}
+
+/// The data that the original would print at a position.
+pub fn data_run<'a>(image: &'a [u8], mask: &[bool], position: usize, most: usize) -> &'a [u8] {
+    read_chunk(byte_range(image, mask, position), most)
+}
+
+fn sorted<'a>(positions: impl IntoIterator<Item = &'a usize>) -> Vec<usize> {
+    let mut list: Vec<usize> = positions.into_iter().copied().collect();
+    list.sort_unstable();
+    list
+}

@@ -1,0 +1,58 @@
+//! Prints answers of the original, one case a line, for a program of the repository to replay.
+//!
+//! A line is a letter for the call and eleven fields: five inputs, the number of the answer and its
+//! five values. A field is a space, a sign and ten hexadecimal digits, so all lines are of one length.
+//!
+//! - `D`: the number of bytes, three bytes (0 past that number), 0.
+//! - `E`: a first byte that names the form, three fields, the length of the room. The values are the
+//!   number of bytes written, then three bytes (0 past that number) as they stand in the room, then 0.
+//! - `R`: a first byte that names the form, three operands, the base.
+//!
+//! The cases are those that the original answers: no register out of range, no field that encode is to
+//! refuse, no room too short, no base above 65,536.
+
+#[path = "vectors/decoded.rs"]
+mod decoded;
+#[path = "vectors/encoded.rs"]
+mod encoded;
+#[path = "vectors/resolved.rs"]
+mod resolved;
+
+use compare::answer::Answer;
+use compare::paper;
+use std::collections::HashSet;
+use std::fmt::Write;
+
+/// The lines, in the order of the calls and without repeats.
+#[derive(Default)]
+struct Lines {
+    text: String,
+    seen: HashSet<String>,
+}
+
+impl Lines {
+    fn case(&mut self, call: char, inputs: [i64; 5], answer: Answer) {
+        let mut line = String::from(call);
+        let number = [i64::from(answer.number)];
+        for field in [&inputs[..], &number, &answer.values].concat() {
+            let sign = if field < 0 { '-' } else { '+' };
+            write!(line, " {sign}{:010X}", field.abs()).expect("a string takes any text");
+        }
+        assert!(line.len() == 133, "a field of more than ten digits");
+        line.push('\n');
+        if self.seen.insert(line.clone()) {
+            self.text += &line;
+        }
+    }
+}
+
+fn main() {
+    paper::check_widths();
+    let mut lines = Lines::default();
+    decoded::cases(&mut lines);
+    encoded::cases(&mut lines);
+    resolved::cases(&mut lines);
+    print!("{}", lines.text);
+    let count = lines.seen.len();
+    eprintln!("{count} answers of the original, made by 'compare/run --vectors SRC'");
+}

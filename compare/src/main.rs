@@ -1,0 +1,35 @@
+//! Compares our archive with the original: `compare [SEED]`. The last line says how many calls were
+//! compared and how many differ; the exit status is 1 if any does.
+
+mod decode;
+mod encode;
+mod ours;
+mod resolve;
+mod room;
+mod tally;
+
+use compare::paper;
+use compare::random::Random;
+use std::process::ExitCode;
+
+fn main() -> ExitCode {
+    let seed: u64 = match std::env::args().nth(1).map(|word| word.parse()) {
+        None => 1,
+        Some(Ok(seed)) => seed,
+        Some(Err(_)) => {
+            eprintln!("compare: the seed is a number from 0 to 2^64 - 1");
+            return ExitCode::from(2);
+        }
+    };
+    println!("seed {seed}");
+    paper::check_widths();
+    let mut random = Random(seed);
+    let mut tally = tally::Tally::new();
+    decode::compare(&mut tally, &mut random);
+    encode::compare(&mut tally, &mut random);
+    resolve::compare(&mut tally, &mut random);
+    match tally.report() {
+        true => ExitCode::SUCCESS,
+        false => ExitCode::FAILURE,
+    }
+}
