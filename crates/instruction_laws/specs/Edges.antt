@@ -1,0 +1,19 @@
+-- Document 01, 'Both sides of each edge': those of decode, 1 to 5 and 11.
+-- Assumes nothing.
+use mathlib.Core.List.{[], _∷_}
+use mathlib.Core.Path.{_≡_}
+use lib.IntN.{pos, negsuc}
+use Rattle.operand.specs.Answer.{accepted, refused}
+use Rattle.instruction.specs.Decode.{decodeAnswer}
+use Rattle.instruction.specs.declared.instr.Instr.the-variants.{Not1, Br, «Mov_d9», Call, Jmpf}
+
+abbrev pub Edges : Type 0
+Edges =
+    (decodeAnswer (0xB8 ∷ 0x0D ∷ []) ≡ accepted (Not1 (pos 0x10D) (pos 0)))
+    × (decodeAnswer (0x01 ∷ 0x7F ∷ []) ≡ accepted (Br (pos 127)))
+    × (decodeAnswer (0x01 ∷ 0x80 ∷ []) ≡ accepted (Br (negsuc 127)))
+    × (decodeAnswer (0x23 ∷ 0x00 ∷ 0x55 ∷ []) ≡ accepted («Mov_d9» (pos 0x55) (pos 0x100)))
+    × (decodeAnswer (0x1F ∷ 0x34 ∷ []) ≡ accepted (Call (pos 0xF34)))
+    × (decodeAnswer (0x21 ∷ 0x12 ∷ 0x34 ∷ []) ≡ accepted (Jmpf (pos 0x1234)))
+    × (decodeAnswer [] ≡ refused 12 (pos 0 ∷ []))
+    × (decodeAnswer (0x68 ∷ 0x00 ∷ []) ≡ refused 5 (pos 0 ∷ pos 0x68 ∷ []))

@@ -1,0 +1,16 @@
+pub mod Mark
+pub mod Note
+pub mod Tracer
+pub mod Takes
+pub mod Reach
+pub mod Run
+pub mod Queue
+pub mod Pins
+pub mod ClaimsTests
+pub mod ClaimsBetween
+pub mod ClaimsOrder
+pub mod ClaimsTakes
+pub mod ClaimsRun
+pub mod ClaimsCut
+pub mod ClaimsJoin
+pub mod ClaimsPins

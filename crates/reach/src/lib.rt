@@ -1,0 +1,1 @@
+// The theory of tracing: definitions in specs/, theorems in proofs/, no code.
