@@ -16,6 +16,10 @@ pub mod FormReads
 pub mod Fitting
 pub mod EncodedBytes
 pub mod EncodeDecoded
+pub mod OwnForm
 pub mod DecodeEncoded
+pub mod ResolvedFits
 pub mod Edges
+pub mod Undone
+pub mod ResolvedApart
 pub mod Apart

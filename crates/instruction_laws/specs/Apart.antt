@@ -4,8 +4,10 @@
 use Rattle.operand.specs.Answer.{Apart}
 use Rattle.instruction.specs.Decode.{decodedOf}
 use Rattle.instruction.specs.Encode.{encodedOf, fitOf}
+use Rattle.instruction.specs.Resolve.{resolvedOf}
 
 pub record AnswersApart : Type 0 where
   pub decode : Apart decodedOf
   pub fit : Apart fitOf
   pub encode : Apart encodedOf
+  pub resolve : Apart resolvedOf

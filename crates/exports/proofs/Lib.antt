@@ -1,0 +1,5 @@
+pub mod Wider
+pub mod Told
+pub mod Named
+pub mod Carried
+pub mod Sizes

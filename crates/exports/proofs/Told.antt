@@ -1,0 +1,39 @@
+-- Replies whose numbers are the machine's, where the definitions have ℤ.
+-- Assumes nothing.
+use mathlib.Core.Path.{_≡_, _∙_, ap}
+use mathlib.Core.List.{List, [], _∷_}
+use Prim.Native.Nat.{ℕ}
+use lib.IntN.{ℤ}
+use mir.Syntax.{w32, w64}
+use mir.Val.{toZ, ofZ}
+use Rattle.operand.specs.Answer.{Answer}
+use Rattle.exports.specs.Reply.{reply, replyOf, numberOf, valuesOf}
+use Rattle.exports.specs.declared.reply.Reply.{Reply}
+
+-- a number of the machine, and a value of a reply, is read back
+abbrev pub Read : ℤ → Type 0
+Read z = toZ w32 (ofZ w32 z) ≡ z
+
+abbrev pub ReadValue : ℤ → Type 0
+ReadValue z = toZ w64 (ofZ w64 z) ≡ z
+
+-- a reply of values that equal those of the definition
+module _ {r : Reply} {n : ℕ} where
+  pub told1 : {a a′ : ℤ} → r ≡ reply n (a ∷ []) → a ≡ a′ → r ≡ reply n (a′ ∷ [])
+  told1 e p = rw (← p) e
+
+  pub told2 : {a a′ b b′ : ℤ} → r ≡ reply n (a ∷ b ∷ []) → a ≡ a′ → b ≡ b′ → r ≡ reply n (a′ ∷ b′ ∷ [])
+  told2 e p q = rw (← p, ← q) e
+
+  pub told5 : {a a′ b b′ c c′ d d′ f f′ : ℤ} → r ≡ reply n (a ∷ b ∷ c ∷ d ∷ f ∷ []) → a ≡ a′ → b ≡ b′ → c ≡ c′ → d ≡ d′ → f ≡ f′ → r ≡ reply n (a′ ∷ b′ ∷ c′ ∷ d′ ∷ f′ ∷ [])
+  told5 e p q s t u = rw (← p, ← q, ← s, ← t, ← u) e
+
+-- the reply to the case that an arm of a match has is the reply to the whole enum
+pub by-case : {R A : Type 0} (own : A → List ℤ) (answerOf : R → Answer A) {x k : R} {r : Reply} → x ≡ k → r ≡ replyOf own (answerOf k) → r ≡ replyOf own (answerOf x)
+by-case own answerOf e f = rw e f
+
+-- what the caller gets of a reply: the number and the values of the answer
+pub given : {A : Type 0} (own : A → List ℤ) {r : Reply} {x y : Answer A} {n : ℕ} {vs : List ℤ} → r ≡ replyOf own x → x ≡ y → n ≡ r .number → vs ≡ r .values → (n ≡ numberOf y) × (vs ≡ valuesOf own y)
+given own e f p q =
+    let g = e ∙ ap (replyOf own) f in
+    (p ∙ ap (λ (u : Reply). u .number) g, q ∙ ap (λ (u : Reply). u .values) g)

@@ -1,0 +1,29 @@
+-- `answer::decoded` meets its contract, case by case.
+-- Assumes nothing.
+use mathlib.Core.Path.{_∙_}
+use borrow.Author.Needs.{needs}
+use Rattle.instruction.specs.Decode.{decodedOf}
+use Rattle.exports.specs.Codec.{instrValues}
+use Rattle.exports.proofs.Told.{by-case, ReadValue, told2}
+use Rattle.exports.proofs.answer.decoded.Statement.{statement}
+use Rattle.exports.proofs.answer.decoded.Tie as tie
+
+returns : tie.Need-returns
+returns c = by-case instrValues decodedOf (c .before .before .d .given .1) (c .instr .ensures)
+
+returns-2 : tie.Need-returns-2
+returns-2 c = by-case instrValues decodedOf (c .before .enum-told .given .1) (c .one .ensures)
+
+returns-3 : tie.Need-returns-3
+returns-3 c =
+    let b = c .before in
+    let n = b .before in
+    let x : ReadValue (n .number .result) = search needs in
+    let y : ReadValue (b .byte .result) = search needs in
+    by-case instrValues decodedOf (n .before .before .d2 .given .1) (told2 (c .two .ensures) (x ∙ n .number .ensures) (y ∙ b .byte .ensures))
+
+pub decoded-spec : {M : Type 1} → statement M
+decoded-spec =
+    tie.close
+    (tie.spec (λ c. search needs) (λ c κs. search needs) (λ c. search needs) (λ c κs. search needs) (λ c. search needs)
+    (λ c κs. search needs) (λ c κs. search needs) (λ c κs. search needs) returns returns-2 returns-3)
