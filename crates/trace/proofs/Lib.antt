@@ -1,0 +1,14 @@
+pub mod ReadBack
+pub mod InRange
+pub mod ShortSum
+pub mod LastOperand
+pub mod AskedAlone
+pub mod ClaimsTargetsApart
+pub mod AddressBack
+pub mod ResolvedAddress
+pub mod ClaimsTargetsUndo
+pub mod OneNoted
+pub mod Jmpf
+pub mod HereIs
+pub mod TakeUp
+pub mod Starting

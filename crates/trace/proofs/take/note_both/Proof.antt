@@ -1,0 +1,54 @@
+-- `take::note_both` meets its contract: the first position, then the second.
+-- Assumes nothing.
+use native.Mathlib.Omega.{arith}
+use borrow.Author.Needs.{needs}
+use Rattle.trace.proofs.OneNoted.{one-fresh, none-fresh, marks-two, fresh-two}
+use Rattle.trace.proofs.take.note_both.Statement.{statement}
+use Rattle.trace.proofs.take.note_both.Tie as tie
+
+note-one-requires-2 : tie.Need-note-one-requires-2
+note-one-requires-2 c κs =
+    let o = c .before .before .before .before in omega (arith, o .note-one .kept .0, o .before .before .before .pre)
+
+returns : tie.Need-returns
+returns c =
+    let u = c .before .before .before in
+    let f = u .before .before in
+    let o = f .before .before .before in
+    let a = o .before .before .before .args in
+    let e = o .note-one .ensures .1 in (
+      fresh-two (a .n) (a .marks .now) _ (a .s) (a .t) e _ _ (one-fresh (a .n) (a .marks .now) (a .s) (o .note-one .result) (o .note-one .ensures .0) (f .if1 .taken)) (one-fresh (a .n) _ (a .t) (u .note-one2 .result) (u .note-one2 .ensures .0) (c .if2 .taken)),
+      marks-two (a .n) (a .marks .now) _ (a .s) (a .t) e _ (u .note-one2 .ensures .1),
+    )
+
+returns-2 : tie.Need-returns-2
+returns-2 c =
+    let u = c .before .before .before in
+    let f = u .before .before in
+    let o = f .before .before .before in
+    let a = o .before .before .before .args in
+    let e = o .note-one .ensures .1 in (
+      fresh-two (a .n) (a .marks .now) _ (a .s) (a .t) e _ _ (one-fresh (a .n) (a .marks .now) (a .s) (o .note-one .result) (o .note-one .ensures .0) (f .if1 .taken)) (none-fresh (a .n) _ (a .t) (u .note-one2 .result) (u .note-one2 .ensures .0) (c .if2 .left)),
+      marks-two (a .n) (a .marks .now) _ (a .s) (a .t) e _ (u .note-one2 .ensures .1),
+    )
+
+note-place-requires : tie.Need-note-place-requires
+note-place-requires c κs =
+    let o = c .before .before .before .before in omega (arith, o .note-one .kept .0, o .before .before .before .pre)
+
+returns-3 : tie.Need-returns-3
+returns-3 c =
+    let u = c .before .before in
+    let f = u .before .before in
+    let o = f .before .before .before in
+    let a = o .before .before .before .args in
+    let e = o .note-one .ensures .1 in (
+      fresh-two (a .n) (a .marks .now) _ (a .s) (a .t) e _ _ (none-fresh (a .n) (a .marks .now) (a .s) (o .note-one .result) (o .note-one .ensures .0) (f .if1 .left)) (u .note-place .ensures .0),
+      marks-two (a .n) (a .marks .now) _ (a .s) (a .t) e _ (u .note-place .ensures .1),
+    )
+
+pub note-both-spec : {M : Type 1} → statement M
+note-both-spec =
+    tie.close
+    (tie.spec (λ c κs. search needs) note-one-requires-2 (λ c. search needs) returns (λ c. search needs) returns-2 note-place-requires
+    (λ c. search needs) returns-3)

@@ -1,0 +1,6 @@
+pub mod Targets
+pub mod ClaimsTargets
+pub mod Tracer
+pub mod Here
+pub mod Taken
+pub mod Start

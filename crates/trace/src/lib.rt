@@ -1,0 +1,17 @@
+// Tracing: from entries to the positions that control reaches, one mark a position.
+// Ported from src/disasm.rs of wtetzner/waterbear (Apache-2.0, see NOTICE), and changed: the marks take the place of the graph's map of
+// instructions, and a lent list that of its worklist.
+pub mod alone;
+pub mod here;
+pub mod mark;
+mod note;
+pub mod start;
+mod take;
+mod target;
+
+pub use alone::targets;
+pub use here::Here;
+pub use mark::Image;
+pub use mark::Mark;
+pub use start::Started;
+pub use target::Targets;

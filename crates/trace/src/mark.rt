@@ -1,0 +1,38 @@
+// Marks, one byte for each position, and the limit of an image.
+ghost use mathlib.Core.Path.{_≡_};
+
+pub struct Mark {
+    pub value: u8,
+}
+
+impl Mark {
+    pub const UNTOUCHED: u8 = 0;
+
+    pub const WAITING: u8 = 1;
+
+    pub const TRACED: u8 = 2;
+    // A traced Jmpf under the exception.
+    pub const FLASH: u8 = 3;
+
+    pub const HIGHEST: u8 = 3;
+
+    pub fn new(value: u8) -> Self
+        ensures { λ r. ⌜ r .value ≡ value ⌝ }
+    {
+        Self { value }
+    }
+}
+
+pub struct Image {
+    pub length: usize,
+}
+
+impl Image {
+    pub const LIMIT: usize = 65_536;
+
+    pub fn new(length: usize) -> Self
+        ensures { λ r. ⌜ r .length ≡ length ⌝ }
+    {
+        Self { length }
+    }
+}
