@@ -12,9 +12,9 @@ use crate::wide;
 use instruction::Decoded;
 use instruction::Encoded;
 use instruction::Instr;
-use operand::Misfit;
 use instruction::Resolved;
 use instruction::Why;
+use operand::Misfit;
 
 fn instr(i: Instr) -> Reply
     ensures { λ r. ⌜ r ≡ reply 0 (instrValues i) ⌝ }
