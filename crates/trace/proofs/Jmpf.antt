@@ -1,13 +1,16 @@
 -- Jmpf's first byte is 21, and no other byte is a first byte of Jmpf: one test at each byte, which antt computes.
 -- Assumes nothing.
-use mathlib.Core.Path.{_≡_, refl, _∙_}
-use mathlib.Core.Bool.{Bool, true, false}
-use Prim.Native.Nat.{ℕ, _<_}
-use lib.Dec.{T, eqb}
-use borrow.Author.Tests.{eq-eqb, ne-eqb}
+use mathlib.Core.Path.{_≡_, refl, sym, _∙_}
+use mathlib.Core.Bool.{Bool, true, false, _&&_}
+use mathlib.Core.List.{List}
+use Prim.Native.Nat.{ℕ, _<_, _≤_}
+use lib.Dec.{T, eqb, leb}
+use borrow.Author.Tests.{eq-eqb, ne-eqb, leb-true}
+use Rattle.operand.proofs.Sign.{never}
 use Rattle.instruction.specs.Forms.{forms, formOf, numberOf}
 use Rattle.instruction.specs.Pattern.{pattern, bytesOf, onto, given, next}
 use Rattle.instruction.proofs.Every.{holds}
+use Rattle.trace.specs.Tracer.{flashHere}
 
 same : Bool → Bool → Bool
 same true b = b
@@ -30,3 +33,12 @@ jmpf-is x h e = jmpf-by-byte x h ∙ eq-eqb x 0x21 e
 
 pub jmpf-not : (x : ℕ) → x < 256 → (x ≡ 0x21 → ⊥) → eqb (formOf x) (numberOf "Jmpf") ≡ false
 jmpf-not x h e = jmpf-by-byte x h ∙ ne-eqb x 0x21 e
+
+-- a Jmpf after B8 0D has two bytes before it
+first-part : (a b : Bool) → (a && b) ≡ true → a ≡ true
+first-part true b e = refl
+first-part false b e = absurd (never (sym e))
+
+pub two-before : (image : List ℕ) (p : ℕ) → flashHere image p ≡ true → 2 ≤ p
+unfolding flashHere
+two-before image p e = leb-true 2 p (first-part (leb 2 p) _ e)

@@ -11,4 +11,8 @@ pub mod OneNoted
 pub mod Jmpf
 pub mod HereIs
 pub mod TakeUp
+pub mod Damages
+pub mod Stepping
+pub mod StepAnswers
 pub mod Starting
+pub mod ClaimsStepsApart

@@ -22,10 +22,10 @@ use Rattle.instruction_laws.proofs.Matching.{one-pattern}
 use Rattle.instruction_laws.proofs.PartsMade.{parted}
 use Rattle.reach.specs.Note.{note, fresh}
 use Rattle.reach.proofs.Exempt.{mark-plain, took-plain, found-plain, mark-exempt, took-exempt, found-exempt}
-use Rattle.trace.specs.Taken.{TakenUp, notedOf, placesOf}
+use Rattle.trace.specs.Taken.{TakenUp, placesIn, placesOf}
 use Rattle.trace.specs.Targets.{targetsIn, targetsOf}
 use Rattle.trace.specs.Tracer.{formHere, sizeHere, fitsHere, instrHere, exemptHere, waysHere, placeOf, tracerOf}
-use Rattle.trace.specs.declared.take.Noted.the-variants.{Nothing}
+use Rattle.trace.specs.declared.take.Places.the-variants.{Nothing}
 use Rattle.trace.specs.declared.take.Taken.{Taken}
 use Rattle.trace.specs.declared.target.Targets.{Targets}
 use Rattle.trace.specs.declared.target.Targets.the-variants.{Nowhere, One, Two, PastEnd, Unfit}
@@ -70,6 +70,11 @@ places-are (Two a b) ts e = let f : a ∷ b ∷ [] ≡ ts = cc in ap (map placeO
 places-are (PastEnd n) ts e = let z : _≡_ {A = ℕ} 0 1 = cc in absurd (omega arith)
 places-are (Unfit m) ts e = let z : _≡_ {A = ℕ} 0 1 = cc in absurd (omega arith)
 
+-- and the targets at the instruction's end are those of the position
+pub ways-are : (image : List ℕ) (p : ℕ) (i : Instr) → i ≡ instrHere image p → (n : ℕ) → n ≡ p + sizeHere image p → (w : Targets) → targetsOf w ≡ accepted (targetsIn n i) → placesOf w ≡ waysHere image p
+unfolding waysHere
+ways-are image p i f n g w t = rw (← f, ← g) (places-are w (targetsIn n i) t)
+
 module _ (image m : List ℕ) (p : ℕ) where
   pub under : exemptHere image m p ≡ true → TakenUp image m p (record { mark = 3; noted = Nothing }) (set m p 3)
   under e =
@@ -79,10 +84,8 @@ module _ (image m : List ℕ) (p : ℕ) where
         marks-are = sym (took-exempt (tracerOf image) m p e);
       }
 
-  pub plainly : exemptHere image m p ≡ false → (i : Instr) → i ≡ instrHere image p → (n : ℕ) → n ≡ p + sizeHere image p → (w : Targets) → targetsOf w ≡ accepted (targetsIn n i) → (r : Taken) (m′ : List ℕ) → r .mark ≡ 2 → (notedOf (r .noted) ≡ fresh (length image) (placesOf w) (set m p 2)) × (m′ ≡ note (length image) (placesOf w) (set m p 2)) → TakenUp image m p r m′
-  unfolding waysHere
-  plainly e i f n g w t r m′ k q =
-      let v : placesOf w ≡ waysHere image p = rw (← f, ← g) (places-are w (targetsIn n i) t) in
+  pub plainly : exemptHere image m p ≡ false → (ws : List ℕ) → ws ≡ waysHere image p → (r : Taken) (m′ : List ℕ) → r .mark ≡ 2 → (placesIn (r .noted) ≡ fresh (length image) ws (set m p 2)) × (m′ ≡ note (length image) ws (set m p 2)) → TakenUp image m p r m′
+  plainly e ws v r m′ k q =
       record {
         mark-is = k ∙ sym (mark-plain (tracerOf image) m p e);
         noted-are = q .0 ∙ ap (λ (ts : List ℕ). fresh (length image) ts (set m p 2)) v ∙ sym (found-plain (tracerOf image) m p e);

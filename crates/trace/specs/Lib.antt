@@ -4,3 +4,5 @@ pub mod Tracer
 pub mod Here
 pub mod Taken
 pub mod Start
+pub mod Step
+pub mod ClaimsSteps

@@ -2,10 +2,12 @@
 // Ported from src/disasm.rs of wtetzner/waterbear (Apache-2.0, see NOTICE), and changed: the marks take the place of the graph's map of
 // instructions, and a lent list that of its worklist.
 pub mod alone;
+mod damage;
 pub mod here;
 pub mod mark;
 mod note;
 pub mod start;
+pub mod step;
 mod take;
 mod target;
 
@@ -14,4 +16,6 @@ pub use here::Here;
 pub use mark::Image;
 pub use mark::Mark;
 pub use start::Started;
+pub use step::Advance;
+pub use step::Stepped;
 pub use target::Targets;

@@ -6,16 +6,16 @@ ghost use lib.ListN.{length};
 ghost use Rattle.reach.specs.Note.{note, fresh};
 ghost use mathlib.Core.List.{[], _∷_};
 ghost use Rattle.reach.specs.Mark.{tracedMark};
-ghost use Rattle.trace.specs.Taken.{notedOf, placesOf, TakenUp};
-ghost use Rattle.trace.specs.Tracer.{tracerOf, fitsHere, instrHere, flashHere, exemptHere, placeOf};
+ghost use Rattle.trace.specs.Taken.{placesIn, placesOf, TakenUp};
+ghost use Rattle.trace.specs.Tracer.{tracerOf, fitsHere, instrHere, waysHere, flashHere, exemptHere, placeOf};
 use crate::mark::Mark;
 use crate::note;
 use crate::target;
 use crate::target::Targets;
 use instruction::Instr;
 
-// The positions that became waiting, in their order.
-pub enum Noted {
+// At most two positions, in their order.
+pub enum Places {
     Nothing,
     First(u32),
     Both(u32, u32),
@@ -23,7 +23,7 @@ pub enum Noted {
 
 pub struct Taken {
     pub mark: u8,
-    pub noted: Noted,
+    pub noted: Places,
 }
 
 // The position that a target names; one below 0 lies outside every image.
@@ -74,48 +74,67 @@ fn is_exempt(image: &[u8], marks: &[u8], at: usize) -> bool
     false
 }
 
-fn note_place(marks: &mut [u8], n: usize, t: u32) -> Noted
+fn note_place(marks: &mut [u8], n: usize, t: u32) -> Places
     requires { ⌜ n ≤ length (now marks) ⌝ }
-    ensures { λ r. ⌜ (notedOf r ≡ fresh n (t ∷ []) (now (marks .entry))) × (now (marks .exit) ≡ note n (t ∷ []) (now (marks .entry))) ⌝ }
+    ensures { λ r. ⌜ (placesIn r ≡ fresh n (t ∷ []) (now (marks .entry))) × (now (marks .exit) ≡ note n (t ∷ []) (now (marks .entry))) ⌝ }
 {
     if note::note_one(marks, n, t) == 1 {
-        return Noted::First(t);
+        return Places::First(t);
     }
-    Noted::Nothing
+    Places::Nothing
 }
 
 // Two positions, the first before the second.
-fn note_both(marks: &mut [u8], n: usize, s: u32, t: u32) -> Noted
+fn note_both(marks: &mut [u8], n: usize, s: u32, t: u32) -> Places
     requires { ⌜ n ≤ length (now marks) ⌝ }
-    ensures { λ r. ⌜ (notedOf r ≡ fresh n (s ∷ t ∷ []) (now (marks .entry))) × (now (marks .exit) ≡ note n (s ∷ t ∷ []) (now (marks .entry))) ⌝ }
+    ensures { λ r. ⌜ (placesIn r ≡ fresh n (s ∷ t ∷ []) (now (marks .entry))) × (now (marks .exit) ≡ note n (s ∷ t ∷ []) (now (marks .entry))) ⌝ }
 {
     if note::note_one(marks, n, s) == 1 {
         if note::note_one(marks, n, t) == 1 {
-            return Noted::Both(s, t);
+            return Places::Both(s, t);
         }
-        return Noted::First(s);
+        return Places::First(s);
     }
     note_place(marks, n, t)
 }
 
-// The targets noted, in their order.
-fn note_ways(marks: &mut [u8], n: usize, ways: Targets) -> Noted
+// These positions noted, in their order.
+fn note_all(marks: &mut [u8], n: usize, ps: Places) -> Places
     requires { ⌜ n ≤ length (now marks) ⌝ }
-    ensures { λ r. ⌜ (notedOf r ≡ fresh n (placesOf ways) (now (marks .entry))) × (now (marks .exit) ≡ note n (placesOf ways) (now (marks .entry))) ⌝ }
+    ensures { λ r. ⌜ (placesIn r ≡ fresh n (placesIn ps) (now (marks .entry))) × (now (marks .exit) ≡ note n (placesIn ps) (now (marks .entry))) ⌝ }
 {
-    match ways {
-        Targets::Nowhere => Noted::Nothing,
-        Targets::One(a) => note_place(marks, n, place(a)),
-        Targets::Two(a, b) => note_both(marks, n, place(a), place(b)),
-        Targets::PastEnd(_) => Noted::Nothing,
-        Targets::Unfit(_) => Noted::Nothing,
+    match ps {
+        Places::Nothing => Places::Nothing,
+        Places::First(s) => note_place(marks, n, s),
+        Places::Both(s, t) => note_both(marks, n, s, t),
     }
 }
 
-// Takes up p, where this instruction stands: it is traced, and its targets are noted.
-pub fn take_up(image: &[u8], marks: &mut [u8], p: u32, instr: Instr) -> Taken
-    requires { ⌜ (p < length (now image)) × (length (now image) ≤ 65536) × (length (now image) ≤ length (now marks)) ⌝ }
+// The positions that targets name.
+fn named(ways: Targets) -> Places
+    ensures { λ r. ⌜ placesIn r ≡ placesOf ways ⌝ }
+{
+    match ways {
+        Targets::Nowhere => Places::Nothing,
+        Targets::One(a) => Places::First(place(a)),
+        Targets::Two(a, b) => Places::Both(place(a), place(b)),
+        Targets::PastEnd(_) => Places::Nothing,
+        Targets::Unfit(_) => Places::Nothing,
+    }
+}
+
+// The positions that the targets of the instruction at p name.
+pub fn ways_at(image: &[u8], p: u32, instr: Instr) -> Places
+    requires { ⌜ (p < length (now image)) × (length (now image) ≤ 65536) ⌝ }
     requires { ⌜ (fitsHere (now image) p ≡ true) × (instr ≡ instrHere (now image) p) ⌝ }
+    ensures { λ r. ⌜ placesIn r ≡ waysHere (now (image .entry)) p ⌝ }
+{
+    named(target::ways(p + instr.size() as u32, instr))
+}
+
+// Takes up p, where these are the targets: it is traced, and they are noted. What became waiting is answered.
+pub fn take_up(image: &[u8], marks: &mut [u8], p: u32, ways: Places) -> Taken
+    requires { ⌜ (p < length (now image)) × (length (now image) ≤ length (now marks)) × (placesIn ways ≡ waysHere (now image) p) ⌝ }
     ensures { λ r. ⌜ TakenUp (now (image .entry)) (now (marks .entry)) p r (now (marks .exit)) ⌝ }
 {
     let n = image.len();
@@ -124,12 +143,11 @@ pub fn take_up(image: &[u8], marks: &mut [u8], p: u32, instr: Instr) -> Taken
         marks[at] = Mark::FLASH;
         return Taken {
             mark: Mark::FLASH,
-            noted: Noted::Nothing,
+            noted: Places::Nothing,
         };
     }
-    let ways = target::ways(p + instr.size() as u32, instr);
     marks[at] = Mark::TRACED;
-    let noted = note_ways(marks, n, ways);
+    let noted = note_all(marks, n, ways);
     Taken {
         mark: Mark::TRACED,
         noted,

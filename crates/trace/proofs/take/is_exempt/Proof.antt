@@ -1,27 +1,15 @@
 -- `take::is_exempt` meets its contract.
 -- Assumes nothing.
-use mathlib.Core.Path.{_≡_, refl, sym, _∙_}
-use mathlib.Core.Bool.{Bool, true, false, _&&_}
-use mathlib.Core.List.{List}
-use Prim.Native.Nat.{ℕ, _-_, _≤_, _<_}
+use mathlib.Core.Path.{_≡_, sym, _∙_}
+use mathlib.Core.Bool.{true}
+use Prim.Native.Nat.{_≤_, _<_}
 use native.Mathlib.Omega.{arith}
-use lib.Dec.{leb}
 use lib.ListN.{length}
 use borrow.Author.Needs.{needs}
-use borrow.Author.Tests.{leb-true}
-use Rattle.operand.proofs.Sign.{never}
 use Rattle.trace.specs.Tracer.{flashHere, exemptHere}
+use Rattle.trace.proofs.Jmpf.{two-before}
 use Rattle.trace.proofs.take.is_exempt.Statement.{statement}
 use Rattle.trace.proofs.take.is_exempt.Tie as tie
-
--- such a Jmpf has two bytes before it
-first-part : (a b : Bool) → (a && b) ≡ true → a ≡ true
-first-part true b e = refl
-first-part false b e = absurd (never (sym e))
-
-two-before : (image : List ℕ) (p : ℕ) → flashHere image p ≡ true → 2 ≤ p
-unfolding flashHere
-two-before image p e = leb-true 2 p (first-part (leb 2 p) _ e)
 
 flash : (c : tie.Then1) → flashHere (c .before .before .before .before .args .image .now) (c .before .before .before .before .args .at) ≡ true
 flash c = sym (c .before .is-flash .ensures) ∙ c .if1 .taken

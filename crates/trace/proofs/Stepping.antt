@@ -1,0 +1,88 @@
+-- The one answer of step and the one content of its marks, from the tests of the code.
+-- Assumes nothing.
+use mathlib.Core.Path.{_≡_, refl, sym, ap, ap₂, subst, _∙_}
+use mathlib.Core.Bool.{Bool, true, false, cond}
+use mathlib.Core.List.{List, [], _∷_, append-nil}
+use Prim.Native.Nat.{ℕ, _<_, _≤_}
+use native.Mathlib.Omega.{arith}
+use lib.Dec.{eqb}
+use lib.IntN.{ℤ, pos}
+use lib.ListN.{length, getD}
+use borrow.Author.Tests.{lt-ltb, le-ltb, le-leb, lt-leb, eqb-false, ne-eqb}
+use Rattle.operand.specs.Answer.{Answer, accepted, refused, Refusal, judge, after}
+use Rattle.operand.proofs.Judging.{pass, stop, done, first-of, past-all}
+use Rattle.instruction.specs.Decode.{cutValues}
+use Rattle.instruction.specs.declared.instr.Instr.{Instr}
+use Rattle.operand.specs.declared.answer.CutOff.{CutOff}
+use Rattle.reach.specs.Tracer.{took}
+use Rattle.trace.specs.Here.{hereOf}
+use Rattle.trace.specs.Step.{idle, damageRefusals, stepRefusals, Said, saidOf, steppedOf, stepAnswer, stepMarks}
+use Rattle.trace.specs.Taken.{TakenUp, placesIn}
+use Rattle.trace.specs.Tracer.{tracerOf, fitsHere, instrHere}
+use Rattle.trace.specs.declared.here.Here.{Here}
+use Rattle.trace.specs.declared.here.Here.the-variants.{Whole, Cut, Outside}
+use Rattle.trace.specs.declared.step.Advance.{Advance}
+use Rattle.trace.specs.declared.step.Stepped.the-variants.{Traced}
+use Rattle.trace.specs.declared.take.Taken.{Taken}
+
+-- a list of refusals speaks alike, whatever the value
+module _ {A B : Type 0} (rs : List Refusal) (a : A) (b : B) where
+  refuses-too : (n : ℕ) (vs : List ℤ) → judge rs a ≡ refused n vs → judge rs b ≡ refused n vs
+  refuses-too n vs e = subst (λ (qs : List Refusal). judge qs b ≡ refused n vs) (append-nil rs) (first-of [] a b rs n vs e)
+
+  accepts-too : judge rs a ≡ accepted a → judge rs b ≡ accepted b
+  accepts-too e = subst (λ (qs : List Refusal). judge qs b ≡ accepted b) (append-nil rs) (past-all [] a b rs e ∙ done b)
+
+module _ (image m : List ℕ) (p : ℕ) where
+  abbrev taken : List ℕ
+  taken = took (tracerOf image) m p
+
+  -- of a step at a waiting position where an instruction stands
+  abbrev inner : Answer Said
+  inner = judge (damageRefusals image m p) (saidOf image m p)
+
+  abbrev pub Inner : Answer Said → List ℕ → Type 0
+  Inner r t = (r ≡ inner) × (t ≡ after inner taken m)
+
+  inner-held : (r : Answer Said) → inner ≡ r → (t : List ℕ) → after r taken m ≡ t → Inner r t
+  inner-held r e t f = (sym e, rw e (sym f))
+
+  pub hurt-said : (q : ℕ) → refused 6 (pos q ∷ []) ≡ judge {A = Unit {0}} (damageRefusals image m p) tt → Inner (refused 6 (pos q ∷ [])) m
+  hurt-said q e = inner-held (refused 6 (pos q ∷ [])) (refuses-too (damageRefusals image m p) tt (saidOf image m p) 6 (pos q ∷ []) (sym e)) m refl
+
+  abbrev said : ℕ → ℕ → Said
+  said a b = record { mark = a; waiting = b }
+
+  pub took-said : accepted tt ≡ judge {A = Unit {0}} (damageRefusals image m p) tt → (r : Taken) (m′ : List ℕ) → TakenUp image m p r m′ → (k : ℕ) → k ≡ length (placesIn (r .noted)) → (s : Advance) → (s .mark ≡ r .mark) × (s .waiting ≡ k) → Inner (steppedOf (Traced s)) m′
+  took-said e r m′ t k f s g =
+      let v : saidOf image m p ≡ said (s .mark) (s .waiting) = ap₂ said (sym (g .0 ∙ t .mark-is)) (sym (g .1 ∙ f ∙ ap length (t .noted-are))) in
+      inner-held (steppedOf (Traced s)) (accepts-too (damageRefusals image m p) tt (saidOf image m p) (sym e) ∙ ap accepted v) m′ (sym (t .marks-are))
+
+  -- what stands at p, told
+  module _ (inside : p < length image) where
+    here-is : (h : Here) → h ≡ hereOf image p → (t : Bool) → fitsHere image p ≡ t → h ≡ cond t (Whole (instrHere image p)) (Cut (record { position = p; first = getD image p 0 }))
+    unfolding hereOf
+    here-is h e t f = e ∙ rw (lt-ltb p (length image) inside, f)
+
+    pub here-whole : (i : Instr) → Whole i ≡ hereOf image p → (fitsHere image p ≡ true) × (i ≡ instrHere image p)
+    here-whole i e = by (fitsHere image p) refl
+      where
+        by : (t : Bool) → fitsHere image p ≡ t → (fitsHere image p ≡ true) × (i ≡ instrHere image p)
+        by true f = let g = here-is (Whole i) e true f in (f, cc)
+        by false f = let g = here-is (Whole i) e false f in absurd (let z : _≡_ {A = ℕ} 0 1 = cc in omega arith)
+
+    pub here-cut : (c : CutOff) → Cut c ≡ hereOf image p → (fitsHere image p ≡ false) × (cutValues c ≡ pos p ∷ pos (getD image p 0) ∷ [])
+    here-cut c e = by (fitsHere image p) refl
+      where
+        by : (t : Bool) → fitsHere image p ≡ t → (fitsHere image p ≡ false) × (cutValues c ≡ pos p ∷ pos (getD image p 0) ∷ [])
+        by true f = let g = here-is (Cut c) e true f in absurd (let z : _≡_ {A = ℕ} 0 1 = cc in omega arith)
+        by false f =
+            let g = here-is (Cut c) e false f in
+            let h : c ≡ record { position = p; first = getD image p 0 } = cc in (f, ap cutValues h)
+
+    pub never-outside : Outside ≡ hereOf image p → ⊥
+    never-outside e = by (fitsHere image p) refl
+      where
+        by : (t : Bool) → fitsHere image p ≡ t → ⊥
+        by true f = let g = here-is Outside e true f in let z : _≡_ {A = ℕ} 0 1 = cc in omega arith
+        by false f = let g = here-is Outside e false f in let z : _≡_ {A = ℕ} 0 1 = cc in omega arith

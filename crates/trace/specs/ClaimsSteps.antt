@@ -1,0 +1,12 @@
+-- What is claimed of the answers of start and step. Document 01, 'Forms by place'.
+-- Assumes nothing.
+use Rattle.operand.specs.Answer.{Apart}
+use Rattle.trace.specs.Start.{startedOf}
+use Rattle.trace.specs.Step.{steppedOf}
+
+-- the number and values of the answers tell all cases and all values apart
+abbrev pub StartedApart : Type 0
+StartedApart = Apart startedOf
+
+abbrev pub SteppedApart : Type 0
+SteppedApart = Apart steppedOf

@@ -1,0 +1,103 @@
+// A single step.
+ghost use mathlib.Core.Path.{_≡_};
+ghost use mathlib.Core.Bool.{true};
+ghost use Prim.Native.Nat.{_≤_, _<_};
+ghost use lib.ListN.{length};
+ghost use Rattle.operand.specs.Answer.{judge, after};
+ghost use Rattle.reach.specs.Tracer.{took};
+ghost use Rattle.trace.specs.Step.{damageRefusals, saidOf, steppedOf, stepAnswer, stepMarks};
+ghost use Rattle.trace.specs.Taken.{placesIn};
+ghost use Rattle.trace.specs.Tracer.{tracerOf, fitsHere, instrHere};
+use crate::damage;
+use crate::damage::Hurt;
+use crate::here;
+use crate::here::Here;
+use crate::mark::Image;
+use crate::mark::Mark;
+use crate::take;
+use crate::take::Places;
+use instruction::Instr;
+use operand::CutOff;
+
+// The new mark, and how many positions became waiting.
+pub struct Advance {
+    pub mark: u8,
+    pub waiting: u32,
+}
+
+impl Advance {
+    pub fn new(mark: u8, waiting: u32) -> Self
+        ensures { λ r. ⌜ (r .mark ≡ mark) × (r .waiting ≡ waiting) ⌝ }
+    {
+        Self { mark, waiting }
+    }
+}
+
+pub enum Stepped {
+    Traced(Advance),
+    // 1: the image's length.
+    LongImage(usize),
+    // 2: the marks' length.
+    ShortMarks(usize),
+    // 4: the mark, 0 where the position is not inside.
+    NotWaiting(u8),
+    // 5
+    Cut(CutOff),
+    // 6: the position.
+    Damaged(u32),
+}
+
+// How many positions were noted.
+fn count(noted: Places) -> u32
+    ensures { λ r. ⌜ r ≡ length (placesIn noted) ⌝ }
+{
+    match noted {
+        Places::Nothing => 0,
+        Places::First(_) => 1,
+        Places::Both(_, _) => 2,
+    }
+}
+
+// A step at a waiting position where this instruction stands.
+fn step_whole(image: &[u8], marks: &mut [u8], p: u32, instr: Instr) -> Stepped
+    requires { ⌜ (p < length (now image)) × (length (now image) ≤ 65536) × (length (now image) ≤ length (now marks)) ⌝ }
+    requires { ⌜ (fitsHere (now image) p ≡ true) × (instr ≡ instrHere (now image) p) ⌝ }
+    ensures { λ r. ⌜ (steppedOf r ≡ judge (damageRefusals (now (image .entry)) (now (marks .entry)) p) (saidOf (now (image .entry)) (now (marks .entry)) p)) × (now (marks .exit) ≡ after (judge (damageRefusals (now (image .entry)) (now (marks .entry)) p) (saidOf (now (image .entry)) (now (marks .entry)) p)) (took (tracerOf (now (image .entry))) (now (marks .entry)) p) (now (marks .entry))) ⌝ }
+{
+    let ways = take::ways_at(image, p, instr);
+    if let Hurt::At(q) = damage::find_damage(image, marks, p, ways) {
+        return Stepped::Damaged(q);
+    }
+    let taken = take::take_up(image, marks, p, ways);
+    let noted = taken.noted;
+    Stepped::Traced(Advance::new(taken.mark, count(noted)))
+}
+
+// Takes up one waiting position.
+pub fn step(image: &[u8], marks: &mut [u8], p: u32) -> Stepped
+    ensures { λ r. ⌜ (steppedOf r ≡ stepAnswer (now (image .entry)) (now (marks .entry)) p) × (now (marks .exit) ≡ stepMarks (now (image .entry)) (now (marks .entry)) p) ⌝ }
+{
+    let n = image.len();
+    if Image::LIMIT < n {
+        return Stepped::LongImage(n);
+    }
+    if marks.len() < n {
+        return Stepped::ShortMarks(marks.len());
+    }
+    let at = p as usize;
+    if n <= at {
+        return Stepped::NotWaiting(0);
+    }
+    let mark = marks[at];
+    if Mark::HIGHEST < mark {
+        return Stepped::Damaged(p);
+    }
+    if mark != Mark::WAITING {
+        return Stepped::NotWaiting(mark);
+    }
+    match here::instr_at(image, p) {
+        Here::Whole(i) => step_whole(image, marks, p, i),
+        Here::Cut(c) => Stepped::Cut(c),
+        Here::Outside => Stepped::NotWaiting(0),
+    }
+}
