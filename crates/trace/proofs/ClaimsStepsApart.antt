@@ -1,4 +1,4 @@
--- The number and values of what start and step answer tell all cases apart: they are read back.
+-- The number and values of what start, step and run answer tell all cases apart: they are read back.
 -- Assumes nothing.
 use Prim.Native.Nat.{ℕ}
 use mathlib.Core.Path.{_≡_, refl}
@@ -7,9 +7,14 @@ use mathlib.Core.List.{List}
 use lib.Dec.{eqb}
 use lib.IntN.{ℤ}
 use Rattle.operand.specs.Answer.{Answer, accepted, refused}
-use Rattle.trace.specs.ClaimsSteps.{StartedApart, SteppedApart}
+use Rattle.trace.specs.ClaimsSteps.{StartedApart, SteppedApart, RanApart}
+use Rattle.trace.specs.Run.{ranOf}
+use Rattle.trace.specs.Run as running
 use Rattle.trace.specs.Start.{startedOf}
 use Rattle.trace.specs.Step.{Said, steppedOf}
+use Rattle.trace.specs.declared.run.Counts.{Counts}
+use Rattle.trace.specs.declared.run.Ran.{Ran}
+use Rattle.trace.specs.declared.run.Ran.the-variants as ran
 use Rattle.trace.specs.declared.start.Started.{Started}
 use Rattle.trace.specs.declared.start.Started.the-variants as started
 use Rattle.trace.specs.declared.step.Stepped.{Stepped}
@@ -49,3 +54,21 @@ step-back (stepped.Damaged q) = refl
 
 pub stepped-apart : SteppedApart
 stepped-apart = undone steppedOf step-answered step-back
+
+abbrev run-answered : Answer running.Said → Ran
+run-answered (accepted s) =
+    let c : Counts = record { steps = s .steps; noted = s .noted } in cond (s .finished) (ran.Finished c) (ran.Stopped c)
+run-answered (refused n vs) =
+    cond (eqb n 1) (ran.LongImage (numberAt vs 0))
+    (cond (eqb n 2) (ran.ShortMarks (numberAt vs 0)) (cond (eqb n 3) (ran.ShortOrder (numberAt vs 0)) (ran.Cut (cut vs))))
+
+run-back : (r : Ran) → run-answered (ranOf r) ≡ r
+run-back (ran.Finished c) = refl
+run-back (ran.Stopped c) = refl
+run-back (ran.LongImage n) = refl
+run-back (ran.ShortMarks n) = refl
+run-back (ran.ShortOrder n) = refl
+run-back (ran.Cut c) = refl
+
+pub ran-apart : RanApart
+ran-apart = undone ranOf run-answered run-back

@@ -13,12 +13,11 @@ use borrow.Author.Tests.{lt-ltb, le-ltb, leb-true, leb-false}
 use Rattle.operand.specs.Answer.{Answer, accepted, refused}
 use Rattle.operand.specs.declared.answer.CutOff.{CutOff}
 use Rattle.instruction.specs.Decode.{decodeAnswer, cutValues}
-use Rattle.instruction.specs.Forms.{formAt, formOf, sizeOf}
+use Rattle.instruction.specs.Forms.{formOf}
 use Rattle.instruction.specs.declared.instr.Instr.{Instr}
 use Rattle.instruction.proofs.Decoding.{cut, found}
 use Rattle.trace.specs.Here.{hereOf}
 use Rattle.trace.specs.Tracer.{formHere, sizeHere, fitsHere, instrHere}
-use Rattle.trace.specs.declared.here.Here.{Here}
 use Rattle.trace.specs.declared.here.Here.the-variants.{Whole, Cut, Outside}
 
 made : {d : CutOff} {a b : ℕ} → d .position ≡ a → d .first ≡ b → d ≡ record { position = a; first = b }

@@ -14,5 +14,9 @@ pub mod TakeUp
 pub mod Damages
 pub mod Stepping
 pub mod StepAnswers
+pub mod Queueing
+pub mod Turns
+pub mod Running
+pub mod RunAnswers
 pub mod Starting
 pub mod ClaimsStepsApart

@@ -1,7 +1,7 @@
 -- The refusals of step in their order: each test of the code says that those before it do not hold.
 -- Assumes nothing.
 use mathlib.Core.Path.{_≡_, refl, sym, ap, _∙_}
-use mathlib.Core.Bool.{Bool, true, false, not, _||_}
+use mathlib.Core.Bool.{Bool, true, false, not}
 use mathlib.Core.List.{List, [], _∷_}
 use Prim.Native.Nat.{ℕ, _<_, _≤_}
 use native.Mathlib.Omega.{arith}
@@ -9,7 +9,7 @@ use lib.Dec.{eqb}
 use lib.IntN.{pos}
 use lib.ListN.{length, getD}
 use borrow.Author.Tests.{lt-ltb, le-ltb, le-leb, lt-leb, eqb-false, ne-eqb}
-use Rattle.operand.specs.Answer.{Answer, accepted, refused, judge, after, refuse}
+use Rattle.operand.specs.Answer.{Answer, refused, judge, after, refuse}
 use Rattle.operand.specs.declared.answer.CutOff.{CutOff}
 use Rattle.operand.proofs.Judging.{pass, stop}
 use Rattle.instruction.specs.Decode.{cutValues}

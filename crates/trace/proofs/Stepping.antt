@@ -3,20 +3,19 @@
 use mathlib.Core.Path.{_≡_, refl, sym, ap, ap₂, subst, _∙_}
 use mathlib.Core.Bool.{Bool, true, false, cond}
 use mathlib.Core.List.{List, [], _∷_, append-nil}
-use Prim.Native.Nat.{ℕ, _<_, _≤_}
+use Prim.Native.Nat.{ℕ, _<_}
 use native.Mathlib.Omega.{arith}
-use lib.Dec.{eqb}
 use lib.IntN.{ℤ, pos}
 use lib.ListN.{length, getD}
-use borrow.Author.Tests.{lt-ltb, le-ltb, le-leb, lt-leb, eqb-false, ne-eqb}
+use borrow.Author.Tests.{lt-ltb}
 use Rattle.operand.specs.Answer.{Answer, accepted, refused, Refusal, judge, after}
-use Rattle.operand.proofs.Judging.{pass, stop, done, first-of, past-all}
+use Rattle.operand.proofs.Judging.{done, first-of, past-all}
 use Rattle.instruction.specs.Decode.{cutValues}
 use Rattle.instruction.specs.declared.instr.Instr.{Instr}
 use Rattle.operand.specs.declared.answer.CutOff.{CutOff}
 use Rattle.reach.specs.Tracer.{took}
 use Rattle.trace.specs.Here.{hereOf}
-use Rattle.trace.specs.Step.{idle, damageRefusals, stepRefusals, Said, saidOf, steppedOf, stepAnswer, stepMarks}
+use Rattle.trace.specs.Step.{damageRefusals, Said, saidOf, steppedOf}
 use Rattle.trace.specs.Taken.{TakenUp, placesIn}
 use Rattle.trace.specs.Tracer.{tracerOf, fitsHere, instrHere}
 use Rattle.trace.specs.declared.here.Here.{Here}

@@ -1,19 +1,18 @@
 -- What taking a position up comes to: the instruction there fits its fields and its place, and what is noted are its targets.
 -- Assumes nothing.
-use mathlib.Core.Path.{_≡_, refl, sym, ap, subst, _∙_}
-use mathlib.Core.Bool.{Bool, true, false}
+use mathlib.Core.Path.{_≡_, sym, ap, _∙_}
+use mathlib.Core.Bool.{true, false}
 use mathlib.Core.List.{List, [], _∷_, map}
 use Prim.Native.Nat.{ℕ, _+_, _-_, _<_, _≤_}
 use native.Mathlib.Omega.{arith}
 use lib.IntN.{ℤ}
-use lib.ListN.{length, getD, drop, set, length-drop}
+use lib.ListN.{length, getD, drop, set}
 use lib.Seq.{getD-drop}
 use borrow.Author.Tests.{leb-true}
-use Rattle.operand.specs.Answer.{Answer, accepted}
+use Rattle.operand.specs.Answer.{accepted}
 use Rattle.instruction.specs.Decode.{decodeAnswer, fieldsIn}
 use Rattle.instruction.specs.Encode.{formIn, fitAnswer}
-use Rattle.instruction.specs.Forms.{formAt, formOf, sizeOf}
-use Rattle.instruction.specs.Parts.{partsOf, madeOf}
+use Rattle.instruction.specs.Forms.{formAt, sizeOf}
 use Rattle.instruction.specs.declared.instr.Instr.{Instr}
 use Rattle.instruction.specs.declared.instr.Parts.{Parts}
 use Rattle.instruction.proofs.Shapes.{size-range}

@@ -1,6 +1,7 @@
--- What is claimed of the answers of start and step. Document 01, 'Forms by place'.
+-- What is claimed of the answers of start, step and run. Document 01, 'Forms by place'.
 -- Assumes nothing.
 use Rattle.operand.specs.Answer.{Apart}
+use Rattle.trace.specs.Run.{ranOf}
 use Rattle.trace.specs.Start.{startedOf}
 use Rattle.trace.specs.Step.{steppedOf}
 
@@ -10,3 +11,6 @@ StartedApart = Apart startedOf
 
 abbrev pub SteppedApart : Type 0
 SteppedApart = Apart steppedOf
+
+abbrev pub RanApart : Type 0
+RanApart = Apart ranOf

@@ -6,3 +6,4 @@ pub mod Taken
 pub mod Start
 pub mod Step
 pub mod ClaimsSteps
+pub mod Run

@@ -2,7 +2,6 @@
 -- Assumes nothing.
 use Prim.Native.Nat.{ℕ}
 use mathlib.Core.List.{List, [], _∷_}
-use lib.IntN.{ℤ}
 use mathlib.Core.Path.{_≡_}
 use Rattle.reach.specs.Tracer.{mark, took, found}
 use Rattle.trace.specs.Tracer.{placeOf, tracerOf}

@@ -74,7 +74,7 @@ fn is_exempt(image: &[u8], marks: &[u8], at: usize) -> bool
     false
 }
 
-fn note_place(marks: &mut [u8], n: usize, t: u32) -> Places
+pub fn note_place(marks: &mut [u8], n: usize, t: u32) -> Places
     requires { ⌜ n ≤ length (now marks) ⌝ }
     ensures { λ r. ⌜ (placesIn r ≡ fresh n (t ∷ []) (now (marks .entry))) × (now (marks .exit) ≡ note n (t ∷ []) (now (marks .entry))) ⌝ }
 {

@@ -1,7 +1,7 @@
 -- `damage::hurt_all` meets its contract, case by case.
 -- Assumes nothing.
 use mathlib.Core.Path.{_≡_, sym, _∙_}
-use mathlib.Core.List.{List, [], _∷_}
+use mathlib.Core.List.{List}
 use Prim.Native.Nat.{ℕ}
 use borrow.Author.Needs.{needs}
 use Rattle.operand.specs.Answer.{Answer}

@@ -1,6 +1,6 @@
 -- `step::step_whole` meets its contract: damage found, or the position taken up.
 -- Assumes nothing.
-use mathlib.Core.Path.{_≡_, sym, ap, _∙_}
+use mathlib.Core.Path.{sym, ap, _∙_}
 use borrow.Author.Needs.{needs}
 use Rattle.trace.specs.Step.{hurtOf}
 use Rattle.trace.proofs.Stepping.{hurt-said, took-said}

@@ -1,9 +1,8 @@
 -- `take::take_up` meets its contract: under the exception, and without it.
 -- Assumes nothing.
-use mathlib.Core.Path.{_≡_, refl, sym, _∙_}
-use mathlib.Core.List.{List}
+use mathlib.Core.Path.{refl, sym, _∙_}
 use borrow.Author.Needs.{needs}
-use lib.ListN.{length, length-set}
+use lib.ListN.{length-set}
 use Rattle.trace.proofs.TakeUp.{under, plainly}
 use Rattle.trace.proofs.take.take_up.Statement.{statement}
 use Rattle.trace.proofs.take.take_up.Tie as tie

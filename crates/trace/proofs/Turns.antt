@@ -1,0 +1,30 @@
+-- A turn of a run: the next position taken up, or its instruction cut off.
+-- Assumes nothing.
+use mathlib.Core.Path.{_≡_, refl, subst}
+use mathlib.Core.Bool.{true, false}
+use mathlib.Core.List.{List, [], _∷_}
+use Prim.Native.Nat.{ℕ}
+use native.Mathlib.Omega.{arith}
+use lib.IntN.{pos}
+use lib.ListN.{getD}
+use Rattle.operand.specs.declared.answer.CutOff.{CutOff}
+use Rattle.instruction.specs.Decode.{cutValues}
+use Rattle.reach.specs.Queue.{TakenUp}
+use Rattle.trace.specs.Run.{Turned}
+use Rattle.trace.specs.Tracer.{tracerOf, fitsHere}
+use Rattle.trace.specs.declared.run.Turn.the-variants.{On, Off}
+
+module _ (image m o : List ℕ) (p tail : ℕ) where
+  pub turned-on : (t : ℕ) (m′ o′ : List ℕ) → fitsHere image p ≡ true → TakenUp (tracerOf image) p m o tail m′ o′ t → Turned image m o p tail (On t) m′ o′
+  turned-on t m′ o′ f T =
+      record {
+        on = λ u e. (f, (let g : t ≡ u = cc in subst (λ (k : ℕ). TakenUp (tracerOf image) p m o tail m′ o′ k) g T));
+        off = λ c e. absurd (let z : _≡_ {A = ℕ} 0 1 = cc in omega arith);
+      }
+
+  pub turned-off : (c : CutOff) → (fitsHere image p ≡ false) × (cutValues c ≡ pos p ∷ pos (getD image p 0) ∷ []) → Turned image m o p tail (Off c) m o
+  turned-off c h =
+      record {
+        on = λ u e. absurd (let z : _≡_ {A = ℕ} 0 1 = cc in omega arith);
+        off = λ d e. (h .0, (let g : c ≡ d = cc in subst (λ (x : CutOff). cutValues x ≡ pos p ∷ pos (getD image p 0) ∷ []) g (h .1)), refl, refl);
+      }

@@ -1,0 +1,75 @@
+-- `run::take_next` meets its contract.
+-- Assumes nothing.
+use mathlib.Core.Path.{_≡_, sym, _∙_}
+use mathlib.Core.Bool.{true}
+use mathlib.Core.List.{List}
+use Prim.Native.Nat.{ℕ}
+use borrow.Author.Needs.{needs}
+use lib.ListN.{length}
+use Rattle.trace.specs.Tracer.{fitsHere, instrHere}
+use Rattle.trace.proofs.Queueing.{taken-put, room-for}
+use Rattle.trace.proofs.Stepping.{here-whole, here-cut, never-outside}
+use Rattle.trace.proofs.Turns.{turned-on, turned-off}
+use Rattle.trace.proofs.run.take_next.Statement.{statement}
+use Rattle.trace.proofs.run.take_next.Tie as tie
+
+abbrev start : tie.After-instr-at → tie.Start
+start c = c .before .before .before .before
+
+abbrev image : tie.After-instr-at → List ℕ
+image c = start c .args .image .now
+
+abbrev p : tie.After-instr-at → ℕ
+p c = start c .args .p
+
+whole : (c : tie.After-i) → (fitsHere (image (c .before .before)) (p (c .before .before)) ≡ true) × (c .i .given .0 .0 ≡ instrHere (image (c .before .before)) (p (c .before .before)))
+whole c =
+    let a = c .before .before in
+    here-whole (image a) (start a .args .marks .now) (p a) (start a .pre .0 .0) (c .i .given .0 .0) (sym (c .i .given .1) ∙ a .instr-at .ensures)
+
+ways-at-requires : tie.Need-ways-at-requires
+ways-at-requires c κs =
+    let s = start (c .before .before .before) in
+    ((s .pre .0 .0, s .pre .0 .1), whole (c .before))
+
+take-up-requires : tie.Need-take-up-requires
+take-up-requires c κs =
+    let w = c .before in
+    let s = start (w .before .before .before .before) in
+    (s .pre .0 .0, s .pre .0 .2, w .ways-at .ensures)
+
+put-requires : tie.Need-put-requires
+put-requires c κs =
+    let t = c .before .before .before in
+    let s = start (t .before .before .before .before .before .before) in
+    room-for (s .args .tail) (length (s .args .order .now)) _ _ (t .take-up .ensures .noted-are) (s .pre .1)
+
+returns : tie.Need-returns
+returns c =
+    let q = c .before .before in
+    let t = q .before .before .before .before in
+    let i = t .before .before .before .before in
+    let a = i .before .before in
+    let s = start a in
+    turned-on (image a) (s .args .marks .now) (s .args .order .now) (p a) (s .args .tail) (q .put .result) _ _ (whole i .0)
+    (taken-put (image a) (s .args .marks .now) (p a) (t .take-up .result) _ (s .args .order .now) (s .args .tail) _ (q .put .result) (t .take-up .ensures) (q .put .ensures))
+
+returns-2 : tie.Need-returns-2
+returns-2 c =
+    let k = c .before in
+    let a = k .before .before in
+    let s = start a in
+    turned-off (image a) (s .args .marks .now) (s .args .order .now) (p a) (s .args .tail) (k .c .given .0 .0)
+    (here-cut (image a) (s .args .marks .now) (p a) (s .pre .0 .0) (k .c .given .0 .0) (sym (k .c .given .1) ∙ a .instr-at .ensures))
+
+returns-3 : tie.Need-returns-3
+returns-3 c =
+    let a = c .before .before in
+    let s = start a in
+    absurd (never-outside (image a) (s .args .marks .now) (p a) (s .pre .0 .0) (sym (c .enum-told .given .1) ∙ a .instr-at .ensures))
+
+pub take-next-spec : {M : Type 1} → statement M
+take-next-spec =
+    tie.close
+    (tie.spec (λ c κs. search needs) (λ c. search needs) ways-at-requires take-up-requires put-requires (λ c. search needs) (λ c. search needs)
+    (λ c. search needs) (λ c. search needs) returns returns-2 returns-3)

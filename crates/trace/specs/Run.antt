@@ -1,0 +1,101 @@
+-- What a run answers and leaves. Document 01, 'Marks and steps', and refusals 1, 2, 3, then 5, which keeps what the run wrote.
+-- Assumes nothing.
+use Prim.Native.Nat.{ℕ}
+use mathlib.Core.Bool.{Bool, true, false}
+use mathlib.Core.List.{List, [], _∷_, _++_}
+use mathlib.Core.Path.{_≡_}
+use lib.Dec.{ltb}
+use lib.IntN.{pos}
+use lib.ListN.{length, getD, take}
+use Rattle.operand.specs.Answer.{Answer, accepted, refused, Refusal, refuse, judge, after}
+use Rattle.operand.specs.declared.answer.CutOff.{CutOff}
+use Rattle.instruction.specs.Decode.{cutValues}
+use Rattle.reach.specs.Mark.{cleared, tracedMark, count}
+use Rattle.reach.specs.Queue.{TakenUp}
+use Rattle.reach.specs.Run.{End, finished, stopped, cutOff, Outcome, steps, noted, ordered, runOf}
+use Rattle.trace.specs.Start.{sizeRefusals}
+use Rattle.trace.specs.Tracer.{tracerOf, fitsHere}
+use Rattle.trace.specs.declared.run.Counts.{Counts}
+use Rattle.trace.specs.declared.run.Turn.{Turn}
+use Rattle.trace.specs.declared.run.Turn.the-variants.{On, Off}
+use Rattle.trace.specs.declared.run.Ran.{Ran}
+use Rattle.trace.specs.declared.run.Ran.the-variants.{Finished, Stopped, LongImage, ShortMarks, ShortOrder, Cut}
+
+-- 3: order list shorter than image
+abbrev pub runRefusals : List ℕ → List ℕ → List ℕ → List Refusal
+runRefusals image marks order =
+    sizeRefusals image marks ++ refuse (ltb (length order) (length image)) 3 (pos (length order) ∷ []) ∷ []
+
+abbrev pub runJudged : List ℕ → List ℕ → List ℕ → Answer (Unit {0})
+runJudged image marks order = judge (runRefusals image marks order) tt
+
+-- the run starts afresh: the entries noted over cleared marks
+unfoldable pub outcomeOf : List ℕ → List ℕ → List ℕ → ℕ → Outcome
+outcomeOf image marks entries limit = runOf limit (tracerOf image) entries (cleared (length image) marks)
+
+-- whether it is finished, the steps and the positions noted
+pub record Said : Type 0 where
+  pub finished : Bool
+  pub steps : ℕ
+  pub noted : ℕ
+
+abbrev pub said : Bool → ℕ → ℕ → Answer Said
+said b s n = accepted (record { finished = b; steps = s; noted = n })
+
+abbrev pub ranOf : Ran → Answer Said
+ranOf (Finished c) = said true (c .steps) (c .noted)
+ranOf (Stopped c) = said false (c .steps) (c .noted)
+ranOf (LongImage n) = refused 1 (pos n ∷ [])
+ranOf (ShortMarks n) = refused 2 (pos n ∷ [])
+ranOf (ShortOrder n) = refused 3 (pos n ∷ [])
+ranOf (Cut c) = refused 5 (cutValues c)
+
+-- how it ended: an instruction cut off is 5, with position and first byte
+abbrev pub endOf : List ℕ → End → ℕ → ℕ → Answer Said
+endOf image finished s n = said true s n
+endOf image stopped s n = said false s n
+endOf image (cutOff p) s n = refused 5 (pos p ∷ pos (getD image p 0) ∷ [])
+
+abbrev pub ranAnswer : List ℕ → Outcome → Answer Said
+ranAnswer image out = endOf image (out .end) (steps out) (length (noted out))
+
+-- a refusal where there is one, else what follows
+abbrev pub orElse : {A B : Type 0} → Answer A → Answer B → Answer B
+orElse (accepted a) b = b
+orElse (refused n vs) b = refused n vs
+
+unfoldable pub runAnswer : List ℕ → List ℕ → List ℕ → List ℕ → ℕ → Answer Said
+runAnswer image marks order entries limit =
+    orElse (runJudged image marks order) (ranAnswer image (outcomeOf image marks entries limit))
+
+-- what its start and its steps wrote: also where it ended by 5
+unfoldable pub runMarks : List ℕ → List ℕ → List ℕ → List ℕ → ℕ → List ℕ
+runMarks image marks order entries limit =
+    after (runJudged image marks order) (outcomeOf image marks entries limit .marks) marks
+
+-- the order list: the positions noted, and the rest as it was
+unfoldable pub runOrder : List ℕ → List ℕ → List ℕ → List ℕ → ℕ → List ℕ
+runOrder image marks order entries limit =
+    after (runJudged image marks order) (ordered (outcomeOf image marks entries limit) order) order
+
+-- of the inner function that takes the next position up: it is taken up and what it found is written at the list's end, or its
+-- instruction is cut off and nothing changes
+pub record Turned (image m o : List ℕ) (p tail : ℕ) (r : Turn) (m′ o′ : List ℕ) : Type 0 where
+  pub on : (t : ℕ) → r ≡ On t → (fitsHere image p ≡ true) × TakenUp (tracerOf image) p m o tail m′ o′ t
+  pub off : (c : CutOff) → r ≡ Off c → (fitsHere image p ≡ false) × (cutValues c ≡ pos p ∷ pos (getD image p 0) ∷ []) × (m′ ≡ m) × (o′ ≡ o)
+
+-- the steps are the marks 2 and 3 afterwards
+abbrev pub StepsTied : List ℕ → Ran → List ℕ → Type 0
+StepsTied image (Finished c) m = c .steps ≡ count tracedMark (take (length image) m)
+StepsTied image (Stopped c) m = c .steps ≡ count tracedMark (take (length image) m)
+StepsTied image (LongImage n) m = Unit {0}
+StepsTied image (ShortMarks n) m = Unit {0}
+StepsTied image (ShortOrder n) m = Unit {0}
+StepsTied image (Cut c) m = Unit {0}
+
+-- of the inner function that runs once the sizes are judged
+pub record RanTo (image marks order entries : List ℕ) (limit : ℕ) (r : Ran) (m′ o′ : List ℕ) : Type 0 where
+  pub answer-is : ranOf r ≡ ranAnswer image (outcomeOf image marks entries limit)
+  pub marks-are : m′ ≡ outcomeOf image marks entries limit .marks
+  pub order-is : o′ ≡ ordered (outcomeOf image marks entries limit) order
+  pub tied : StepsTied image r m′

@@ -1,0 +1,110 @@
+// A run: positions are taken up first come, first served.
+// Ported from `build_instruction_graph` of src/disasm.rs of wtetzner/waterbear, and changed: each position is taken up once, and the lent
+// order list is the queue.
+ghost use mathlib.Core.Path.{_≡_};
+ghost use Prim.Native.Nat.{_+_, _≤_, _<_};
+ghost use lib.ListN.{length};
+ghost use Rattle.reach.specs.Tracer.{found};
+ghost use Rattle.trace.specs.Run.{ranOf, runAnswer, runMarks, runOrder, RanTo, StepsTied, Turned};
+ghost use Rattle.trace.specs.Tracer.{tracerOf};
+use crate::here;
+use crate::here::Here;
+use crate::mark::Image;
+use crate::note;
+use crate::queue;
+use crate::take;
+use operand::CutOff;
+
+// The steps, and the positions noted.
+pub struct Counts {
+    pub steps: u32,
+    pub noted: u32,
+}
+
+impl Counts {
+    pub fn new(steps: u32, noted: u32) -> Self
+        ensures { λ r. ⌜ (r .steps ≡ steps) × (r .noted ≡ noted) ⌝ }
+    {
+        Self { steps, noted }
+    }
+}
+
+pub enum Ran {
+    // Nothing waiting.
+    Finished(Counts),
+    // The limit used up.
+    Stopped(Counts),
+    // 1: the image's length.
+    LongImage(usize),
+    // 2: the marks' length.
+    ShortMarks(usize),
+    // 3: the order list's length.
+    ShortOrder(usize),
+    // 5
+    Cut(CutOff),
+}
+
+// The list's new end, or the instruction cut off.
+pub enum Turn {
+    On(usize),
+    Off(CutOff),
+}
+
+// Takes up p, the next of the queue, and writes what it found at the list's end.
+fn take_next(image: &[u8], marks: &mut [u8], order: &mut [u32], p: u32, tail: usize) -> Turn
+    requires { ⌜ (p < length (now image)) × (length (now image) ≤ 65536) × (length (now image) ≤ length (now marks)) ⌝ }
+    requires { ⌜ tail + length (found (tracerOf (now image)) (now marks) p) ≤ length (now order) ⌝ }
+    ensures { λ r. ⌜ Turned (now (image .entry)) (now (marks .entry)) (now (order .entry)) p tail r (now (marks .exit)) (now (order .exit)) ⌝ }
+{
+    match here::instr_at(image, p) {
+        Here::Whole(i) => {
+            let ways = take::ways_at(image, p, i);
+            let taken = take::take_up(image, marks, p, ways);
+            let noted = taken.noted;
+            Turn::On(queue::put(order, tail, noted))
+        }
+        Here::Cut(c) => Turn::Off(c),
+        Here::Outside => Turn::On(tail),
+    }
+}
+
+// A run where the sizes are right.
+fn run_on(image: &[u8], marks: &mut [u8], order: &mut [u32], entries: &[u32], limit: u32) -> Ran
+    requires { ⌜ (length (now image) ≤ 65536) × (length (now image) ≤ length (now marks)) × (length (now image) ≤ length (now order)) ⌝ }
+    ensures { λ r. ⌜ RanTo (now (image .entry)) (now (marks .entry)) (now (order .entry)) (now (entries .entry)) limit r (now (marks .exit)) (now (order .exit)) ⌝ }
+{
+    let n = image.len();
+    note::clear(marks, n);
+    let most = limit as usize;
+    let mut tail = queue::put_entries(marks, order, n, entries);
+    let mut head: usize = 0;
+    while head < tail {
+        if most <= head {
+            return Ran::Stopped(Counts::new(head as u32, tail as u32));
+        }
+        let p = order[head];
+        match take_next(image, marks, order, p, tail) {
+            Turn::On(t) => tail = t,
+            Turn::Off(c) => return Ran::Cut(c),
+        }
+        head += 1;
+    }
+    Ran::Finished(Counts::new(head as u32, tail as u32))
+}
+
+// A run from the entries, for at most limit steps.
+pub fn run(image: &[u8], marks: &mut [u8], order: &mut [u32], entries: &[u32], limit: u32) -> Ran
+    ensures { λ r. ⌜ (ranOf r ≡ runAnswer (now (image .entry)) (now (marks .entry)) (now (order .entry)) (now (entries .entry)) limit) × (now (marks .exit) ≡ runMarks (now (image .entry)) (now (marks .entry)) (now (order .entry)) (now (entries .entry)) limit) × (now (order .exit) ≡ runOrder (now (image .entry)) (now (marks .entry)) (now (order .entry)) (now (entries .entry)) limit) × StepsTied (now (image .entry)) r (now (marks .exit)) ⌝ }
+{
+    let n = image.len();
+    if Image::LIMIT < n {
+        return Ran::LongImage(n);
+    }
+    if marks.len() < n {
+        return Ran::ShortMarks(marks.len());
+    }
+    if order.len() < n {
+        return Ran::ShortOrder(order.len());
+    }
+    run_on(image, marks, order, entries, limit)
+}
