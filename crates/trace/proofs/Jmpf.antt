@@ -34,11 +34,11 @@ jmpf-is x h e = jmpf-by-byte x h ∙ eq-eqb x 0x21 e
 pub jmpf-not : (x : ℕ) → x < 256 → (x ≡ 0x21 → ⊥) → eqb (formOf x) (numberOf "Jmpf") ≡ false
 jmpf-not x h e = jmpf-by-byte x h ∙ ne-eqb x 0x21 e
 
--- a Jmpf after B8 0D has two bytes before it
-first-part : (a b : Bool) → (a && b) ≡ true → a ≡ true
+pub first-part : (a b : Bool) → (a && b) ≡ true → a ≡ true
 first-part true b e = refl
 first-part false b e = absurd (never (sym e))
 
+-- a Jmpf after B8 0D has two bytes before it
 pub two-before : (image : List ℕ) (p : ℕ) → flashHere image p ≡ true → 2 ≤ p
 unfolding flashHere
 two-before image p e = leb-true 2 p (first-part (leb 2 p) _ e)

@@ -20,3 +20,7 @@ pub mod Running
 pub mod RunAnswers
 pub mod Starting
 pub mod ClaimsStepsApart
+pub mod Accepted
+pub mod Unflashed
+pub mod ClaimsImagesOrder
+pub mod ClaimsImagesEnd

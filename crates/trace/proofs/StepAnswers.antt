@@ -22,7 +22,7 @@ none-left : (v : ℕ) → v ≤ 3 → (v ≡ 0 → ⊥) → (v ≡ 1 → ⊥) �
 none-left v h a b c d = omega arith
 
 -- marks that do not wait
-idle-marks : (v : ℕ) → v ≤ 3 → (v ≡ 1 → ⊥) → idle v ≡ true
+pub idle-marks : (v : ℕ) → v ≤ 3 → (v ≡ 1 → ⊥) → idle v ≡ true
 idle-marks v h w = by (eqb v 0) refl (eqb v 2) refl (eqb v 3) refl
   where
     by : (a : Bool) → eqb v 0 ≡ a → (b : Bool) → eqb v 2 ≡ b → (c : Bool) → eqb v 3 ≡ c → idle v ≡ true

@@ -7,3 +7,4 @@ pub mod Start
 pub mod Step
 pub mod ClaimsSteps
 pub mod Run
+pub mod ClaimsImages
