@@ -15,7 +15,9 @@ use Rattle.reach.specs.Mark.{tracedMark}
 use Rattle.reach.specs.Tracer.{targets}
 use Rattle.reach.proofs.Exempt.{targets-plain, targets-exempt}
 use Rattle.trace.specs.Step.{damaged, damages, damageRefusals}
-use Rattle.trace.specs.Tracer.{tracerOf, flashHere, exemptHere, waysHere}
+use Rattle.trace.specs.Tracer.{tracerOf, exemptHere}
+use Rattle.ways.proofs.Ands.{both, not-first, not-second}
+use Rattle.ways.specs.At.{flashHere, waysHere}
 
 abbrev pub hurts : ℕ → List ℕ → ℕ → Bool
 hurts n m t = ltb t n && damaged (getD m t 0)
@@ -52,7 +54,7 @@ module _ (image m : List ℕ) (p : ℕ) where
 
   pub before-hurt : flashHere image p ≡ true → damaged before ≡ true → Is (refused 6 (pos (p - 2) ∷ []))
   unfolding damageRefusals
-  before-hurt f d = sym (stop _ _ _ (rw (f, d)))
+  before-hurt f d = sym (stop _ _ _ (both (flashHere image p) (damaged before) f d))
 
   -- where p - 2 has none, the targets decide
   rest : (flashHere image p && damaged before) ≡ false → (ts : List ℕ) → targets (tracerOf image) m p ≡ ts → Is (judged (length image) m ts)
@@ -61,10 +63,13 @@ module _ (image m : List ℕ) (p : ℕ) where
 
   pub exempted : flashHere image p ≡ true → damaged before ≡ false → tracedMark before ≡ true → Is (accepted tt)
   unfolding exemptHere
-  exempted f d t = sound-end (length image) m ∙ rest (rw (f, d)) [] (targets-exempt (tracerOf image) m p (rw (f, t)))
+  exempted f d t =
+      sound-end (length image) m ∙ rest (not-second (flashHere image p) (damaged before) d) [] (targets-exempt (tracerOf image) m p (both (flashHere image p) (tracedMark before) f t))
 
   -- no such Jmpf, or p - 2 is neither damaged nor traced
   pub by-ways : (flashHere image p ≡ false) ⊎ ((flashHere image p ≡ true) × (damaged before ≡ false) × (tracedMark before ≡ false)) → Is (judged (length image) m (waysHere image p))
   unfolding exemptHere
-  by-ways (inl f) = rest (rw f) (waysHere image p) (targets-plain (tracerOf image) m p (rw f))
-  by-ways (inr (f, d, t)) = rest (rw (f, d)) (waysHere image p) (targets-plain (tracerOf image) m p (rw (f, t)))
+  by-ways (inl f) =
+      rest (not-first (flashHere image p) (damaged before) f) (waysHere image p) (targets-plain (tracerOf image) m p (not-first (flashHere image p) (tracedMark before) f))
+  by-ways (inr (f, d, t)) =
+      rest (not-second (flashHere image p) (damaged before) d) (waysHere image p) (targets-plain (tracerOf image) m p (not-second (flashHere image p) (tracedMark before) t))

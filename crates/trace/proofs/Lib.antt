@@ -1,15 +1,4 @@
-pub mod ReadBack
-pub mod InRange
-pub mod ShortSum
-pub mod LastOperand
-pub mod AskedAlone
-pub mod ClaimsTargetsApart
-pub mod AddressBack
-pub mod ResolvedAddress
-pub mod ClaimsTargetsUndo
 pub mod OneNoted
-pub mod Jmpf
-pub mod HereIs
 pub mod TakeUp
 pub mod Damages
 pub mod Stepping
@@ -19,8 +8,3 @@ pub mod Turns
 pub mod Running
 pub mod RunAnswers
 pub mod Starting
-pub mod ClaimsStepsApart
-pub mod Accepted
-pub mod Unflashed
-pub mod ClaimsImagesOrder
-pub mod ClaimsImagesEnd

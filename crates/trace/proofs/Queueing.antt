@@ -9,7 +9,8 @@ use Rattle.reach.specs.Note.{note, fresh}
 use Rattle.reach.specs.Queue.{Noted}
 use Rattle.reach.specs.Queue as queue
 use Rattle.reach.specs.Tracer.{found}
-use Rattle.trace.specs.Taken.{TakenUp, placesIn}
+use Rattle.trace.specs.Taken.{TakenUp}
+use Rattle.ways.specs.Ways.{placesIn}
 use Rattle.trace.specs.Tracer.{tracerOf}
 use Rattle.trace.specs.declared.take.Taken.{Taken}
 

@@ -15,7 +15,8 @@ use Rattle.operand.proofs.Judging.{pass, stop}
 use Rattle.instruction.specs.Decode.{cutValues}
 use Rattle.reach.specs.Tracer.{took}
 use Rattle.trace.specs.Step.{idle, damaged, damageRefusals, stepRefusals, Said, saidOf, stepAnswer, stepMarks}
-use Rattle.trace.specs.Tracer.{tracerOf, fitsHere}
+use Rattle.trace.specs.Tracer.{tracerOf}
+use Rattle.ways.specs.At.{fitsHere}
 use Rattle.trace.proofs.Stepping.{Inner}
 
 none-left : (v : ℕ) → v ≤ 3 → (v ≡ 0 → ⊥) → (v ≡ 1 → ⊥) → (v ≡ 2 → ⊥) → (v ≡ 3 → ⊥) → ⊥

@@ -14,12 +14,14 @@ use Rattle.instruction.specs.Decode.{cutValues}
 use Rattle.instruction.specs.declared.instr.Instr.{Instr}
 use Rattle.operand.specs.declared.answer.CutOff.{CutOff}
 use Rattle.reach.specs.Tracer.{took}
-use Rattle.trace.specs.Here.{hereOf}
+use Rattle.ways.specs.Here.{hereOf}
 use Rattle.trace.specs.Step.{damageRefusals, Said, saidOf, steppedOf}
-use Rattle.trace.specs.Taken.{TakenUp, placesIn}
-use Rattle.trace.specs.Tracer.{tracerOf, fitsHere, instrHere}
-use Rattle.trace.specs.declared.here.Here.{Here}
-use Rattle.trace.specs.declared.here.Here.the-variants.{Whole, Cut, Outside}
+use Rattle.trace.specs.Taken.{TakenUp}
+use Rattle.ways.specs.Ways.{placesIn}
+use Rattle.trace.specs.Tracer.{tracerOf}
+use Rattle.ways.specs.At.{fitsHere, instrHere}
+use Rattle.ways.specs.declared.here.Here.{Here}
+use Rattle.ways.specs.declared.here.Here.the-variants.{Whole, Cut, Outside}
 use Rattle.trace.specs.declared.step.Advance.{Advance}
 use Rattle.trace.specs.declared.step.Stepped.the-variants.{Traced}
 use Rattle.trace.specs.declared.take.Taken.{Taken}
@@ -56,32 +58,3 @@ module _ (image m : List ℕ) (p : ℕ) where
   took-said e r m′ t k f s g =
       let v : saidOf image m p ≡ said (s .mark) (s .waiting) = ap₂ said (sym (g .0 ∙ t .mark-is)) (sym (g .1 ∙ f ∙ ap length (t .noted-are))) in
       inner-held (steppedOf (Traced s)) (accepts-too (damageRefusals image m p) tt (saidOf image m p) (sym e) ∙ ap accepted v) m′ (sym (t .marks-are))
-
-  -- what stands at p, told
-  module _ (inside : p < length image) where
-    here-is : (h : Here) → h ≡ hereOf image p → (t : Bool) → fitsHere image p ≡ t → h ≡ cond t (Whole (instrHere image p)) (Cut (record { position = p; first = getD image p 0 }))
-    unfolding hereOf
-    here-is h e t f = e ∙ rw (lt-ltb p (length image) inside, f)
-
-    pub here-whole : (i : Instr) → Whole i ≡ hereOf image p → (fitsHere image p ≡ true) × (i ≡ instrHere image p)
-    here-whole i e = by (fitsHere image p) refl
-      where
-        by : (t : Bool) → fitsHere image p ≡ t → (fitsHere image p ≡ true) × (i ≡ instrHere image p)
-        by true f = let g = here-is (Whole i) e true f in (f, cc)
-        by false f = let g = here-is (Whole i) e false f in absurd (let z : _≡_ {A = ℕ} 0 1 = cc in omega arith)
-
-    pub here-cut : (c : CutOff) → Cut c ≡ hereOf image p → (fitsHere image p ≡ false) × (cutValues c ≡ pos p ∷ pos (getD image p 0) ∷ [])
-    here-cut c e = by (fitsHere image p) refl
-      where
-        by : (t : Bool) → fitsHere image p ≡ t → (fitsHere image p ≡ false) × (cutValues c ≡ pos p ∷ pos (getD image p 0) ∷ [])
-        by true f = let g = here-is (Cut c) e true f in absurd (let z : _≡_ {A = ℕ} 0 1 = cc in omega arith)
-        by false f =
-            let g = here-is (Cut c) e false f in
-            let h : c ≡ record { position = p; first = getD image p 0 } = cc in (f, ap cutValues h)
-
-    pub never-outside : Outside ≡ hereOf image p → ⊥
-    never-outside e = by (fitsHere image p) refl
-      where
-        by : (t : Bool) → fitsHere image p ≡ t → ⊥
-        by true f = let g = here-is Outside e true f in let z : _≡_ {A = ℕ} 0 1 = cc in omega arith
-        by false f = let g = here-is Outside e false f in let z : _≡_ {A = ℕ} 0 1 = cc in omega arith

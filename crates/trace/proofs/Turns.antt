@@ -11,7 +11,8 @@ use Rattle.operand.specs.declared.answer.CutOff.{CutOff}
 use Rattle.instruction.specs.Decode.{cutValues}
 use Rattle.reach.specs.Queue.{TakenUp}
 use Rattle.trace.specs.Run.{Turned}
-use Rattle.trace.specs.Tracer.{tracerOf, fitsHere}
+use Rattle.trace.specs.Tracer.{tracerOf}
+use Rattle.ways.specs.At.{fitsHere}
 use Rattle.trace.specs.declared.run.Turn.the-variants.{On, Off}
 
 module _ (image m o : List ℕ) (p tail : ℕ) where

@@ -1,10 +1,5 @@
-pub mod Targets
-pub mod ClaimsTargets
 pub mod Tracer
-pub mod Here
 pub mod Taken
 pub mod Start
 pub mod Step
-pub mod ClaimsSteps
 pub mod Run
-pub mod ClaimsImages

@@ -11,7 +11,8 @@ use Rattle.operand.specs.Answer.{Answer, accepted, refused, Refusal, refuse, ju
 use Rattle.instruction.specs.Decode.{cutValues}
 use Rattle.reach.specs.Tracer.{targets, mark, took, found}
 use Rattle.trace.specs.Start.{sizeRefusals}
-use Rattle.trace.specs.Tracer.{tracerOf, fitsHere, flashHere}
+use Rattle.trace.specs.Tracer.{tracerOf}
+use Rattle.ways.specs.At.{fitsHere, flashHere}
 use Rattle.trace.specs.declared.damage.Hurt.{Hurt}
 use Rattle.trace.specs.declared.damage.Hurt.the-variants.{Sound, At}
 use Rattle.trace.specs.declared.step.Advance.{Advance}

@@ -7,11 +7,11 @@ ghost use lib.Dec.{ltb};
 ghost use lib.ListN.{length, getD};
 ghost use Rattle.operand.specs.Answer.{judge};
 ghost use Rattle.trace.specs.Step.{damaged, damages, damageRefusals, hurtOf};
-ghost use Rattle.trace.specs.Taken.{placesIn};
-ghost use Rattle.trace.specs.Tracer.{waysHere};
+ghost use Rattle.ways.specs.Ways.{placesIn};
+ghost use Rattle.ways.specs.At.{waysHere};
 use crate::mark::Mark;
 use crate::take;
-use crate::take::Places;
+use ways::Places;
 
 pub enum Hurt {
     Sound,
@@ -59,13 +59,12 @@ fn hurt_all(marks: &[u8], n: usize, ps: Places) -> Hurt
 }
 
 // The first damaged mark that a step at p would read besides p's own, where these are the targets.
-pub fn find_damage(image: &[u8], marks: &[u8], p: u32, ways: Places) -> Hurt
-    requires { ⌜ (p < length (now image)) × (length (now image) ≤ length (now marks)) × (placesIn ways ≡ waysHere (now image) p) ⌝ }
+pub fn find_damage(image: &[u8], marks: &[u8], p: u32, to: Places) -> Hurt
+    requires { ⌜ (p < length (now image)) × (length (now image) ≤ length (now marks)) × (placesIn to ≡ waysHere (now image) p) ⌝ }
     ensures { λ r. ⌜ hurtOf r ≡ judge (damageRefusals (now (image .entry)) (now (marks .entry)) p) tt ⌝ }
 {
-    let at = p as usize;
-    if take::is_flash(image, at) {
-        let before = marks[at - 2];
+    if ways::is_flash(image, p) {
+        let before = marks[p as usize - 2];
         if Mark::HIGHEST < before {
             return Hurt::At(p - 2);
         }
@@ -74,5 +73,5 @@ pub fn find_damage(image: &[u8], marks: &[u8], p: u32, ways: Places) -> Hurt
             return Hurt::Sound;
         }
     }
-    hurt_all(marks, image.len(), ways)
+    hurt_all(marks, image.len(), to)
 }

@@ -1,9 +1,7 @@
 // Tracing: from entries to the positions that control reaches, one mark a position.
 // Ported from src/disasm.rs of wtetzner/waterbear (Apache-2.0, see NOTICE), and changed: the marks take the place of the graph's map of
 // instructions, and a lent list that of its worklist.
-pub mod alone;
 mod damage;
-pub mod here;
 pub mod mark;
 mod note;
 mod queue;
@@ -11,15 +9,10 @@ pub mod run;
 pub mod start;
 pub mod step;
 mod take;
-mod target;
 
-pub use alone::targets;
-pub use here::Here;
-pub use mark::Image;
 pub use mark::Mark;
 pub use run::Counts;
 pub use run::Ran;
 pub use start::Started;
 pub use step::Advance;
 pub use step::Stepped;
-pub use target::Targets;

@@ -1,4 +1,4 @@
-// Marks, one byte for each position, and the limit of an image.
+// Marks, one byte for each position.
 ghost use mathlib.Core.Path.{_≡_};
 
 pub struct Mark {
@@ -20,19 +20,5 @@ impl Mark {
         ensures { λ r. ⌜ r .value ≡ value ⌝ }
     {
         Self { value }
-    }
-}
-
-pub struct Image {
-    pub length: usize,
-}
-
-impl Image {
-    pub const LIMIT: usize = 65_536;
-
-    pub fn new(length: usize) -> Self
-        ensures { λ r. ⌜ r .length ≡ length ⌝ }
-    {
-        Self { length }
     }
 }

@@ -4,9 +4,9 @@ ghost use Prim.Native.Nat.{_+_, _≤_};
 ghost use lib.ListN.{length};
 ghost use lib.Seq.{sets};
 ghost use Rattle.reach.specs.Queue.{Noted};
-ghost use Rattle.trace.specs.Taken.{placesIn};
+ghost use Rattle.ways.specs.Ways.{placesIn};
 use crate::take;
-use crate::take::Places;
+use ways::Places;
 
 // Writes these positions at the list's end: its new end.
 pub fn put(order: &mut [u32], tail: usize, ps: Places) -> usize

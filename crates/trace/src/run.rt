@@ -7,13 +7,12 @@ ghost use lib.ListN.{length};
 ghost use Rattle.reach.specs.Tracer.{found};
 ghost use Rattle.trace.specs.Run.{ranOf, runAnswer, runMarks, runOrder, RanTo, StepsTied, Turned};
 ghost use Rattle.trace.specs.Tracer.{tracerOf};
-use crate::here;
-use crate::here::Here;
-use crate::mark::Image;
 use crate::note;
 use crate::queue;
 use crate::take;
 use operand::CutOff;
+use ways::Image;
+use ways::Ways;
 
 // The steps, and the positions noted.
 pub struct Counts {
@@ -45,7 +44,7 @@ pub enum Ran {
 }
 
 // The list's new end, or the instruction cut off.
-pub enum Turn {
+enum Turn {
     On(usize),
     Off(CutOff),
 }
@@ -56,15 +55,14 @@ fn take_next(image: &[u8], marks: &mut [u8], order: &mut [u32], p: u32, tail: us
     requires { ⌜ tail + length (found (tracerOf (now image)) (now marks) p) ≤ length (now order) ⌝ }
     ensures { λ r. ⌜ Turned (now (image .entry)) (now (marks .entry)) (now (order .entry)) p tail r (now (marks .exit)) (now (order .exit)) ⌝ }
 {
-    match here::instr_at(image, p) {
-        Here::Whole(i) => {
-            let ways = take::ways_at(image, p, i);
-            let taken = take::take_up(image, marks, p, ways);
+    match ways::ways_at(image, p) {
+        Ways::Goes(to) => {
+            let taken = take::take_up(image, marks, p, to);
             let noted = taken.noted;
             Turn::On(queue::put(order, tail, noted))
         }
-        Here::Cut(c) => Turn::Off(c),
-        Here::Outside => Turn::On(tail),
+        Ways::Cut(c) => Turn::Off(c),
+        Ways::Outside => Turn::On(tail),
     }
 }
 

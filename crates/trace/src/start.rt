@@ -4,8 +4,8 @@ ghost use Prim.Native.Nat.{_≤_};
 ghost use lib.ListN.{length};
 ghost use Rattle.reach.specs.Note.{note, fresh};
 ghost use Rattle.trace.specs.Start.{startedOf, startAnswer, startMarks};
-use crate::mark::Image;
 use crate::note;
+use ways::Image;
 
 pub enum Started {
     // The number of positions set.

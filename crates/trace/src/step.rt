@@ -1,23 +1,21 @@
 // A single step.
 ghost use mathlib.Core.Path.{_≡_};
-ghost use mathlib.Core.Bool.{true};
 ghost use Prim.Native.Nat.{_≤_, _<_};
 ghost use lib.ListN.{length};
 ghost use Rattle.operand.specs.Answer.{judge, after};
 ghost use Rattle.reach.specs.Tracer.{took};
 ghost use Rattle.trace.specs.Step.{damageRefusals, saidOf, steppedOf, stepAnswer, stepMarks};
-ghost use Rattle.trace.specs.Taken.{placesIn};
-ghost use Rattle.trace.specs.Tracer.{tracerOf, fitsHere, instrHere};
+ghost use Rattle.ways.specs.Ways.{placesIn};
+ghost use Rattle.trace.specs.Tracer.{tracerOf};
+ghost use Rattle.ways.specs.At.{waysHere};
 use crate::damage;
 use crate::damage::Hurt;
-use crate::here;
-use crate::here::Here;
-use crate::mark::Image;
 use crate::mark::Mark;
 use crate::take;
-use crate::take::Places;
-use instruction::Instr;
 use operand::CutOff;
+use ways::Image;
+use ways::Places;
+use ways::Ways;
 
 // The new mark, and how many positions became waiting.
 pub struct Advance {
@@ -58,17 +56,15 @@ fn count(noted: Places) -> u32
     }
 }
 
-// A step at a waiting position where this instruction stands.
-fn step_whole(image: &[u8], marks: &mut [u8], p: u32, instr: Instr) -> Stepped
-    requires { ⌜ (p < length (now image)) × (length (now image) ≤ 65536) × (length (now image) ≤ length (now marks)) ⌝ }
-    requires { ⌜ (fitsHere (now image) p ≡ true) × (instr ≡ instrHere (now image) p) ⌝ }
+// A step at a waiting position with these targets.
+fn step_whole(image: &[u8], marks: &mut [u8], p: u32, to: Places) -> Stepped
+    requires { ⌜ (p < length (now image)) × (length (now image) ≤ length (now marks)) × (placesIn to ≡ waysHere (now image) p) ⌝ }
     ensures { λ r. ⌜ (steppedOf r ≡ judge (damageRefusals (now (image .entry)) (now (marks .entry)) p) (saidOf (now (image .entry)) (now (marks .entry)) p)) × (now (marks .exit) ≡ after (judge (damageRefusals (now (image .entry)) (now (marks .entry)) p) (saidOf (now (image .entry)) (now (marks .entry)) p)) (took (tracerOf (now (image .entry))) (now (marks .entry)) p) (now (marks .entry))) ⌝ }
 {
-    let ways = take::ways_at(image, p, instr);
-    if let Hurt::At(q) = damage::find_damage(image, marks, p, ways) {
+    if let Hurt::At(q) = damage::find_damage(image, marks, p, to) {
         return Stepped::Damaged(q);
     }
-    let taken = take::take_up(image, marks, p, ways);
+    let taken = take::take_up(image, marks, p, to);
     let noted = taken.noted;
     Stepped::Traced(Advance::new(taken.mark, count(noted)))
 }
@@ -95,9 +91,9 @@ pub fn step(image: &[u8], marks: &mut [u8], p: u32) -> Stepped
     if mark != Mark::WAITING {
         return Stepped::NotWaiting(mark);
     }
-    match here::instr_at(image, p) {
-        Here::Whole(i) => step_whole(image, marks, p, i),
-        Here::Cut(c) => Stepped::Cut(c),
-        Here::Outside => Stepped::NotWaiting(0),
+    match ways::ways_at(image, p) {
+        Ways::Goes(to) => step_whole(image, marks, p, to),
+        Ways::Cut(c) => Stepped::Cut(c),
+        Ways::Outside => Stepped::NotWaiting(0),
     }
 }

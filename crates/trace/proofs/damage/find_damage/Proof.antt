@@ -9,9 +9,9 @@ use native.Mathlib.Omega.{arith}
 use borrow.Author.Needs.{needs}
 use borrow.Author.Tests.{lt-ltb, le-ltb}
 use lib.ListN.{length}
-use Rattle.trace.specs.Tracer.{flashHere}
+use Rattle.ways.specs.At.{flashHere}
 use Rattle.trace.proofs.Damages.{before-hurt, exempted, by-ways, judged}
-use Rattle.trace.proofs.Jmpf.{two-before}
+use Rattle.ways.proofs.Jmpf.{two-before}
 use Rattle.trace.proofs.damage.find_damage.Statement.{statement}
 use Rattle.trace.proofs.damage.find_damage.Tie as tie
 

@@ -5,8 +5,8 @@ use mathlib.Core.List.{List}
 use Prim.Native.Nat.{ℕ}
 use borrow.Author.Needs.{needs}
 use Rattle.operand.specs.Answer.{Answer}
-use Rattle.trace.specs.Taken.{placesIn}
-use Rattle.trace.specs.declared.take.Places.{Places}
+use Rattle.ways.specs.Ways.{placesIn}
+use Rattle.ways.specs.declared.place.Places.{Places}
 use Rattle.trace.proofs.Damages.{judged, hurt-first, sound-first, sound-end}
 use Rattle.trace.proofs.damage.hurt_all.Statement.{statement}
 use Rattle.trace.proofs.damage.hurt_all.Tie as tie

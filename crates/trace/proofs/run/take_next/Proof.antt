@@ -6,49 +6,45 @@ use mathlib.Core.List.{List}
 use Prim.Native.Nat.{ℕ}
 use borrow.Author.Needs.{needs}
 use lib.ListN.{length}
-use Rattle.trace.specs.Tracer.{fitsHere, instrHere}
+use Rattle.ways.specs.Ways.{placesIn}
+use Rattle.ways.specs.At.{fitsHere, waysHere}
 use Rattle.trace.proofs.Queueing.{taken-put, room-for}
-use Rattle.trace.proofs.Stepping.{here-whole, here-cut, never-outside}
+use Rattle.ways.proofs.WaysAre.{goes-whole, goes-cut, never-outside}
 use Rattle.trace.proofs.Turns.{turned-on, turned-off}
 use Rattle.trace.proofs.run.take_next.Statement.{statement}
 use Rattle.trace.proofs.run.take_next.Tie as tie
 
-abbrev start : tie.After-instr-at → tie.Start
+abbrev start : tie.After-ways-at → tie.Start
 start c = c .before .before .before .before
 
-abbrev image : tie.After-instr-at → List ℕ
+abbrev image : tie.After-ways-at → List ℕ
 image c = start c .args .image .now
 
-abbrev p : tie.After-instr-at → ℕ
+abbrev p : tie.After-ways-at → ℕ
 p c = start c .args .p
 
-whole : (c : tie.After-i) → (fitsHere (image (c .before .before)) (p (c .before .before)) ≡ true) × (c .i .given .0 .0 ≡ instrHere (image (c .before .before)) (p (c .before .before)))
+whole : (c : tie.After-to) → (fitsHere (image (c .before .before)) (p (c .before .before)) ≡ true) × (placesIn (c .to .given .0 .0) ≡ waysHere (image (c .before .before)) (p (c .before .before)))
 whole c =
     let a = c .before .before in
-    here-whole (image a) (start a .args .marks .now) (p a) (start a .pre .0 .0) (c .i .given .0 .0) (sym (c .i .given .1) ∙ a .instr-at .ensures)
-
-ways-at-requires : tie.Need-ways-at-requires
-ways-at-requires c κs =
-    let s = start (c .before .before .before) in
-    ((s .pre .0 .0, s .pre .0 .1), whole (c .before))
+    goes-whole (image a) (p a) (start a .pre .0 .0) (start a .pre .0 .1) (c .to .given .0 .0) (sym (c .to .given .1) ∙ a .ways-at .ensures)
 
 take-up-requires : tie.Need-take-up-requires
 take-up-requires c κs =
-    let w = c .before in
-    let s = start (w .before .before .before .before) in
-    (s .pre .0 .0, s .pre .0 .2, w .ways-at .ensures)
+    let o = c .before .before in
+    let s = start (o .before .before) in
+    (s .pre .0 .0, s .pre .0 .2, whole o .1)
 
 put-requires : tie.Need-put-requires
 put-requires c κs =
     let t = c .before .before .before in
-    let s = start (t .before .before .before .before .before .before) in
+    let s = start (t .before .before .before .before .before) in
     room-for (s .args .tail) (length (s .args .order .now)) _ _ (t .take-up .ensures .noted-are) (s .pre .1)
 
 returns : tie.Need-returns
 returns c =
     let q = c .before .before in
     let t = q .before .before .before .before in
-    let i = t .before .before .before .before in
+    let i = t .before .before .before in
     let a = i .before .before in
     let s = start a in
     turned-on (image a) (s .args .marks .now) (s .args .order .now) (p a) (s .args .tail) (q .put .result) _ _ (whole i .0)
@@ -60,16 +56,16 @@ returns-2 c =
     let a = k .before .before in
     let s = start a in
     turned-off (image a) (s .args .marks .now) (s .args .order .now) (p a) (s .args .tail) (k .c .given .0 .0)
-    (here-cut (image a) (s .args .marks .now) (p a) (s .pre .0 .0) (k .c .given .0 .0) (sym (k .c .given .1) ∙ a .instr-at .ensures))
+    (goes-cut (image a) (p a) (s .pre .0 .0) (s .pre .0 .1) (k .c .given .0 .0) (sym (k .c .given .1) ∙ a .ways-at .ensures))
 
 returns-3 : tie.Need-returns-3
 returns-3 c =
     let a = c .before .before in
     let s = start a in
-    absurd (never-outside (image a) (s .args .marks .now) (p a) (s .pre .0 .0) (sym (c .enum-told .given .1) ∙ a .instr-at .ensures))
+    absurd (never-outside (image a) (p a) (s .pre .0 .0) (s .pre .0 .1) (sym (c .enum-told .given .1) ∙ a .ways-at .ensures))
 
 pub take-next-spec : {M : Type 1} → statement M
 take-next-spec =
     tie.close
-    (tie.spec (λ c κs. search needs) (λ c. search needs) ways-at-requires take-up-requires put-requires (λ c. search needs) (λ c. search needs)
+    (tie.spec (λ c κs. search needs) (λ c. search needs) take-up-requires put-requires (λ c. search needs) (λ c. search needs)
     (λ c. search needs) (λ c. search needs) returns returns-2 returns-3)

@@ -6,8 +6,9 @@ use mathlib.Core.List.{List}
 use Prim.Native.Nat.{ℕ, _<_}
 use borrow.Author.Needs.{needs}
 use lib.ListN.{length}
-use Rattle.trace.specs.Tracer.{fitsHere, instrHere}
-use Rattle.trace.proofs.Stepping.{here-whole, here-cut, never-outside}
+use Rattle.ways.specs.Ways.{placesIn}
+use Rattle.ways.specs.At.{fitsHere, waysHere}
+use Rattle.ways.proofs.WaysAre.{goes-whole, goes-cut, never-outside}
 use Rattle.trace.proofs.StepAnswers.{long, short, outside, hurt, not-waiting, cut, whole}
 use Rattle.trace.proofs.step.step.Statement.{statement}
 use Rattle.trace.proofs.step.step.Tie as tie
@@ -52,26 +53,26 @@ returns-5 c =
     not-waiting (image f) (marks f) (p f) (f .if1 .left) (e .if2 .left) (g .if3 .left) (h .if4 .left) (c .if5 .taken)
 
 -- the tests passed where the instruction is read
-abbrev third : tie.After-instr-at → tie.Else3
+abbrev third : tie.After-ways-at → tie.Else3
 third c = c .before .before .before .before
 
-abbrev first : tie.After-instr-at → tie.Else1
+abbrev first : tie.After-ways-at → tie.Else1
 first c = third c .before .before
 
-inside : (c : tie.After-instr-at) → p (first c) < length (image (first c))
+inside : (c : tie.After-ways-at) → p (first c) < length (image (first c))
 inside c = third c .if3 .left
 
--- what stands at p, where it is whole
-found : (c : tie.After-i) → (fitsHere (image (first (c .before .before))) (p (first (c .before .before))) ≡ true) × (c .i .given .0 .0 ≡ instrHere (image (first (c .before .before))) (p (first (c .before .before))))
+-- where control goes from p, where its instruction is whole
+found : (c : tie.After-to) → (fitsHere (image (first (c .before .before))) (p (first (c .before .before))) ≡ true) × (placesIn (c .to .given .0 .0) ≡ waysHere (image (first (c .before .before))) (p (first (c .before .before))))
 found c =
     let a = c .before .before in
-    here-whole (image (first a)) (marks (first a)) (p (first a)) (inside a) (c .i .given .0 .0) (sym (c .i .given .1) ∙ a .instr-at .ensures)
+    goes-whole (image (first a)) (p (first a)) (inside a) (first a .if1 .left) (c .to .given .0 .0) (sym (c .to .given .1) ∙ a .ways-at .ensures)
 
 step-whole-requires : tie.Need-step-whole-requires
 step-whole-requires c κs =
     let i = c .before .before in
     let a = i .before .before in
-    ((inside a, first a .if1 .left, third a .before .if2 .left), found i)
+    (inside a, third a .before .if2 .left, found i .1)
 
 returns-6 : tie.Need-returns-6
 returns-6 c =
@@ -87,13 +88,13 @@ returns-7 c =
     let a = k .before .before in
     let f = first a in
     cut (image f) (marks f) (p f) (f .if1 .left) (third a .before .if2 .left) (inside a) (a .before .if5 .left) (k .c .given .0 .0)
-    (here-cut (image f) (marks f) (p f) (inside a) (k .c .given .0 .0) (sym (k .c .given .1) ∙ a .instr-at .ensures))
+    (goes-cut (image f) (p f) (inside a) (f .if1 .left) (k .c .given .0 .0) (sym (k .c .given .1) ∙ a .ways-at .ensures))
 
 returns-8 : tie.Need-returns-8
 returns-8 c =
     let a = c .before .before in
     let f = first a in
-    absurd (never-outside (image f) (marks f) (p f) (inside a) (sym (c .enum-told .given .1) ∙ a .instr-at .ensures))
+    absurd (never-outside (image f) (p f) (inside a) (f .if1 .left) (sym (c .enum-told .given .1) ∙ a .ways-at .ensures))
 
 pub step-spec : {M : Type 1} → statement M
 step-spec =

@@ -8,7 +8,7 @@ use Rattle.trace.proofs.step.step_whole.Statement.{statement}
 use Rattle.trace.proofs.step.step_whole.Tie as tie
 
 abbrev start : tie.After-find-damage → tie.Start
-start c = c .before .before .before .before .before
+start c = c .before .before .before .before
 
 returns : tie.Need-returns
 returns c =
@@ -29,5 +29,5 @@ returns-2 c =
 pub step-whole-spec : {M : Type 1} → statement M
 step-whole-spec =
     tie.close
-    (tie.spec (λ c κs. search needs) (λ c κs. search needs) (λ c. search needs) (λ c. search needs) returns (λ c. search needs) (λ c κs. search needs)
+    (tie.spec (λ c κs. search needs) (λ c. search needs) (λ c. search needs) returns (λ c. search needs) (λ c κs. search needs)
     (λ c κs. search needs) (λ c κs. search needs) (λ c. search needs) returns-2)

@@ -6,8 +6,8 @@ use Prim.Native.Nat.{ℕ}
 use borrow.Author.Needs.{needs}
 use Rattle.reach.specs.Note.{note, fresh}
 use Rattle.reach.proofs.Note.{note-nil, fresh-nil}
-use Rattle.trace.specs.Taken.{placesIn}
-use Rattle.trace.specs.declared.take.Places.{Places}
+use Rattle.ways.specs.Ways.{placesIn}
+use Rattle.ways.specs.declared.place.Places.{Places}
 use Rattle.trace.proofs.take.note_all.Statement.{statement}
 use Rattle.trace.proofs.take.note_all.Tie as tie
 

@@ -1,0 +1,65 @@
+-- The address that a field names is the one that it was resolved from, at every kind.
+-- Assumes nothing.
+use mathlib.Core.Path.{_≡_, refl, ap, sym, _∙_}
+use mathlib.Core.Bool.{false}
+use mathlib.Core.List.{List, _++_}
+use Prim.Native.Nat.{ℕ, _+_, _*_, _-_, _%_, _≤_}
+use native.Mathlib.Nat.{add-mod-mod}
+use native.Mathlib.Omega.{arith}
+use borrow.Author.Tests.{eqb-true, not-false}
+use lib.IntN.{ℤ, pos, natAbs, _+ℤ_, _-ℤ_, +ℤ-comm, -ℤ-+ℤ-cancel}
+use Rattle.operand.specs.Answer.{accepted, Refusal, judge}
+use Rattle.operand.specs.declared.kind.Kind.{Kind}
+use Rattle.operand.specs.declared.kind.Kind.the-variants.{Absent, Immediate, Direct, Register, BitNumber, Page, Far, Short, Long}
+use Rattle.operand.proofs.Sign.{natural}
+use Rattle.instruction.specs.Encode.{codeOf}
+use Rattle.instruction.specs.Resolve.{noAddress, top, wrapped, operandRefusals, fieldOf}
+use Rattle.instruction.proofs.Resolving.{address-is, wraps-is}
+use Rattle.instruction_laws.specs.PartsMade.{used}
+use Rattle.instruction_laws.proofs.Accepting.{passed}
+use Rattle.ways.specs.Targets.{addressOf}
+
+-- a sum that wraps undoes a difference that wraps
+around : (n base r : ℕ) → n ≤ 65535 → 1 ≤ base → (r + base % 65536) % 65536 ≡ n % 65536 → (base - 1 + (r + 1) % 65536) % 65536 ≡ n
+around n base r h low e =
+    let s : base - 1 + (r + 1) ≡ r + base = omega arith in
+    let m : n % 65536 ≡ n = omega arith in
+    add-mod-mod (base - 1) (r + 1) 65536 ∙ ap (λ (x : ℕ). x % 65536) s ∙ sym (add-mod-mod r base 65536) ∙ e ∙ m
+
+module _ (base : ℕ) (z : ℤ) (inside : noAddress z ≡ false) where
+  -- Jmp, Call: an address on the base's page is that page with its low twelve bits
+  page-back : top (natAbs z) ≡ top base → pos (top base * 4096 + natAbs z % 4096) ≡ z
+  page-back e =
+      let v = natural 65535 z inside in
+      let h : natAbs z ≤ 65535 = v .most in
+      let n : top base * 4096 + natAbs z % 4096 ≡ natAbs z = rw (← e) (omega arith) in
+      ap pos n ∙ sym (v .is)
+
+  -- Brf, Callr
+  long-back : 1 ≤ base → base ≤ 65536 → pos ((base - 1 + wrapped ((z -ℤ pos base) +ℤ pos 1)) % 65536) ≡ z
+  long-back low high =
+      let v = natural 65535 z inside in
+      let c : codeOf z ≡ natAbs z = address-is z inside in
+      let h : codeOf z ≤ 65535 = rw c (v .most) in
+      let r : ℕ = (codeOf z + (65536 - base % 65536)) % 65536 in
+      let f : (r + base % 65536) % 65536 ≡ codeOf z % 65536 = omega arith in
+      let g : (r + 1) % 65536 ≡ wrapped ((z -ℤ pos base) +ℤ pos 1) = wraps-is z base r inside high (omega arith) f in
+      ap pos (rw (← g) (around (codeOf z) base r h low f) ∙ c) ∙ sym (v .is)
+
+-- where the refusals of an operand and those behind them let a call through, its field names the address, and those behind let it through
+module _ {A : Type 0} (base n : ℕ) (z : ℤ) (rs : List Refusal) (a : A) {b : A} (low : 1 ≤ base) (high : base ≤ 65536) where
+  pub address-back : (k : Kind) → judge (operandRefusals base n k z ++ rs) a ≡ accepted b → (addressOf base k (used k (fieldOf base k z)) ≡ used k z) × (judge rs a ≡ accepted b)
+  unfolding operandRefusals fieldOf addressOf
+  address-back Absent e = (refl, e)
+  address-back Immediate e = (refl, passed _ _ _ e .1)
+  address-back Direct e = (refl, passed _ _ _ e .1)
+  address-back Register e = (refl, passed _ _ _ e .1)
+  address-back BitNumber e = (refl, passed _ _ _ e .1)
+  address-back Page e =
+      let p = passed _ _ _ e in
+      let q = passed _ _ _ (p .1) in
+      (page-back base z (p .0) (eqb-true _ _ (not-false _ (q .0))), q .1)
+  address-back Far e = (refl, passed _ _ _ e .1)
+  address-back Short e =
+      (+ℤ-comm (pos base) (z -ℤ pos base) ∙ -ℤ-+ℤ-cancel z (pos base), passed _ _ _ (passed _ _ _ e .1) .1)
+  address-back Long e = let p = passed _ _ _ e in (long-back base z (p .0) low high, p .1)

@@ -1,0 +1,103 @@
+-- Demand 3 for images: accepted steps take positions up, so it is a corollary of the theory of tracing in any order.
+-- Assumes nothing.
+use Prim.Native.Nat.{ℕ, _<_, _≤_}
+use native.Mathlib.Omega.{arith}
+use mathlib.Core.Path.{_≡_, ap, subst, _∙_}
+use mathlib.Core.Logic.{inl, inr}
+use mathlib.Core.List.{List}
+use lib.ListN.{length, getD}
+use borrow.Author.Tests.{ltb-false}
+use Rattle.operand.specs.Answer.{Answer, accepted, after}
+use Rattle.instruction_laws.proofs.Accepting.{passed}
+use Rattle.reach.specs.Mark.{cleared, IsTraced}
+use Rattle.reach.specs.Note.{note}
+use Rattle.reach.specs.Takes.{Takes, stay, up, ToEnd}
+use Rattle.reach.specs.Tracer.{took}
+use Rattle.reach.proofs.Cleared.{length-cleared, cleared-at}
+use Rattle.reach.proofs.Note.{length-note}
+use Rattle.reach.proofs.NoteAt.{Noticed, as-before, newly, noticed}
+use Rattle.reach.proofs.Order.{any-order, one-final, cleared-base}
+use Rattle.reach.proofs.Run.{run-final}
+use Rattle.reach.proofs.Takes.{takes-bound}
+use Rattle.reach.proofs.Took.{Moved, itself, kept, called, moved, mark-traced, length-took}
+use Rattle.trace_laws.specs.ClaimsImages as claims
+use Rattle.trace.specs.Run.{outcomeOf}
+use Rattle.trace.specs.Start.{startAnswer, startMarks}
+use Rattle.trace.specs.Step.{saidOf}
+use Rattle.trace.specs.Tracer.{tracerOf}
+use Rattle.trace_laws.proofs.Accepted.{went, Sound, ready-accepted}
+use Rattle.trace_laws.proofs.Unflashed.{plain}
+
+-- accepted steps take positions up
+takes : (image : List ℕ) {m ps m′ : List ℕ} → claims.Steps image m ps m′ → Takes (tracerOf image) m ps m′
+takes image claims.stay = stay
+takes image (claims.further {m} {m′} {ps} {p} {s} e rest) =
+    let w = went image m p s e in up (w .ready) (subst (λ (x : List ℕ). Takes (tracerOf image) x ps m′) (w .marks) (takes image rest))
+
+-- marks that start and steps leave are not damaged
+module _ (image : List ℕ) where
+  traced-small : (v : ℕ) → IsTraced v → v ≤ 3
+  traced-small v (inl e) = omega arith
+  traced-small v (inr e) = omega arith
+
+  took-sound : (m : List ℕ) (p : ℕ) → length image ≤ length m → p < length image → Sound image m → Sound image (took (tracerOf image) m p)
+  took-sound m p l h S q k = by (moved (tracerOf image) m p q l h)
+    where
+      by : Moved (tracerOf image) m p q → getD (took (tracerOf image) m p) q 0 ≤ 3
+      by (itself e f) = rw f (traced-small _ (mark-traced (tracerOf image) m p))
+      by (kept e f g) = rw g (S q k)
+      by (called e f g i) = rw i (omega arith)
+
+  start-sound : (marks entries : List ℕ) → length image ≤ length marks → Sound image (note (length image) entries (cleared (length image) marks))
+  start-sound marks entries l q k = by (noticed (length image) entries (cleared (length image) marks) q (omega (arith, length-cleared (length image) marks l)))
+    where
+      by : Noticed (length image) entries (cleared (length image) marks) q → getD (note (length image) entries (cleared (length image) marks)) q 0 ≤ 3
+      by (as-before f e) = rw (e ∙ cleared-at (length image) marks q k) (omega arith)
+      by (newly f g e) = rw e (omega arith)
+
+  -- along takings
+  sound-along : {m ps m′ : List ℕ} → Takes (tracerOf image) m ps m′ → length image ≤ length m → Sound image m → (length image ≤ length m′) × Sound image m′
+  sound-along stay l S = (l, S)
+  sound-along (up {m} {m′} {ps} {p} r rest) l S =
+      sound-along rest (omega (arith, length-took (tracerOf image) m p)) (took-sound m p l (r .inside) S)
+
+-- an accepted start
+pub record Began (image marks entries : List ℕ) : Type 0 where
+  pub small : length image ≤ 65536
+  pub room : length image ≤ length marks
+  pub marks-are : startMarks image marks entries ≡ note (length image) entries (cleared (length image) marks)
+
+began : (image marks entries : List ℕ) (k : ℕ) → startAnswer image marks entries ≡ accepted k → Began image marks entries
+unfolding startAnswer startMarks
+began image marks entries k e =
+    let a = passed _ _ _ e in
+    let b = passed _ _ _ (a .1) in
+    record {
+      small = ltb-false 65536 (length image) (a .0);
+      room = ltb-false (length marks) (length image) (b .0);
+      marks-are = ap (λ (r : Answer ℕ). after r (note (length image) entries (cleared (length image) marks)) marks) e;
+    }
+
+to-end : (image marks entries m : List ℕ) → claims.StepsToEnd image marks entries m → ToEnd (tracerOf image) (cleared (length image) marks) entries m
+to-end image marks entries m T =
+    let s = began image marks entries (T .count) (T .started) in
+    let t : Takes (tracerOf image) (note (length image) entries (cleared (length image) marks)) (T .order) m = subst (λ (x : List ℕ). Takes (tracerOf image) x (T .order) m) (s .marks-are) (takes image (T .steps)) in
+    let l : length image ≤ length (note (length image) entries (cleared (length image) marks)) = omega (arith, length-note (length image) entries (cleared (length image) marks), length-cleared (length image) marks (s .room), s .room) in
+    let z = sound-along image t l (start-sound image marks entries (s .room)) in
+    record { order = T .order; takes = t; ended = λ p r. T .still p (saidOf image m p) (ready-accepted image m (z .1) (s .small) (z .0) p r) }
+
+pub image-any-order : claims.ImageAnyOrder
+image-any-order image marks entries m B C T =
+    any-order (tracerOf image) (plain image B C) (cleared (length image) marks) entries m (cleared-base (tracerOf image) marks (began image marks entries (T .count) (T .started) .room)) (to-end image marks entries m T)
+
+pub image-same-marks : claims.ImageSameMarks
+image-same-marks image marks entries m m′ B C T U =
+    one-final (tracerOf image) (cleared (length image) marks) entries m m′ (image-any-order image marks entries m B C T) (image-any-order image marks entries m′ B C U)
+
+pub image-steps-bound : claims.ImageStepsBound
+image-steps-bound image m m′ ps l S = takes-bound (tracerOf image) m m′ ps l (takes image S)
+
+pub image-run-final : claims.ImageRunFinal
+unfolding outcomeOf
+image-run-final image marks entries limit B C l e =
+    run-final limit (tracerOf image) entries (cleared (length image) marks) (plain image B C) (cleared-base (tracerOf image) marks l) e

@@ -1,0 +1,41 @@
+-- resolve and targets undo each other: what resolve makes fits and has the form of what was written, so targets accepts it, and its address
+-- is the one that was written.
+-- Assumes nothing.
+use mathlib.Core.Path.{_≡_, ap, sym, _∙_}
+use Prim.Native.Nat.{ℕ, _+_, _-_, _≤_}
+use native.Mathlib.Omega.{arith}
+use lib.IntN.{pos}
+use Rattle.operand.specs.Answer.{accepted}
+use Rattle.instruction.specs.Encode.{formIn}
+use Rattle.instruction.specs.Flow.{flowOf}
+use Rattle.instruction.specs.Forms.{formAt, sizeOf}
+use Rattle.instruction.specs.Parts.{partsOf}
+use Rattle.instruction.specs.Resolve.{resolveAnswer}
+use Rattle.instruction.specs.declared.flow.Flow.{Flow}
+use Rattle.instruction.specs.declared.instr.Instr.{Instr}
+use Rattle.trace_laws.specs.ClaimsTargets.{lastIn, TargetsUndoResolve}
+use Rattle.ways.specs.Targets.{nextOf, byFlow, targetsIn, targetsAnswer}
+use Rattle.ways.proofs.AskedAlone.{found}
+use Rattle.trace_laws.proofs.ResolvedAddress.{high, address}
+use Rattle.instruction_laws.proofs.ResolvedFits.{resolved-fits}
+
+module _ (i : Instr) (base : ℕ) (j : Instr) (room : sizeOf (formIn i) ≤ base) (e : resolveAnswer i base ≡ accepted j) where
+  abbrev position : ℕ
+  position = base - sizeOf (formIn i)
+
+  next : nextOf position j ≡ base
+  next = ap (λ (n : ℕ). position + sizeOf (formAt n)) (resolved-fits i base j e .form) ∙ omega arith
+
+  ways : targetsIn base j ≡ byFlow (flowOf (partsOf i .form)) (lastIn i) (pos base)
+  unfolding targetsIn
+  ways = rw (resolved-fits i base j e .form, address i base j room e)
+
+  undo : (f : Flow) → flowOf (partsOf i .form) ≡ f → targetsAnswer position j ≡ accepted (byFlow f (lastIn i) (pos base))
+  undo f p =
+      sym (found position j (rw next (high i base j room e)) (sym (resolved-fits i base j e .fit)))
+      ∙ ap (λ (n : ℕ). accepted (targetsIn n j)) next ∙ ap accepted ways
+      ∙ ap (λ (g : Flow). accepted (byFlow g (lastIn i) (pos base))) p
+
+pub targets-undo-resolve : TargetsUndoResolve
+targets-undo-resolve =
+    record { jump = λ i base j p room e. undo i base j room e _ p; branch = λ i base j p room e. undo i base j room e _ p }

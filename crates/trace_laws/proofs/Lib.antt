@@ -1,0 +1,9 @@
+pub mod ClaimsTargetsApart
+pub mod AddressBack
+pub mod ResolvedAddress
+pub mod ClaimsTargetsUndo
+pub mod ClaimsStepsApart
+pub mod Accepted
+pub mod Unflashed
+pub mod ClaimsImagesOrder
+pub mod ClaimsImagesEnd

@@ -1,0 +1,31 @@
+-- What is claimed of targets. Document 01, 'Targets', 'Resolving operands' and 'Forms by place'.
+-- Assumes nothing.
+use Prim.Native.Nat.{ℕ, _-_, _≤_}
+use mathlib.Core.List.{[], _∷_}
+use mathlib.Core.Path.{_≡_}
+use lib.IntN.{ℤ, pos}
+use Rattle.operand.specs.Answer.{accepted, Apart}
+use Rattle.instruction.specs.Encode.{formIn}
+use Rattle.instruction.specs.Flow.{flowOf}
+use Rattle.instruction.specs.Forms.{sizeOf}
+use Rattle.instruction.specs.Parts.{partsOf}
+use Rattle.instruction.specs.Resolve.{resolveAnswer}
+use Rattle.instruction.specs.declared.flow.Flow.the-variants.{Jump, Branch}
+use Rattle.instruction.specs.declared.instr.Instr.{Instr}
+use Rattle.ways.specs.Targets.{lastOf, targetsOf, targetsAnswer}
+
+-- the number and values of the answers tell all cases and all values apart
+abbrev pub TargetsApart : Type 0
+TargetsApart = Apart targetsOf
+
+-- the number that stands in the last operand of an instruction: of a jump, branch or call as written, the address
+unfoldable pub lastIn : Instr → ℤ
+lastIn i = lastOf (formIn i .shape) (partsOf i .a) (partsOf i .b) (partsOf i .c)
+
+-- resolve and targets undo each other: where resolve makes j of the instruction i as written, for a base that is at least the size, the
+-- address written in i is the first target of j at the position whose next is the base
+pub record TargetsUndoResolve : Type 0 where
+  -- Br, Brf, Jmp, Jmpf: it alone
+  pub jump : (i : Instr) (base : ℕ) (j : Instr) → flowOf (partsOf i .form) ≡ Jump → sizeOf (formIn i) ≤ base → resolveAnswer i base ≡ accepted j → targetsAnswer (base - sizeOf (formIn i)) j ≡ accepted (lastIn i ∷ [])
+  -- the conditional branches and the calls: it, then next
+  pub branch : (i : Instr) (base : ℕ) (j : Instr) → flowOf (partsOf i .form) ≡ Branch → sizeOf (formIn i) ≤ base → resolveAnswer i base ≡ accepted j → targetsAnswer (base - sizeOf (formIn i)) j ≡ accepted (lastIn i ∷ pos base ∷ [])

@@ -1,0 +1,3 @@
+pub mod ClaimsTargets
+pub mod ClaimsSteps
+pub mod ClaimsImages

@@ -1,0 +1,10 @@
+pub mod Ands
+pub mod ReadBack
+pub mod InRange
+pub mod ShortSum
+pub mod LastOperand
+pub mod AskedAlone
+pub mod HereIs
+pub mod Jmpf
+pub mod Within
+pub mod WaysAre

@@ -1,0 +1,71 @@
+-- The instruction at a position fits its fields and its place, and where control goes from it are the places of its targets.
+-- Assumes nothing.
+use mathlib.Core.Path.{_≡_, ap, _∙_}
+use mathlib.Core.Bool.{true}
+use mathlib.Core.List.{List, [], _∷_, map}
+use Prim.Native.Nat.{ℕ, _+_, _<_, _≤_}
+use native.Mathlib.Omega.{arith}
+use lib.IntN.{ℤ}
+use lib.ListN.{length, getD, drop}
+use lib.Seq.{getD-drop}
+use borrow.Author.Tests.{leb-true}
+use Rattle.operand.specs.Answer.{accepted}
+use Rattle.instruction.specs.Decode.{decodeAnswer, fieldsIn}
+use Rattle.instruction.specs.Encode.{formIn, fitAnswer}
+use Rattle.instruction.specs.Forms.{formAt, sizeOf}
+use Rattle.instruction.specs.declared.instr.Instr.{Instr}
+use Rattle.instruction.specs.declared.instr.Parts.{Parts}
+use Rattle.instruction.proofs.Shapes.{size-range}
+use Rattle.instruction_laws.proofs.EncodeDecoded.{encode-decoded}
+use Rattle.instruction_laws.proofs.Matching.{one-pattern}
+use Rattle.instruction_laws.proofs.PartsMade.{parted}
+use Rattle.ways.specs.Ways.{placesOf}
+use Rattle.ways.specs.Targets.{targetsIn, targetsOf}
+use Rattle.ways.specs.At.{formHere, sizeHere, fitsHere, instrHere, waysHere, placeOf}
+use Rattle.ways.specs.declared.target.Targets.{Targets}
+use Rattle.ways.specs.declared.target.Targets.the-variants.{Nowhere, One, Two, PastEnd, Unfit}
+use Rattle.ways.proofs.HereIs.{answer}
+
+-- every element of an image is a byte
+abbrev pub Small : List ℕ → Type 0
+Small image = (n : ℕ) → getD image n 0 < 256
+
+-- the instruction at p: its size is the form's, its fields fit, and it ends within the image
+pub record Within (image : List ℕ) (p : ℕ) (i : Instr) : Type 0 where
+  pub size : sizeOf (formIn i) ≡ sizeHere image p
+  pub fit : fitAnswer i ≡ accepted tt
+  pub least : 1 ≤ sizeHere image p
+  pub most : p + sizeHere image p ≤ length image
+
+pub form-here : (image : List ℕ) (p : ℕ) → Small image → formHere image p < 70
+form-here image p b = one-pattern (getD image p 0) (b p) .form
+
+pub size-here : (image : List ℕ) (p : ℕ) → Small image → sizeOf (formIn (instrHere image p)) ≡ sizeHere image p
+unfolding instrHere fieldsIn
+size-here image p b =
+    ap (λ (v : Parts). sizeOf (formAt (v .form))) (parted (fieldsIn (formHere image p) (drop p image)) (form-here image p b))
+
+pub within : (image : List ℕ) (p : ℕ) → Small image → p < length image → fitsHere image p ≡ true → Within image p (instrHere image p)
+unfolding fitsHere
+within image p b h f =
+    let s : List ℕ = drop p image in
+    let e : decodeAnswer s ≡ accepted (instrHere image p) = answer image p h true f in
+    record {
+      size = size-here image p b;
+      fit = encode-decoded s (λ n k. rw (getD-drop p image n 0) (b (p + n))) (instrHere image p) e .fit;
+      least = size-range (formHere image p) (form-here image p b) .0;
+      most = leb-true (p + sizeHere image p) (length image) f;
+    }
+
+-- the positions that targets name are the places of the targets
+pub places-are : (w : Targets) (ts : List ℤ) → targetsOf w ≡ accepted ts → placesOf w ≡ map placeOf ts
+places-are Nowhere ts e = let f : [] ≡ ts = cc in ap (map placeOf) f
+places-are (One a) ts e = let f : a ∷ [] ≡ ts = cc in ap (map placeOf) f
+places-are (Two a b) ts e = let f : a ∷ b ∷ [] ≡ ts = cc in ap (map placeOf) f
+places-are (PastEnd n) ts e = let z : _≡_ {A = ℕ} 0 1 = cc in absurd (omega arith)
+places-are (Unfit m) ts e = let z : _≡_ {A = ℕ} 0 1 = cc in absurd (omega arith)
+
+-- and the targets at the instruction's end are those of the position
+pub ways-are : (image : List ℕ) (p : ℕ) (i : Instr) → i ≡ instrHere image p → (n : ℕ) → n ≡ p + sizeHere image p → (w : Targets) → targetsOf w ≡ accepted (targetsIn n i) → placesOf w ≡ waysHere image p
+unfolding waysHere
+ways-are image p i f n g w t = rw (← f, ← g) (places-are w (targetsIn n i) t)

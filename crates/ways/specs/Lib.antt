@@ -1,0 +1,4 @@
+pub mod Targets
+pub mod At
+pub mod Here
+pub mod Ways

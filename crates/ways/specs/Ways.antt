@@ -1,0 +1,40 @@
+-- Where control goes from a position: at most two positions. Document 01, 'Targets' and 'Marks and steps'.
+-- Assumes nothing.
+use Prim.Native.Nat.{ℕ}
+use mathlib.Core.Bool.{cond, _&&_}
+use mathlib.Core.List.{List, [], _∷_}
+use lib.Dec.{ltb, leb}
+use lib.ListN.{length, getD}
+use Rattle.ways.specs.At.{fitsHere, placeOf, waysHere}
+use Rattle.ways.specs.declared.place.Places.{Places}
+use Rattle.ways.specs.declared.place.Places.the-variants.{Nothing, First, Both}
+use Rattle.ways.specs.declared.place.Ways.{Ways}
+use Rattle.ways.specs.declared.place.Ways.the-variants.{Goes, Cut, Outside}
+use Rattle.ways.specs.declared.target.Targets.{Targets}
+use Rattle.ways.specs.declared.target.Targets.the-variants.{Nowhere, One, Two, PastEnd, Unfit}
+
+-- these positions, in their order
+abbrev pub placesIn : Places → List ℕ
+placesIn Nothing = []
+placesIn (First a) = a ∷ []
+placesIn (Both a b) = a ∷ b ∷ []
+
+-- the positions that targets name, in their order
+abbrev pub placesOf : Targets → List ℕ
+placesOf Nowhere = []
+placesOf (One a) = placeOf a ∷ []
+placesOf (Two a b) = placeOf a ∷ placeOf b ∷ []
+placesOf (PastEnd n) = []
+placesOf (Unfit m) = []
+
+-- the first two of these positions
+abbrev pub placesNamed : List ℕ → Places
+placesNamed [] = Nothing
+placesNamed (a ∷ []) = First a
+placesNamed (a ∷ b ∷ ts) = Both a b
+
+-- the positions that the targets at p name, where the instruction there is whole; a position is inside an image of at most 65,536 bytes
+unfoldable pub waysOf : List ℕ → ℕ → Ways
+waysOf image p =
+    cond (ltb p (length image) && leb (length image) 65536)
+    (cond (fitsHere image p) (Goes (placesNamed (waysHere image p))) (Cut (record { position = p; first = getD image p 0 }))) Outside

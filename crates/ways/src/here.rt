@@ -1,0 +1,28 @@
+// What stands at a position of an image.
+ghost use mathlib.Core.Path.{_≡_};
+ghost use Rattle.ways.specs.Here.{hereOf};
+use instruction::Decoded;
+use instruction::Instr;
+use operand::CutOff;
+
+pub enum Here {
+    Whole(Instr),
+    // Cut off by the end.
+    Cut(CutOff),
+    // The position is not inside.
+    Outside,
+}
+
+pub fn instr_at(image: &[u8], p: u32) -> Here
+    ensures { λ r. ⌜ r ≡ hereOf (now (image .entry)) p ⌝ }
+{
+    let at = p as usize;
+    if image.len() <= at {
+        return Here::Outside;
+    }
+    match Instr::decode(&image[at..]) {
+        Decoded::Found(i) => Here::Whole(i),
+        Decoded::Cut(c) => Here::Cut(CutOff::new(p, c.first)),
+        Decoded::Nothing => Here::Outside,
+    }
+}

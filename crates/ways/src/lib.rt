@@ -1,0 +1,19 @@
+// Where control goes from a position of an image: the instruction there, its targets, and the bytes of the flash exception.
+// Ported from src/disasm.rs of wtetzner/waterbear (Apache-2.0, see NOTICE), and changed: targets are signed numbers.
+mod address;
+pub mod alone;
+pub mod flash;
+pub mod here;
+pub mod image;
+pub mod place;
+pub mod target;
+
+pub use alone::targets;
+pub use flash::is_flash;
+pub use here::Here;
+pub use here::instr_at;
+pub use image::Image;
+pub use place::Places;
+pub use place::Ways;
+pub use place::ways_at;
+pub use target::Targets;
