@@ -10,7 +10,6 @@ ghost use Rattle.trace.specs.Step.{damaged, damages, damageRefusals, hur
 ghost use Rattle.ways.specs.Ways.{placesIn};
 ghost use Rattle.ways.specs.At.{waysHere};
 use crate::mark::Mark;
-use crate::take;
 use ways::Places;
 
 pub enum Hurt {
@@ -69,7 +68,7 @@ pub fn find_damage(image: &[u8], marks: &[u8], p: u32, to: Places) -> Hurt
             return Hurt::At(p - 2);
         }
         // Under the exception the targets are not read.
-        if take::is_traced(before) {
+        if Mark::is_traced(before) {
             return Hurt::Sound;
         }
     }

@@ -1,5 +1,6 @@
 // Marks, one byte for each position.
 ghost use mathlib.Core.Path.{_≡_};
+ghost use Rattle.reach.specs.Mark.{tracedMark};
 
 pub struct Mark {
     pub value: u8,
@@ -20,5 +21,15 @@ impl Mark {
         ensures { λ r. ⌜ r .value ≡ value ⌝ }
     {
         Self { value }
+    }
+
+    // Whether a mark says traced.
+    pub fn is_traced(mark: u8) -> bool
+        ensures { λ r. ⌜ r ≡ tracedMark mark ⌝ }
+    {
+        if mark == Self::TRACED {
+            return true;
+        }
+        mark == Self::FLASH
     }
 }

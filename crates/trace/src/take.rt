@@ -4,11 +4,11 @@ ghost use Prim.Native.Nat.{_≤_, _<_};
 ghost use lib.ListN.{length};
 ghost use Rattle.reach.specs.Note.{note, fresh};
 ghost use mathlib.Core.List.{[], _∷_};
-ghost use Rattle.reach.specs.Mark.{tracedMark};
 ghost use Rattle.ways.specs.Ways.{placesIn};
 ghost use Rattle.trace.specs.Taken.{TakenUp};
-ghost use Rattle.trace.specs.Tracer.{tracerOf, exemptHere};
+ghost use Rattle.trace.specs.Tracer.{tracerOf};
 ghost use Rattle.ways.specs.At.{waysHere};
+use crate::exempt;
 use crate::mark::Mark;
 use crate::note;
 use ways::Places;
@@ -16,27 +16,6 @@ use ways::Places;
 pub struct Taken {
     pub mark: u8,
     pub noted: Places,
-}
-
-// Whether a mark says traced.
-pub fn is_traced(mark: u8) -> bool
-    ensures { λ r. ⌜ r ≡ tracedMark mark ⌝ }
-{
-    if mark == Mark::TRACED {
-        return true;
-    }
-    mark == Mark::FLASH
-}
-
-// The exception: a Jmpf with B8 0D before it, where the position before it is traced.
-fn is_exempt(image: &[u8], marks: &[u8], p: u32) -> bool
-    requires { ⌜ (p < length (now image)) × (length (now image) ≤ length (now marks)) ⌝ }
-    ensures { λ r. ⌜ r ≡ exemptHere (now (image .entry)) (now (marks .entry)) p ⌝ }
-{
-    if ways::is_flash(image, p) {
-        return is_traced(marks[p as usize - 2]);
-    }
-    false
 }
 
 pub fn note_place(marks: &mut [u8], n: usize, t: u32) -> Places
@@ -82,7 +61,7 @@ pub fn take_up(image: &[u8], marks: &mut [u8], p: u32, to: Places) -> Taken
 {
     let n = image.len();
     let at = p as usize;
-    if is_exempt(image, marks, p) {
+    if exempt::is_exempt(image, marks, p) {
         marks[at] = Mark::FLASH;
         return Taken {
             mark: Mark::FLASH,

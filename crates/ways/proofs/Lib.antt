@@ -8,3 +8,4 @@ pub mod HereIs
 pub mod Jmpf
 pub mod Within
 pub mod WaysAre
+pub mod Naming

@@ -98,12 +98,15 @@ module _ (image : List ℕ) (p : ℕ) where
   pub cut-inside : (c : CutOff) → Cut c ≡ hereOf image p → p < length image
   cut-inside c e = stands-inside (Cut c) e (λ f. let z : _≡_ {A = ℕ} 0 1 = cc in omega arith)
 
-  pub outside-goes : Outside ≡ hereOf image p → way.Outside ≡ waysOf image p
-  outside-goes e = by (ltb p (length image)) refl
+  pub here-outside : Outside ≡ hereOf image p → ltb p (length image) ≡ false
+  here-outside e = by (ltb p (length image)) refl
     where
-      by : (b : Bool) → ltb p (length image) ≡ b → way.Outside ≡ waysOf image p
+      by : (b : Bool) → ltb p (length image) ≡ b → ltb p (length image) ≡ false
       by true f = absurd (here-inside (ltb-true p (length image) f) e)
-      by false f = not-inside (ltb-false p (length image) f)
+      by false f = f
+
+  pub outside-goes : Outside ≡ hereOf image p → way.Outside ≡ waysOf image p
+  outside-goes e = not-inside (ltb-false p (length image) (here-outside e))
 
   module _ (inside : p < length image) where
     module _ (small : length image ≤ 65536) where

@@ -1,11 +1,11 @@
 -- Where control goes from a position: at most two positions. Document 01, 'Targets' and 'Marks and steps'.
 -- Assumes nothing.
 use Prim.Native.Nat.{ℕ}
-use mathlib.Core.Bool.{cond, _&&_}
+use mathlib.Core.Bool.{Bool, cond, _&&_}
 use mathlib.Core.List.{List, [], _∷_}
 use lib.Dec.{ltb, leb}
 use lib.ListN.{length, getD}
-use Rattle.ways.specs.At.{fitsHere, placeOf, waysHere}
+use Rattle.ways.specs.At.{fitsHere, placeOf, waysHere, nameHere}
 use Rattle.ways.specs.declared.place.Places.{Places}
 use Rattle.ways.specs.declared.place.Places.the-variants.{Nothing, First, Both}
 use Rattle.ways.specs.declared.place.Ways.{Ways}
@@ -32,6 +32,14 @@ abbrev pub placesNamed : List ℕ → Places
 placesNamed [] = Nothing
 placesNamed (a ∷ []) = First a
 placesNamed (a ∷ b ∷ ts) = Both a b
+
+-- a position inside an image of at most 65,536 bytes, where the instruction is not cut off
+abbrev pub isWhole : List ℕ → ℕ → Bool
+isWhole image p = (ltb p (length image) && leb (length image) 65536) && fitsHere image p
+
+-- the position that the instruction at p names, where it is whole
+unfoldable pub nameOf : List ℕ → ℕ → ℕ
+nameOf image p = cond (isWhole image p) (nameHere image p) 65536
 
 -- the positions that the targets at p name, where the instruction there is whole; a position is inside an image of at most 65,536 bytes
 unfoldable pub waysOf : List ℕ → ℕ → Ways

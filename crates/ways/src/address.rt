@@ -2,14 +2,16 @@
 // Ported from `targets`, `rel8` and `rel16` of src/disasm.rs of wtetzner/waterbear, and changed: targets are signed numbers, and the arms
 // for 70 forms go by the flow and by the kind of the last operand.
 ghost use mathlib.Core.Path.{_≡_};
-ghost use mathlib.Core.Bool.{false};
-ghost use Prim.Native.Nat.{_+_, _-_, _*_, _/_, _%_, _≤_};
+ghost use mathlib.Core.Bool.{true, false};
+ghost use Prim.Native.Nat.{_+_, _-_, _*_, _/_, _%_, _≤_, _<_};
 ghost use lib.IntN.{pos, natAbs, _+ℤ_};
 ghost use lib.Signed.{ltZ};
 ghost use Rattle.operand.specs.Answer.{accepted};
 ghost use Rattle.operand.specs.Range.{unfit};
 ghost use Rattle.operand.specs.declared.kind.Kind.the-variants.{Page, Short, Long};
 ghost use Rattle.instruction.specs.Encode.{fitAnswer};
+ghost use lib.ListN.{length};
+ghost use Rattle.ways.specs.At.{sizeHere, fitsHere, instrHere};
 ghost use Rattle.ways.specs.Targets.{addressOf, addressIn, isGiven, targetsIn, targetsOf};
 use crate::target::Targets;
 use instruction::Flow;
@@ -91,7 +93,7 @@ fn address_of(next: u32, kind: Kind, z: i32) -> i32
 }
 
 // The address that an instruction names: its last operand's.
-fn address_in(next: u32, instr: Instr) -> i32
+pub fn address_in(next: u32, instr: Instr) -> i32
     requires { ⌜ (1 ≤ next) × (next ≤ 65536) × (fitAnswer instr ≡ accepted tt) ⌝ }
     ensures { λ r. ⌜ r ≡ addressIn next instr ⌝ }
 {
@@ -107,6 +109,15 @@ fn address_in(next: u32, instr: Instr) -> i32
         return address_of(next, kb, v.b);
     }
     address_of(next, ka, v.a)
+}
+
+// Where the instruction that stands at p ends: within memory, and its fields are in range.
+pub fn next_of(image: &[u8], p: u32, instr: Instr) -> u32
+    requires { ⌜ (p < length (now image)) × (length (now image) ≤ 65536) ⌝ }
+    requires { ⌜ (fitsHere (now image) p ≡ true) × (instr ≡ instrHere (now image) p) ⌝ }
+    ensures { λ r. ⌜ (r ≡ p + sizeHere (now (image .entry)) p) × (1 ≤ r) × (r ≤ 65536) × (fitAnswer instr ≡ accepted tt) ⌝ }
+{
+    p + instr.size() as u32
 }
 
 // The targets of an instruction whose fields are in range and that ends within memory.

@@ -1,5 +1,6 @@
 // What stands at a position of an image.
 ghost use mathlib.Core.Path.{_≡_};
+ghost use Rattle.ways.specs.At.{sizeHere};
 ghost use Rattle.ways.specs.Here.{hereOf};
 use instruction::Decoded;
 use instruction::Instr;
@@ -11,6 +12,17 @@ pub enum Here {
     Cut(CutOff),
     // The position is not inside.
     Outside,
+}
+
+// The size of the form that the byte at p has; past the end that of byte 0.
+pub fn size_at(image: &[u8], p: u32) -> u32
+    ensures { λ r. ⌜ r ≡ sizeHere (now (image .entry)) p ⌝ }
+{
+    let at = p as usize;
+    if image.len() <= at {
+        return 1;
+    }
+    Instr::with_first(image[at], 0, 0, 0).size() as u32
 }
 
 pub fn instr_at(image: &[u8], p: u32) -> Here

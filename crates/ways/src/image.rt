@@ -7,6 +7,8 @@ pub struct Image {
 
 impl Image {
     pub const LIMIT: usize = 65_536;
+    // A position outside every image.
+    pub const NOWHERE: u32 = 65_536;
 
     pub fn new(length: usize) -> Self
         ensures { λ r. ⌜ r .length ≡ length ⌝ }

@@ -5,6 +5,7 @@ pub mod alone;
 pub mod flash;
 pub mod here;
 pub mod image;
+pub mod name;
 pub mod place;
 pub mod target;
 
@@ -12,7 +13,9 @@ pub use alone::targets;
 pub use flash::is_flash;
 pub use here::Here;
 pub use here::instr_at;
+pub use here::size_at;
 pub use image::Image;
+pub use name::name_at;
 pub use place::Places;
 pub use place::Ways;
 pub use place::ways_at;

@@ -30,11 +30,11 @@ pub enum Ways {
 }
 
 // The position that a target names; one below 0 lies outside every image.
-fn place(t: i32) -> u32
+pub fn place(t: i32) -> u32
     ensures { λ r. ⌜ r ≡ placeOf t ⌝ }
 {
     if t < 0 {
-        return 65_536;
+        return Image::NOWHERE;
     }
     t as u32
 }
@@ -58,7 +58,7 @@ fn places_at(image: &[u8], p: u32, instr: Instr) -> Places
     requires { ⌜ (fitsHere (now image) p ≡ true) × (instr ≡ instrHere (now image) p) ⌝ }
     ensures { λ r. ⌜ placesIn r ≡ waysHere (now (image .entry)) p ⌝ }
 {
-    named(address::ways(p + instr.size() as u32, instr))
+    named(address::ways(address::next_of(image, p, instr), instr))
 }
 
 pub fn ways_at(image: &[u8], p: u32) -> Ways
