@@ -45,6 +45,10 @@ unfolding instrHere fieldsIn
 size-here image p b =
     ap (λ (v : Parts). sizeOf (formAt (v .form))) (parted (fieldsIn (formHere image p) (drop p image)) (form-here image p b))
 
+-- one to three bytes
+pub size-short : (image : List ℕ) (p : ℕ) → Small image → (0 < sizeHere image p) × (sizeHere image p < 4)
+size-short image p b = size-range (formHere image p) (form-here image p b)
+
 pub within : (image : List ℕ) (p : ℕ) → Small image → p < length image → fitsHere image p ≡ true → Within image p (instrHere image p)
 unfolding fitsHere
 within image p b h f =
@@ -53,7 +57,7 @@ within image p b h f =
     record {
       size = size-here image p b;
       fit = encode-decoded s (λ n k. rw (getD-drop p image n 0) (b (p + n))) (instrHere image p) e .fit;
-      least = size-range (formHere image p) (form-here image p b) .0;
+      least = size-short image p b .0;
       most = leb-true (p + sizeHere image p) (length image) f;
     }
 

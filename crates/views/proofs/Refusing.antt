@@ -1,0 +1,60 @@
+-- The refusals that all views share, in the order of the code.
+-- Assumes nothing.
+use mathlib.Core.Path.{_≡_, refl, sym, ap, _∙_}
+use mathlib.Core.Bool.{true, false}
+use mathlib.Core.List.{List, [], _∷_, _++_}
+use Prim.Native.Nat.{ℕ, _+_, _-_, _<_, _≤_}
+use lib.IntN.{pos}
+use lib.ListN.{length}
+use borrow.Author.Tests.{lt-ltb, le-ltb}
+use Rattle.operand.specs.Answer.{Answer, accepted, refused, Refusal, judge}
+use Rattle.operand.proofs.Judging.{pass, stop, done}
+use Rattle.views.specs.Positions.{upFrom, positions}
+use Rattle.views.specs.View.{damagedHere, damageIn, viewRefusals}
+use Rattle.views.proofs.Ups.{up-next, up-end, up-start}
+
+module _ (image m : List ℕ) where
+  abbrev n : ℕ
+  n = length image
+
+  abbrev Is : Answer ℕ → Type 0
+  Is r = r ≡ judge (viewRefusals image m) 0
+
+  -- what is said of these positions
+  abbrev said : List ℕ → Answer ℕ
+  said ps = judge (damageIn image m ps) 0
+
+  pub long : 65536 < n → Is (refused 1 (pos n ∷ []))
+  unfolding viewRefusals
+  long h = sym (stop _ _ _ (lt-ltb 65536 n h))
+
+  -- from p on there is the same damage as from the start
+  pub Left : ℕ → Type 0
+  Left p = said (upFrom (n - p) p) ≡ said (positions image)
+
+  pub left-start : Left 0
+  unfolding Left
+  left-start = ap said (up-start n)
+
+  pub left-next : (p : ℕ) → p < n → damagedHere image m p ≡ false → Left p → Left (p + 1)
+  unfolding Left
+  left-next p h d l = sym (ap said (up-next n p h) ∙ pass _ _ _ d) ∙ l
+
+  module _ (fits : n ≤ 65536) where
+    pub short : length m < n → Is (refused 2 (pos (length m) ∷ []))
+    unfolding viewRefusals
+    short h = sym (pass _ _ _ (le-ltb 65536 n fits) ∙ stop _ _ _ (lt-ltb (length m) n h))
+
+    module _ (room : n ≤ length m) where
+      sized : _≡_ {A = Answer ℕ} (judge (viewRefusals image m) 0) (said (positions image))
+      unfolding viewRefusals
+      sized = pass _ _ _ (le-ltb 65536 n fits) ∙ pass _ _ _ (le-ltb (length m) n room)
+
+      pub hurt : (p : ℕ) → p < n → damagedHere image m p ≡ true → Left p → Is (refused 6 (pos p ∷ []))
+      unfolding Left
+      hurt p h d l =
+          sym (sized ∙ sym l ∙ ap said (up-next n p h) ∙ stop _ _ _ d)
+
+      pub sound : (p : ℕ) → n ≤ p → Left p → Is (accepted 0)
+      unfolding Left
+      sound p h l = sym (sized ∙ sym l ∙ ap said (up-end n p h) ∙ done 0)

@@ -1,0 +1,30 @@
+-- Target marks. Document 01, 'Views': 1 at positions inside the image named by a traced jump, branch or call (next is not named). The Jmpf
+-- exception is judged on the final marks.
+-- Assumes nothing.
+use Prim.Native.Nat.{ℕ}
+use mathlib.Core.Bool.{Bool, cond}
+use mathlib.Core.List.{List, map}
+use lib.Dec.{eqb, ltb}
+use lib.ListN.{getD, set}
+use Rattle.ways.specs.Ways.{nameOf}
+use Rattle.reach.specs.Mark.{tracedMark}
+use Rattle.trace.specs.Tracer.{exemptHere}
+use Rattle.views.specs.Positions.{positions, some, bit}
+
+-- what the position p names if it is traced and not under the exception; 65,536 is outside every image
+abbrev pub namedFrom : List ℕ → List ℕ → ℕ → ℕ
+namedFrom image m p = cond (tracedMark (getD m p 0)) (cond (exemptHere image m p) 65536 (nameOf image p)) 65536
+
+-- t is named by the traced position p
+abbrev pub names : List ℕ → List ℕ → ℕ → ℕ → Bool
+names image m t p = eqb (namedFrom image m p) t
+
+unfoldable pub labelled : List ℕ → List ℕ → ℕ → Bool
+labelled image m t = some (names image m t) (positions image)
+
+unfoldable pub labelsOf : List ℕ → List ℕ → List ℕ
+labelsOf image m = map (λ (t : ℕ). bit (labelled image m t)) (positions image)
+
+-- of an inner function: 1 at t where it is inside
+abbrev pub labelAt : ℕ → ℕ → List ℕ → List ℕ
+labelAt n t room = cond (ltb t n) (set room t 1) room

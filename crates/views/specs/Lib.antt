@@ -1,0 +1,4 @@
+pub mod Positions
+pub mod View
+pub mod Mask
+pub mod Labels
