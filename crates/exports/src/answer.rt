@@ -2,8 +2,9 @@
 ghost use mathlib.Core.Path.{_≡_};
 ghost use Prim.Native.Nat.{_<_, _^_};
 ghost use Rattle.instruction.specs.Decode.{decodedOf};
-ghost use Rattle.instruction.specs.Encode.{misfitValues, encodedOf};
-ghost use Rattle.instruction.specs.Resolve.{whyOf, resolvedOf};
+ghost use Rattle.instruction.specs.Encode.{encodedOf};
+ghost use Rattle.field.specs.Resolve.{misfitValues, whyOf};
+ghost use Rattle.instruction.specs.Resolve.{resolvedOf};
 ghost use Rattle.exports.specs.Reply.{reply, replyOf};
 ghost use Rattle.exports.specs.Codec.{instrValues, countValues};
 ghost use Rattle.exports.specs.Counts.{countIn};

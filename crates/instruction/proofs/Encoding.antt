@@ -1,21 +1,28 @@
 -- The one answer of encode and the one content of its room, from the tests of the code.
 -- Assumes nothing.
-use mathlib.Core.Path.{_≡_, refl, ap, sym, _∙_, subst}
+use mathlib.Core.Path.{_≡_, refl, ap, sym, _∙_}
 use mathlib.Core.Bool.{Bool, true, false}
 use mathlib.Core.List.{List, [], _∷_, _++_}
 use Prim.Native.Nat.{ℕ, _<_, _≤_}
 use lib.IntN.{ℤ, pos}
-use lib.ListN.{length, take, drop}
-use borrow.Author.Tests.{lt-ltb, le-ltb}
+use lib.Dec.{leb}
+use lib.ListN.{getD, length, drop}
+use borrow.Author.Tests.{lt-ltb, le-ltb, leb-true, leb-false}
 use Rattle.operand.specs.Answer.{Answer, accepted, refused, after}
-use Rattle.instruction.specs.Encode.{formIn, misfits, fitAnswer, encodeAnswer, encodeRoom, bytesIn, codeOf}
+use Rattle.instruction.specs.Encode.{formIn, misfits, fitAnswer, encodeAnswer, encodeRoom, bytesIn}
 use Rattle.operand.specs.Range.{unfit}
 use Rattle.instruction.specs.Forms.{formAt, bits, sizeOf}
 use Rattle.operand.specs.Kinds.{kindAt}
 use Rattle.instruction.specs.Parts.{partsOf}
-use Rattle.instruction.specs.Pattern.{filled}
+use Rattle.field.specs.Code.{codeOf}
+use Rattle.field.specs.Layout.{blank, bytesBy, roomAfter}
+use Rattle.field.specs.Pattern.{value}
 use Rattle.instruction.specs.declared.instr.Instr.{Instr}
 use Rattle.instruction.specs.declared.instr.Parts.{Parts}
+use Rattle.operand.specs.declared.kind.Shape.{Shape}
+use Rattle.instruction.proofs.Known.{form-small}
+use Rattle.instruction.proofs.Shapes.{sized}
+use Rattle.instruction.proofs.Writing.{by-shape}
 use Rattle.operand.proofs.Judging.{pass, stop, done, first-of, past-all}
 
 -- operand n of an instruction does not fit, or does
@@ -70,10 +77,26 @@ module _ (i : Instr) (room : List ℕ) where
   writes e h t f =
       held (accepted need) (past-all _ tt need (misfits i) (sym e) ∙ pass _ _ _ (le-ltb (length room) need h) ∙ done _) t f
 
-  -- the bytes that the code laid over the room are the pattern's
-  pub wrote : (v : Parts) → v ≡ partsOf i → (n x y z : ℕ) (l : List ℕ) → n ≡ sizeOf (formAt (v .form)) → x ≡ codeOf (v .a) → y ≡ codeOf (v .b) → z ≡ codeOf (v .c) → take (sizeOf (formAt (v .form))) l ≡ filled (bits (formAt (v .form))) (x ∷ y ∷ z ∷ []) → bytesIn i ++ drop need room ≡ take n l ++ drop n room
-  unfolding bytesIn
-  wrote v e n x y z l p a b c q = rw (p, q, a, b, c, e)
+  -- the same of what the code wrote by the shape
+  module _ (v : Parts) (apart : v ≡ partsOf i) (t : Shape) (shape : t ≡ formAt (v .form) .shape) (u : ℕ) (fixed : u ≡ value (getD (bits (formAt (v .form))) 0 []) []) (fit : accepted tt ≡ fitAnswer i) (n : ℕ) (size : n ≡ length (blank t)) where
+    abbrev room′ : List ℕ
+    room′ = roomAfter u t (v .a) (v .b) (v .c) room
 
-  pub need-is : (v : Parts) → v ≡ partsOf i → (n : ℕ) → n ≡ sizeOf (formAt (v .form)) → n ≡ need
-  need-is v e n p = rw (p, e)
+    needed : length (blank t) ≡ need
+    needed = sized (v .form) t (form-small i apart) shape ∙ ap (λ (w : Parts). sizeOf (formAt (w .form))) apart
+
+    pub short : leb (length (blank t)) (length room) ≡ false → (s : List ℕ) → s ≡ room′ → (refused 11 (pos n ∷ []) ≡ encodeAnswer i room) × (s ≡ encodeRoom i room)
+    unfolding roomAfter
+    short h s e =
+        let l : length room < need = rw (← needed) (leb-false (length (blank t)) (length room) h) in
+        let o : s ≡ room = e ∙ rw h refl in
+        rw (size ∙ needed, o) (no-room fit l)
+
+    pub wrote : leb (length (blank t)) (length room) ≡ true → (s : List ℕ) → s ≡ room′ → (accepted n ≡ encodeAnswer i room) × (s ≡ encodeRoom i room)
+    unfolding roomAfter bytesIn
+    wrote h s e =
+        let l : need ≤ length room = rw (← needed) (leb-true (length (blank t)) (length room) h) in
+        let ns : List ℕ = codeOf (v .a) ∷ codeOf (v .b) ∷ codeOf (v .c) ∷ [] in
+        let b : bytesBy u t ns ≡ bytesIn i = by-shape (v .form) t (form-small i apart) shape u fixed ns ∙ rw apart refl in
+        let o : bytesIn i ++ drop need room ≡ s = sym (e ∙ rw (h, b, needed) refl) in
+        rw (size ∙ needed) (writes fit l s o)

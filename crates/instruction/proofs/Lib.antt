@@ -1,16 +1,11 @@
 pub mod Every
 pub mod Table
 pub mod Rest
-pub mod Sign
 pub mod Known
-pub mod Bits
 pub mod Shapes
 pub mod Reading
 pub mod Rule
 pub mod Decoding
 pub mod Writing
-pub mod Over
 pub mod Encoding
-pub mod Named
-pub mod Resolving
 pub mod Resolved

@@ -1,39 +1,21 @@
 -- What decode answers. Document 01, 'Forms', and refusals 12 and 5 of 'Numbers given when a call says no'.
 -- Assumes nothing.
-use Prim.Native.Nat.{ℕ, _-_}
-use mathlib.Core.Bool.{cond}
+use Prim.Native.Nat.{ℕ}
 use mathlib.Core.List.{List, [], _∷_}
 use lib.Dec.{ltb, eqb}
-use lib.IntN.{ℤ, pos, negsuc}
+use lib.IntN.{ℤ, pos}
 use lib.ListN.{length, getD}
 use Rattle.operand.specs.Answer.{Answer, accepted, refused, refuse, judge}
 use Rattle.instruction.specs.Forms.{formAt, formOf, bits, sizeOf}
 use Rattle.operand.specs.Kinds.{kindAt}
 use Rattle.instruction.specs.Parts.{madeOf}
-use Rattle.instruction.specs.Pattern.{field}
+use Rattle.field.specs.Code.{operandOf}
+use Rattle.field.specs.Pattern.{field}
 use Rattle.operand.specs.declared.answer.CutOff.{CutOff}
 use Rattle.instruction.specs.declared.decode.Decoded.{Decoded}
 use Rattle.instruction.specs.declared.decode.Decoded.the-variants.{Found, Nothing, Cut}
 use Rattle.instruction.specs.declared.instr.Instr.{Instr}
 use Rattle.instruction.specs.declared.instr.Parts.{Parts}
-use Rattle.operand.specs.declared.kind.Kind.{Kind}
-use Rattle.operand.specs.declared.kind.Kind.the-variants.{Absent, Immediate, Direct, Register, BitNumber, Page, Far, Short, Long}
-
--- the offset byte read as a number from -128 to 127
-abbrev pub shortOf : ℕ → ℤ
-shortOf n = cond (ltb n 128) (pos n) (negsuc (255 - n))
-
--- the operand that a pattern's number stands for
-abbrev pub operandOf : Kind → ℕ → ℤ
-operandOf Absent n = pos n
-operandOf Immediate n = pos n
-operandOf Direct n = pos n
-operandOf Register n = pos n
-operandOf BitNumber n = pos n
-operandOf Page n = pos n
-operandOf Far n = pos n
-operandOf Short n = shortOf n
-operandOf Long n = pos n
 
 -- operand l of the form k in a byte string
 abbrev pub operandIn : ℕ → List ℕ → ℕ → ℤ

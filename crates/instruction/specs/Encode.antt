@@ -1,17 +1,18 @@
 -- What encode answers and writes. Document 01, 'Resolving operands' (the ranges of fields) and refusals 7 and 11, in this order.
 -- Assumes nothing.
-use Prim.Native.Nat.{ℕ, suc, _-_}
+use Prim.Native.Nat.{ℕ}
 use mathlib.Core.List.{List, [], _∷_, _++_}
 use lib.Dec.{ltb}
-use lib.IntN.{ℤ, pos, negsuc}
+use lib.IntN.{pos}
 use lib.ListN.{length, drop}
 use Rattle.operand.specs.Answer.{Answer, accepted, refused, Refusal, refuse, judge, after}
 use Rattle.instruction.specs.Forms.{Form, formAt, bits, sizeOf}
 use Rattle.operand.specs.Kinds.{kindAt}
 use Rattle.operand.specs.Range.{unfit}
 use Rattle.instruction.specs.Parts.{partsOf}
-use Rattle.instruction.specs.Pattern.{filled}
-use Rattle.operand.specs.declared.answer.Misfit.{Misfit}
+use Rattle.field.specs.Code.{codeOf}
+use Rattle.field.specs.Pattern.{filled}
+use Rattle.field.specs.Resolve.{misfitValues}
 use Rattle.instruction.specs.declared.encode.Encoded.{Encoded}
 use Rattle.instruction.specs.declared.encode.Encoded.the-variants.{Written, Unfit, NoRoom}
 use Rattle.instruction.specs.declared.encode.Fit.{Fit}
@@ -30,9 +31,6 @@ misfits i =
     ∷ refuse (unfit (kindAt (formIn i .shape) 2) (partsOf i .c)) 7 (pos 3 ∷ partsOf i .c ∷ [])
     ∷ []
 
-abbrev pub misfitValues : Misfit → List ℤ
-misfitValues m = pos (m .operand) ∷ m .value ∷ []
-
 -- ---- whether every field is in its range
 
 abbrev pub fitOf : Fit → Answer (Unit {0})
@@ -43,11 +41,6 @@ unfoldable pub fitAnswer : Instr → Answer (Unit {0})
 fitAnswer i = judge (misfits i) tt
 
 -- ---- encode
-
--- the number that a field puts into the pattern: itself, and of a short offset below 0 its byte, 256 more
-abbrev pub codeOf : ℤ → ℕ
-codeOf (pos n) = n
-codeOf (negsuc n) = 255 - n
 
 -- the bytes of the pattern
 unfoldable pub bytesIn : Instr → List ℕ

@@ -8,7 +8,7 @@ use mathlib.Core.List.{List, [], _∷_}
 use lib.IntN.{ℤ}
 use lib.ListN.{length, getD}
 use lib.Text.{eqt}
-use Rattle.instruction.specs.Pattern.{Bit, pattern, agrees}
+use Rattle.field.specs.Pattern.{Bit, pattern, agrees}
 use Rattle.operand.specs.declared.kind.Shape.{Shape}
 use Rattle.operand.specs.declared.kind.Shape.the-variants.{Bare, Imm, D9, Ri, ImmD9, ImmRi, D9B3, A12, A16, R16, R8, D9B3R8, D9R8, RiR8, ImmR8, RiImmR8}
 use Rattle.instruction.specs.declared.instr.Instr.{Instr}
@@ -123,3 +123,8 @@ matching (w ∷ ws) x = let k : ℕ = matching ws x in cond (agrees (getD (bits 
 
 unfoldable pub formOf : ℕ → ℕ
 formOf x = matching forms x
+
+-- the shape with a number, in the order of their declaration
+unfoldable pub shapeAt : ℕ → Shape
+shapeAt n =
+    getD (Bare ∷ Imm ∷ D9 ∷ Ri ∷ ImmD9 ∷ ImmRi ∷ D9B3 ∷ A12 ∷ A16 ∷ R16 ∷ R8 ∷ D9B3R8 ∷ D9R8 ∷ RiR8 ∷ ImmR8 ∷ RiImmR8 ∷ []) n Bare

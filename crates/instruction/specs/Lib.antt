@@ -1,4 +1,3 @@
-pub mod Pattern
 pub mod Forms
 pub mod Parts
 pub mod Grid

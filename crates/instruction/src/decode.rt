@@ -1,18 +1,14 @@
 // Bytes to an instruction.
 // Ported from `Instr::decode` and `decode_from_raw` of src/instruction.rs of wtetzner/waterbear, and changed: the derived `decode_raw` is
-// a lookup by the first byte and the fields written out.
+// a lookup by the first byte, and the fields are read by the form's shape.
 ghost use mathlib.Core.Path.{_≡_};
-ghost use Prim.Native.Nat.{_+_, _*_, _/_, _%_, _<_};
-ghost use lib.IntN.{pos};
-ghost use lib.ListN.{getD};
-ghost use Rattle.instruction.specs.Decode.{decodedOf, decodeAnswer, fieldsIn};
+ghost use Rattle.instruction.specs.Decode.{decodedOf, decodeAnswer};
 use crate::build;
 use crate::form;
 use crate::instr::Instr;
-use crate::instr::Parts;
-use crate::signed;
+use field::layout;
+use field::read;
 use operand::CutOff;
-use operand::Shape;
 
 pub enum Decoded {
     Found(Instr),
@@ -22,166 +18,6 @@ pub enum Decoded {
     Cut(CutOff),
 }
 
-// The byte at i, and 0 past the end.
-fn byte_at(s: &[u8], i: usize) -> u8
-    ensures { λ r. ⌜ r ≡ getD (now (s .entry)) i 0 ⌝ }
-{
-    if i < s.len() { s[i] } else { 0 }
-}
-
-fn byte(p: u8) -> i32
-    ensures { λ r. ⌜ r ≡ pos p ⌝ }
-{
-    signed::num(p as u32)
-}
-
-// Nine bits: bit 8 is the first byte's lowest.
-fn d9(x: u8, p: u8) -> i32
-    ensures { λ r. ⌜ r ≡ pos (x % 2 * 256 + p) ⌝ }
-{
-    signed::num(((x % 2) as u32) * 256 + (p as u32))
-}
-
-// Nine bits where a bit number stands in bits 0 to 2: bit 8 is the first byte's bit 4.
-fn d9_by_bit(x: u8, p: u8) -> i32
-    ensures { λ r. ⌜ r ≡ pos (x / 16 % 2 * 256 + p) ⌝ }
-{
-    signed::num(((x / 16 % 2) as u32) * 256 + (p as u32))
-}
-
-fn bit(x: u8) -> i32
-    ensures { λ r. ⌜ r ≡ pos (x % 8) ⌝ }
-{
-    signed::num((x % 8) as u32)
-}
-
-fn register(x: u8) -> i32
-    ensures { λ r. ⌜ r ≡ pos (x % 4) ⌝ }
-{
-    signed::num((x % 4) as u32)
-}
-
-// Twelve bits: a11 is the first byte's bit 4, a10 to a8 its bits 2 to 0.
-fn a12(x: u8, p: u8) -> i32
-    ensures { λ r. ⌜ r ≡ pos ((x / 16 % 2 * 8 + x % 8) * 256 + p) ⌝ }
-{
-    signed::num(((x / 16 % 2 * 8 + x % 8) as u32) * 256 + (p as u32))
-}
-
-fn pair(high: u8, low: u8) -> i32
-    ensures { λ r. ⌜ r ≡ pos (high * 256 + low) ⌝ }
-{
-    signed::num((high as u32) * 256 + (low as u32))
-}
-
-// The fields that a form reads out of bytes; those past the end count as 0.
-fn fields(form: u8, bytes: &[u8]) -> Parts
-    requires { ⌜ form < 70 ⌝ }
-    ensures { λ r. ⌜ r ≡ fieldsIn form (now (bytes .entry)) ⌝ }
-{
-    let x = byte_at(bytes, 0);
-    let p = byte_at(bytes, 1);
-    let q = byte_at(bytes, 2);
-    match form::shape_of(form) {
-        Shape::Bare => Parts {
-            form,
-            a: 0,
-            b: 0,
-            c: 0,
-        },
-        Shape::Imm => Parts {
-            form,
-            a: byte(p),
-            b: 0,
-            c: 0,
-        },
-        Shape::D9 => Parts {
-            form,
-            a: d9(x, p),
-            b: 0,
-            c: 0,
-        },
-        Shape::Ri => Parts {
-            form,
-            a: register(x),
-            b: 0,
-            c: 0,
-        },
-        Shape::ImmD9 => Parts {
-            form,
-            a: byte(q),
-            b: d9(x, p),
-            c: 0,
-        },
-        Shape::ImmRi => Parts {
-            form,
-            a: byte(p),
-            b: register(x),
-            c: 0,
-        },
-        Shape::D9B3 => Parts {
-            form,
-            a: d9_by_bit(x, p),
-            b: bit(x),
-            c: 0,
-        },
-        Shape::A12 => Parts {
-            form,
-            a: a12(x, p),
-            b: 0,
-            c: 0,
-        },
-        Shape::A16 => Parts {
-            form,
-            a: pair(p, q),
-            b: 0,
-            c: 0,
-        },
-        Shape::R16 => Parts {
-            form,
-            a: pair(q, p),
-            b: 0,
-            c: 0,
-        },
-        Shape::R8 => Parts {
-            form,
-            a: signed::short(p),
-            b: 0,
-            c: 0,
-        },
-        Shape::D9B3R8 => Parts {
-            form,
-            a: d9_by_bit(x, p),
-            b: bit(x),
-            c: signed::short(q),
-        },
-        Shape::D9R8 => Parts {
-            form,
-            a: d9(x, p),
-            b: signed::short(q),
-            c: 0,
-        },
-        Shape::RiR8 => Parts {
-            form,
-            a: register(x),
-            b: signed::short(p),
-            c: 0,
-        },
-        Shape::ImmR8 => Parts {
-            form,
-            a: byte(p),
-            b: signed::short(q),
-            c: 0,
-        },
-        Shape::RiImmR8 => Parts {
-            form,
-            a: register(x),
-            b: byte(p),
-            c: signed::short(q),
-        },
-    }
-}
-
 impl Instr {
     pub fn decode(bytes: &[u8]) -> Decoded
         ensures { λ r. ⌜ decodedOf r ≡ decodeAnswer (now (bytes .entry)) ⌝ }
@@ -189,12 +25,13 @@ impl Instr {
         if bytes.len() == 0 {
             return Decoded::Nothing;
         }
-        let first = byte_at(bytes, 0);
+        let first = bytes[0];
         let form = form::lookup(first);
-        if bytes.len() < form::size_of(form) {
+        let shape = form::shape_of(form);
+        if bytes.len() < layout::size(shape) {
             return Decoded::Cut(CutOff::new(0, first));
         }
-        let v = fields(form, bytes);
-        Decoded::Found(build::build(v.form, v.a, v.b, v.c))
+        let f = read::read(shape, bytes);
+        Decoded::Found(build::build(form, f.a, f.b, f.c))
     }
 }

@@ -1,11 +1,11 @@
-// Forms by number: which form a first byte has, and what operands and how many bytes a form has.
+// Forms by number: which form a first byte has, and the fixed bits and the operands of a form.
 ghost use mathlib.Core.Path.{_≡_};
-ghost use mathlib.Core.List.{[], _∷_};
+ghost use mathlib.Core.List.{[]};
 ghost use Prim.Native.Nat.{_<_};
 ghost use lib.ListN.{getD};
-ghost use Rattle.instruction.specs.Forms.{formAt, bits, sizeOf};
+ghost use Rattle.instruction.specs.Forms.{formAt, bits, shapeAt};
 ghost use Rattle.instruction.specs.Grid.{ruleOf};
-ghost use Rattle.instruction.specs.Pattern.{value};
+ghost use Rattle.field.specs.Pattern.{value};
 use operand::Shape;
 
 // The form of each first byte.
@@ -355,107 +355,107 @@ pub fn fixed_of(form: u8) -> u8
     FIXED[form as usize]
 }
 
-// The operands of each form.
-const SHAPE: [Shape; 70] = [
-    Shape::Imm, // Add_i8
-    Shape::D9, // Add_d9
-    Shape::Ri, // Add_Ri
-    Shape::Imm, // Addc_i8
-    Shape::D9, // Addc_d9
-    Shape::Ri, // Addc_Ri
-    Shape::Imm, // Sub_i8
-    Shape::D9, // Sub_d9
-    Shape::Ri, // Sub_Ri
-    Shape::Imm, // Subc_i8
-    Shape::D9, // Subc_d9
-    Shape::Ri, // Subc_Ri
-    Shape::D9, // Inc_d9
-    Shape::Ri, // Inc_Ri
-    Shape::D9, // Dec_d9
-    Shape::Ri, // Dec_Ri
-    Shape::Bare, // Mul
-    Shape::Bare, // Div
-    Shape::Imm, // And_i8
-    Shape::D9, // And_d9
-    Shape::Ri, // And_Ri
-    Shape::Imm, // Or_i8
-    Shape::D9, // Or_d9
-    Shape::Ri, // Or_Ri
-    Shape::Imm, // Xor_i8
-    Shape::D9, // Xor_d9
-    Shape::Ri, // Xor_Ri
-    Shape::Bare, // Rol
-    Shape::Bare, // Rolc
-    Shape::Bare, // Ror
-    Shape::Bare, // Rorc
-    Shape::D9, // Ld_d9
-    Shape::Ri, // Ld_Ri
-    Shape::D9, // St_d9
-    Shape::Ri, // St_Ri
-    Shape::ImmD9, // Mov_d9
-    Shape::ImmRi, // Mov_Rj
-    Shape::Bare, // Ldc
-    Shape::D9, // Push
-    Shape::D9, // Pop
-    Shape::D9, // Xch_d9
-    Shape::Ri, // Xch_Ri
-    Shape::A12, // Jmp
-    Shape::A16, // Jmpf
-    Shape::R8, // Br
-    Shape::R16, // Brf
-    Shape::R8, // Bz
-    Shape::R8, // Bnz
-    Shape::D9B3R8, // Bp
-    Shape::D9B3R8, // Bpc
-    Shape::D9B3R8, // Bn
-    Shape::D9R8, // Dbnz_d9
-    Shape::RiR8, // Dbnz_Ri
-    Shape::ImmR8, // Be_i8
-    Shape::D9R8, // Be_d9
-    Shape::RiImmR8, // Be_Rj
-    Shape::ImmR8, // Bne_i8
-    Shape::D9R8, // Bne_d9
-    Shape::RiImmR8, // Bne_Rj
-    Shape::A12, // Call
-    Shape::A16, // Callf
-    Shape::R16, // Callr
-    Shape::Bare, // Ret
-    Shape::Bare, // Reti
-    Shape::D9B3, // Clr1
-    Shape::D9B3, // Set1
-    Shape::D9B3, // Not1
-    Shape::Bare, // Nop
-    Shape::Bare, // Ldf
-    Shape::Bare, // Stf
+// The number of the shape of each form.
+const SHAPE: [u8; 70] = [
+    1, // Add_i8 Imm
+    2, // Add_d9 D9
+    3, // Add_Ri Ri
+    1, // Addc_i8 Imm
+    2, // Addc_d9 D9
+    3, // Addc_Ri Ri
+    1, // Sub_i8 Imm
+    2, // Sub_d9 D9
+    3, // Sub_Ri Ri
+    1, // Subc_i8 Imm
+    2, // Subc_d9 D9
+    3, // Subc_Ri Ri
+    2, // Inc_d9 D9
+    3, // Inc_Ri Ri
+    2, // Dec_d9 D9
+    3, // Dec_Ri Ri
+    0, // Mul Bare
+    0, // Div Bare
+    1, // And_i8 Imm
+    2, // And_d9 D9
+    3, // And_Ri Ri
+    1, // Or_i8 Imm
+    2, // Or_d9 D9
+    3, // Or_Ri Ri
+    1, // Xor_i8 Imm
+    2, // Xor_d9 D9
+    3, // Xor_Ri Ri
+    0, // Rol Bare
+    0, // Rolc Bare
+    0, // Ror Bare
+    0, // Rorc Bare
+    2, // Ld_d9 D9
+    3, // Ld_Ri Ri
+    2, // St_d9 D9
+    3, // St_Ri Ri
+    4, // Mov_d9 ImmD9
+    5, // Mov_Rj ImmRi
+    0, // Ldc Bare
+    2, // Push D9
+    2, // Pop D9
+    2, // Xch_d9 D9
+    3, // Xch_Ri Ri
+    7, // Jmp A12
+    8, // Jmpf A16
+    10, // Br R8
+    9, // Brf R16
+    10, // Bz R8
+    10, // Bnz R8
+    11, // Bp D9B3R8
+    11, // Bpc D9B3R8
+    11, // Bn D9B3R8
+    12, // Dbnz_d9 D9R8
+    13, // Dbnz_Ri RiR8
+    14, // Be_i8 ImmR8
+    12, // Be_d9 D9R8
+    15, // Be_Rj RiImmR8
+    14, // Bne_i8 ImmR8
+    12, // Bne_d9 D9R8
+    15, // Bne_Rj RiImmR8
+    7, // Call A12
+    8, // Callf A16
+    9, // Callr R16
+    0, // Ret Bare
+    0, // Reti Bare
+    6, // Clr1 D9B3
+    6, // Set1 D9B3
+    6, // Not1 D9B3
+    0, // Nop Bare
+    0, // Ldf Bare
+    0, // Stf Bare
 ];
+
+fn numbered(n: u8) -> Shape
+    requires { ⌜ n < 16 ⌝ }
+    ensures { λ r. ⌜ r ≡ shapeAt n ⌝ }
+{
+    match n {
+        0 => Shape::Bare,
+        1 => Shape::Imm,
+        2 => Shape::D9,
+        3 => Shape::Ri,
+        4 => Shape::ImmD9,
+        5 => Shape::ImmRi,
+        6 => Shape::D9B3,
+        7 => Shape::A12,
+        8 => Shape::A16,
+        9 => Shape::R16,
+        10 => Shape::R8,
+        11 => Shape::D9B3R8,
+        12 => Shape::D9R8,
+        13 => Shape::RiR8,
+        14 => Shape::ImmR8,
+        _ => Shape::RiImmR8,
+    }
+}
 
 pub fn shape_of(form: u8) -> Shape
     requires { ⌜ form < 70 ⌝ }
     ensures { λ r. ⌜ r ≡ formAt form .shape ⌝ }
 {
-    SHAPE[form as usize]
-}
-
-pub fn size_of(form: u8) -> usize
-    requires { ⌜ form < 70 ⌝ }
-    ensures { λ r. ⌜ r ≡ sizeOf (formAt form) ⌝ }
-{
-    match shape_of(form) {
-        Shape::Bare => 1,
-        Shape::Imm => 2,
-        Shape::D9 => 2,
-        Shape::Ri => 1,
-        Shape::ImmD9 => 3,
-        Shape::ImmRi => 2,
-        Shape::D9B3 => 2,
-        Shape::A12 => 2,
-        Shape::A16 => 3,
-        Shape::R16 => 3,
-        Shape::R8 => 2,
-        Shape::D9B3R8 => 3,
-        Shape::D9R8 => 3,
-        Shape::RiR8 => 2,
-        Shape::ImmR8 => 3,
-        Shape::RiImmR8 => 3,
-    }
+    numbered(SHAPE[form as usize])
 }

@@ -1,7 +1,6 @@
 // The instruction: the Rust's 70 variants in its order, each operand a plain number; taking one apart, and putting one together.
 // Ported from src/instruction.rs of wtetzner/waterbear, and changed: `Instr<Ex, IM>` is an enum of numbers.
 ghost use mathlib.Core.Path.{_≡_};
-ghost use Prim.Native.Nat.{_<_};
 ghost use Rattle.instruction.specs.Encode.{formIn};
 ghost use Rattle.instruction.specs.Forms.{sizeOf};
 ghost use Rattle.instruction.specs.Grid.{ruleOf};
@@ -9,6 +8,8 @@ ghost use Rattle.operand.specs.Kinds.{threeOf};
 ghost use Rattle.instruction.specs.Parts.{partsOf, madeOf};
 use crate::build;
 use crate::form;
+use field::Resolution;
+use field::layout;
 use operand::Kinds;
 
 pub enum Instr {
@@ -102,435 +103,85 @@ impl Parts {
 
 impl Instr {
     // A base is the address after an instruction, and may be the end of memory.
-    pub const HIGHEST_BASE: u32 = 65_536;
+    pub const HIGHEST_BASE: u32 = Resolution::HIGHEST_BASE;
 
-    pub const HIGHEST_ADDRESS: i32 = 65_535;
+    pub const HIGHEST_ADDRESS: i32 = Resolution::HIGHEST_ADDRESS;
 
     // One of the two functions that go through all forms: the instruction taken apart.
     pub fn apart(self) -> Parts
         ensures { λ r. ⌜ r ≡ partsOf self ⌝ }
     {
         match self {
-            Instr::Add_i8(a) => Parts {
-                form: 0,
-                a: a,
-                b: 0,
-                c: 0,
-            },
-            Instr::Add_d9(a) => Parts {
-                form: 1,
-                a: a,
-                b: 0,
-                c: 0,
-            },
-            Instr::Add_Ri(a) => Parts {
-                form: 2,
-                a: a,
-                b: 0,
-                c: 0,
-            },
-            Instr::Addc_i8(a) => Parts {
-                form: 3,
-                a: a,
-                b: 0,
-                c: 0,
-            },
-            Instr::Addc_d9(a) => Parts {
-                form: 4,
-                a: a,
-                b: 0,
-                c: 0,
-            },
-            Instr::Addc_Ri(a) => Parts {
-                form: 5,
-                a: a,
-                b: 0,
-                c: 0,
-            },
-            Instr::Sub_i8(a) => Parts {
-                form: 6,
-                a: a,
-                b: 0,
-                c: 0,
-            },
-            Instr::Sub_d9(a) => Parts {
-                form: 7,
-                a: a,
-                b: 0,
-                c: 0,
-            },
-            Instr::Sub_Ri(a) => Parts {
-                form: 8,
-                a: a,
-                b: 0,
-                c: 0,
-            },
-            Instr::Subc_i8(a) => Parts {
-                form: 9,
-                a: a,
-                b: 0,
-                c: 0,
-            },
-            Instr::Subc_d9(a) => Parts {
-                form: 10,
-                a: a,
-                b: 0,
-                c: 0,
-            },
-            Instr::Subc_Ri(a) => Parts {
-                form: 11,
-                a: a,
-                b: 0,
-                c: 0,
-            },
-            Instr::Inc_d9(a) => Parts {
-                form: 12,
-                a: a,
-                b: 0,
-                c: 0,
-            },
-            Instr::Inc_Ri(a) => Parts {
-                form: 13,
-                a: a,
-                b: 0,
-                c: 0,
-            },
-            Instr::Dec_d9(a) => Parts {
-                form: 14,
-                a: a,
-                b: 0,
-                c: 0,
-            },
-            Instr::Dec_Ri(a) => Parts {
-                form: 15,
-                a: a,
-                b: 0,
-                c: 0,
-            },
-            Instr::Mul => Parts {
-                form: 16,
-                a: 0,
-                b: 0,
-                c: 0,
-            },
-            Instr::Div => Parts {
-                form: 17,
-                a: 0,
-                b: 0,
-                c: 0,
-            },
-            Instr::And_i8(a) => Parts {
-                form: 18,
-                a: a,
-                b: 0,
-                c: 0,
-            },
-            Instr::And_d9(a) => Parts {
-                form: 19,
-                a: a,
-                b: 0,
-                c: 0,
-            },
-            Instr::And_Ri(a) => Parts {
-                form: 20,
-                a: a,
-                b: 0,
-                c: 0,
-            },
-            Instr::Or_i8(a) => Parts {
-                form: 21,
-                a: a,
-                b: 0,
-                c: 0,
-            },
-            Instr::Or_d9(a) => Parts {
-                form: 22,
-                a: a,
-                b: 0,
-                c: 0,
-            },
-            Instr::Or_Ri(a) => Parts {
-                form: 23,
-                a: a,
-                b: 0,
-                c: 0,
-            },
-            Instr::Xor_i8(a) => Parts {
-                form: 24,
-                a: a,
-                b: 0,
-                c: 0,
-            },
-            Instr::Xor_d9(a) => Parts {
-                form: 25,
-                a: a,
-                b: 0,
-                c: 0,
-            },
-            Instr::Xor_Ri(a) => Parts {
-                form: 26,
-                a: a,
-                b: 0,
-                c: 0,
-            },
-            Instr::Rol => Parts {
-                form: 27,
-                a: 0,
-                b: 0,
-                c: 0,
-            },
-            Instr::Rolc => Parts {
-                form: 28,
-                a: 0,
-                b: 0,
-                c: 0,
-            },
-            Instr::Ror => Parts {
-                form: 29,
-                a: 0,
-                b: 0,
-                c: 0,
-            },
-            Instr::Rorc => Parts {
-                form: 30,
-                a: 0,
-                b: 0,
-                c: 0,
-            },
-            Instr::Ld_d9(a) => Parts {
-                form: 31,
-                a: a,
-                b: 0,
-                c: 0,
-            },
-            Instr::Ld_Ri(a) => Parts {
-                form: 32,
-                a: a,
-                b: 0,
-                c: 0,
-            },
-            Instr::St_d9(a) => Parts {
-                form: 33,
-                a: a,
-                b: 0,
-                c: 0,
-            },
-            Instr::St_Ri(a) => Parts {
-                form: 34,
-                a: a,
-                b: 0,
-                c: 0,
-            },
-            Instr::Mov_d9(a, b) => Parts {
-                form: 35,
-                a: a,
-                b: b,
-                c: 0,
-            },
-            Instr::Mov_Rj(a, b) => Parts {
-                form: 36,
-                a: a,
-                b: b,
-                c: 0,
-            },
-            Instr::Ldc => Parts {
-                form: 37,
-                a: 0,
-                b: 0,
-                c: 0,
-            },
-            Instr::Push(a) => Parts {
-                form: 38,
-                a: a,
-                b: 0,
-                c: 0,
-            },
-            Instr::Pop(a) => Parts {
-                form: 39,
-                a: a,
-                b: 0,
-                c: 0,
-            },
-            Instr::Xch_d9(a) => Parts {
-                form: 40,
-                a: a,
-                b: 0,
-                c: 0,
-            },
-            Instr::Xch_Ri(a) => Parts {
-                form: 41,
-                a: a,
-                b: 0,
-                c: 0,
-            },
-            Instr::Jmp(a) => Parts {
-                form: 42,
-                a: a,
-                b: 0,
-                c: 0,
-            },
-            Instr::Jmpf(a) => Parts {
-                form: 43,
-                a: a,
-                b: 0,
-                c: 0,
-            },
-            Instr::Br(a) => Parts {
-                form: 44,
-                a: a,
-                b: 0,
-                c: 0,
-            },
-            Instr::Brf(a) => Parts {
-                form: 45,
-                a: a,
-                b: 0,
-                c: 0,
-            },
-            Instr::Bz(a) => Parts {
-                form: 46,
-                a: a,
-                b: 0,
-                c: 0,
-            },
-            Instr::Bnz(a) => Parts {
-                form: 47,
-                a: a,
-                b: 0,
-                c: 0,
-            },
-            Instr::Bp(a, b, c) => Parts {
-                form: 48,
-                a: a,
-                b: b,
-                c: c,
-            },
-            Instr::Bpc(a, b, c) => Parts {
-                form: 49,
-                a: a,
-                b: b,
-                c: c,
-            },
-            Instr::Bn(a, b, c) => Parts {
-                form: 50,
-                a: a,
-                b: b,
-                c: c,
-            },
-            Instr::Dbnz_d9(a, b) => Parts {
-                form: 51,
-                a: a,
-                b: b,
-                c: 0,
-            },
-            Instr::Dbnz_Ri(a, b) => Parts {
-                form: 52,
-                a: a,
-                b: b,
-                c: 0,
-            },
-            Instr::Be_i8(a, b) => Parts {
-                form: 53,
-                a: a,
-                b: b,
-                c: 0,
-            },
-            Instr::Be_d9(a, b) => Parts {
-                form: 54,
-                a: a,
-                b: b,
-                c: 0,
-            },
-            Instr::Be_Rj(a, b, c) => Parts {
-                form: 55,
-                a: a,
-                b: b,
-                c: c,
-            },
-            Instr::Bne_i8(a, b) => Parts {
-                form: 56,
-                a: a,
-                b: b,
-                c: 0,
-            },
-            Instr::Bne_d9(a, b) => Parts {
-                form: 57,
-                a: a,
-                b: b,
-                c: 0,
-            },
-            Instr::Bne_Rj(a, b, c) => Parts {
-                form: 58,
-                a: a,
-                b: b,
-                c: c,
-            },
-            Instr::Call(a) => Parts {
-                form: 59,
-                a: a,
-                b: 0,
-                c: 0,
-            },
-            Instr::Callf(a) => Parts {
-                form: 60,
-                a: a,
-                b: 0,
-                c: 0,
-            },
-            Instr::Callr(a) => Parts {
-                form: 61,
-                a: a,
-                b: 0,
-                c: 0,
-            },
-            Instr::Ret => Parts {
-                form: 62,
-                a: 0,
-                b: 0,
-                c: 0,
-            },
-            Instr::Reti => Parts {
-                form: 63,
-                a: 0,
-                b: 0,
-                c: 0,
-            },
-            Instr::Clr1(a, b) => Parts {
-                form: 64,
-                a: a,
-                b: b,
-                c: 0,
-            },
-            Instr::Set1(a, b) => Parts {
-                form: 65,
-                a: a,
-                b: b,
-                c: 0,
-            },
-            Instr::Not1(a, b) => Parts {
-                form: 66,
-                a: a,
-                b: b,
-                c: 0,
-            },
-            Instr::Nop => Parts {
-                form: 67,
-                a: 0,
-                b: 0,
-                c: 0,
-            },
-            Instr::Ldf => Parts {
-                form: 68,
-                a: 0,
-                b: 0,
-                c: 0,
-            },
-            Instr::Stf => Parts {
-                form: 69,
-                a: 0,
-                b: 0,
-                c: 0,
-            },
+            Instr::Add_i8(a) => Parts::new(0, a, 0, 0),
+            Instr::Add_d9(a) => Parts::new(1, a, 0, 0),
+            Instr::Add_Ri(a) => Parts::new(2, a, 0, 0),
+            Instr::Addc_i8(a) => Parts::new(3, a, 0, 0),
+            Instr::Addc_d9(a) => Parts::new(4, a, 0, 0),
+            Instr::Addc_Ri(a) => Parts::new(5, a, 0, 0),
+            Instr::Sub_i8(a) => Parts::new(6, a, 0, 0),
+            Instr::Sub_d9(a) => Parts::new(7, a, 0, 0),
+            Instr::Sub_Ri(a) => Parts::new(8, a, 0, 0),
+            Instr::Subc_i8(a) => Parts::new(9, a, 0, 0),
+            Instr::Subc_d9(a) => Parts::new(10, a, 0, 0),
+            Instr::Subc_Ri(a) => Parts::new(11, a, 0, 0),
+            Instr::Inc_d9(a) => Parts::new(12, a, 0, 0),
+            Instr::Inc_Ri(a) => Parts::new(13, a, 0, 0),
+            Instr::Dec_d9(a) => Parts::new(14, a, 0, 0),
+            Instr::Dec_Ri(a) => Parts::new(15, a, 0, 0),
+            Instr::Mul => Parts::new(16, 0, 0, 0),
+            Instr::Div => Parts::new(17, 0, 0, 0),
+            Instr::And_i8(a) => Parts::new(18, a, 0, 0),
+            Instr::And_d9(a) => Parts::new(19, a, 0, 0),
+            Instr::And_Ri(a) => Parts::new(20, a, 0, 0),
+            Instr::Or_i8(a) => Parts::new(21, a, 0, 0),
+            Instr::Or_d9(a) => Parts::new(22, a, 0, 0),
+            Instr::Or_Ri(a) => Parts::new(23, a, 0, 0),
+            Instr::Xor_i8(a) => Parts::new(24, a, 0, 0),
+            Instr::Xor_d9(a) => Parts::new(25, a, 0, 0),
+            Instr::Xor_Ri(a) => Parts::new(26, a, 0, 0),
+            Instr::Rol => Parts::new(27, 0, 0, 0),
+            Instr::Rolc => Parts::new(28, 0, 0, 0),
+            Instr::Ror => Parts::new(29, 0, 0, 0),
+            Instr::Rorc => Parts::new(30, 0, 0, 0),
+            Instr::Ld_d9(a) => Parts::new(31, a, 0, 0),
+            Instr::Ld_Ri(a) => Parts::new(32, a, 0, 0),
+            Instr::St_d9(a) => Parts::new(33, a, 0, 0),
+            Instr::St_Ri(a) => Parts::new(34, a, 0, 0),
+            Instr::Mov_d9(a, b) => Parts::new(35, a, b, 0),
+            Instr::Mov_Rj(a, b) => Parts::new(36, a, b, 0),
+            Instr::Ldc => Parts::new(37, 0, 0, 0),
+            Instr::Push(a) => Parts::new(38, a, 0, 0),
+            Instr::Pop(a) => Parts::new(39, a, 0, 0),
+            Instr::Xch_d9(a) => Parts::new(40, a, 0, 0),
+            Instr::Xch_Ri(a) => Parts::new(41, a, 0, 0),
+            Instr::Jmp(a) => Parts::new(42, a, 0, 0),
+            Instr::Jmpf(a) => Parts::new(43, a, 0, 0),
+            Instr::Br(a) => Parts::new(44, a, 0, 0),
+            Instr::Brf(a) => Parts::new(45, a, 0, 0),
+            Instr::Bz(a) => Parts::new(46, a, 0, 0),
+            Instr::Bnz(a) => Parts::new(47, a, 0, 0),
+            Instr::Bp(a, b, c) => Parts::new(48, a, b, c),
+            Instr::Bpc(a, b, c) => Parts::new(49, a, b, c),
+            Instr::Bn(a, b, c) => Parts::new(50, a, b, c),
+            Instr::Dbnz_d9(a, b) => Parts::new(51, a, b, 0),
+            Instr::Dbnz_Ri(a, b) => Parts::new(52, a, b, 0),
+            Instr::Be_i8(a, b) => Parts::new(53, a, b, 0),
+            Instr::Be_d9(a, b) => Parts::new(54, a, b, 0),
+            Instr::Be_Rj(a, b, c) => Parts::new(55, a, b, c),
+            Instr::Bne_i8(a, b) => Parts::new(56, a, b, 0),
+            Instr::Bne_d9(a, b) => Parts::new(57, a, b, 0),
+            Instr::Bne_Rj(a, b, c) => Parts::new(58, a, b, c),
+            Instr::Call(a) => Parts::new(59, a, 0, 0),
+            Instr::Callf(a) => Parts::new(60, a, 0, 0),
+            Instr::Callr(a) => Parts::new(61, a, 0, 0),
+            Instr::Ret => Parts::new(62, 0, 0, 0),
+            Instr::Reti => Parts::new(63, 0, 0, 0),
+            Instr::Clr1(a, b) => Parts::new(64, a, b, 0),
+            Instr::Set1(a, b) => Parts::new(65, a, b, 0),
+            Instr::Not1(a, b) => Parts::new(66, a, b, 0),
+            Instr::Nop => Parts::new(67, 0, 0, 0),
+            Instr::Ldf => Parts::new(68, 0, 0, 0),
+            Instr::Stf => Parts::new(69, 0, 0, 0),
         }
     }
 
@@ -554,6 +205,6 @@ impl Instr {
         ensures { λ r. ⌜ r ≡ sizeOf (formIn self) ⌝ }
     {
         let v = self.apart();
-        form::size_of(v.form)
+        layout::size(form::shape_of(v.form))
     }
 }

@@ -9,13 +9,12 @@ mod form;
 pub mod instr;
 pub mod mnemonic;
 pub mod resolve;
-mod signed;
 
 pub use decode::Decoded;
 pub use encode::Encoded;
 pub use encode::Fit;
+pub use field::Why;
 pub use flow::Flow;
 pub use instr::Instr;
 pub use instr::Parts;
 pub use resolve::Resolved;
-pub use resolve::Why;

@@ -15,7 +15,7 @@ use Rattle.instruction.specs.declared.encode.Fit.{Fit}
 use Rattle.instruction.specs.declared.encode.Fit.the-variants.{Fits, Outside}
 use Rattle.instruction.specs.declared.instr.Instr.{Instr}
 use Rattle.instruction_laws.specs.Apart.{AnswersApart}
-use Rattle.instruction_laws.proofs.ResolvedApart.{resolved-apart}
+use Rattle.instruction_laws.proofs.ResolvedApart.{resolved-apart, resolution-apart}
 use Rattle.instruction_laws.proofs.Undone.{undone, numberAt, cut, misfit}
 
 abbrev decoded : Answer Instr → Decoded
@@ -51,4 +51,5 @@ answers-apart =
       fit = undone fitOf fitted fit;
       encode = undone encodedOf encoded encode;
       resolve = resolved-apart;
+      operands = resolution-apart;
     }

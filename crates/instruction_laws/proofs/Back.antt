@@ -6,13 +6,14 @@ use Prim.Native.Nat.{ℕ, _+_}
 use native.Mathlib.Omega.{arith}
 use lib.IntN.{pos}
 use lib.ListN.{length, take, getD}
-use Rattle.instruction.specs.Decode.{shortOf}
+use Rattle.field.specs.Code.{shortOf}
 use Rattle.operand.specs.Kinds.{kindsOf}
 use Rattle.operand.specs.declared.kind.Shape.{Shape}
 use Rattle.operand.specs.declared.kind.Shape.the-variants.{Bare, Imm, D9, Ri, ImmD9, ImmRi, D9B3, A12, A16, R16, R8, D9B3R8, D9R8, RiR8, ImmR8, RiImmR8}
-use Rattle.instruction.proofs.Reading.{make3, closed}
-use Rattle.instruction.proofs.Shapes.{blank}
-use Rattle.instruction.proofs.Writing.{written}
+use Rattle.instruction.proofs.Reading.{make3, formed}
+use Rattle.field.proofs.Reading.{closed}
+use Rattle.field.specs.Layout.{blank}
+use Rattle.field.proofs.Writing.{written}
 use Rattle.instruction_laws.proofs.Fields.{limit}
 use Rattle.instruction_laws.proofs.FirstByte.{held}
 use Rattle.instruction_laws.proofs.FreeBits.{nil, byte, bit8, low2, bit8b3, high4}
@@ -25,7 +26,7 @@ module _ (k t x y z : ℕ) (rest : List ℕ) where
   abbrev first : Shape → ℕ
   first s = getD (strung s) 0 0
 
-  pub back-by : (s : Shape) → In s x y z → t + held s (first s) ≡ first s → closed s k (first s) (getD (strung s) 1 0) (getD (strung s) 2 0) ≡ operands s k x y z
+  pub back-by : (s : Shape) → In s x y z → t + held s (first s) ≡ first s → formed k (closed s (first s) (getD (strung s) 1 0) (getD (strung s) 2 0)) ≡ operands s k x y z
   unfolding closed written blank kindsOf limit held
   back-by Bare (a, b, c) e = make3 k (ap pos (nil x a)) (ap pos (nil y b)) (ap pos (nil z c))
   back-by Imm (a, b, c) e = make3 k (ap pos (byte x a)) (ap pos (nil y b)) (ap pos (nil z c))

@@ -7,8 +7,9 @@ use Rattle.instruction.specs.Encode.{bytesIn}
 use Rattle.instruction.specs.Forms.{forms, formAt, formOf, numberOf}
 use Rattle.operand.specs.Kinds.{kindsOf}
 use Rattle.instruction.specs.Parts.{partsOf, madeOf}
-use Rattle.instruction.specs.Pattern.{pattern, bytesOf, onto, given, next}
-use Rattle.instruction.specs.Resolve.{operandRefusals, fieldOf, resolveAnswer}
+use Rattle.field.specs.Pattern.{pattern, bytesOf, onto, given, next}
+use Rattle.instruction.specs.Resolve.{resolveAnswer}
+use Rattle.field.specs.Resolve.{operandRefusals, fieldOf}
 use Rattle.instruction_laws.specs.Edges.{Edges}
 
 pub edges : Edges

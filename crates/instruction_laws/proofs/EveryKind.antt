@@ -6,7 +6,7 @@ use Prim.Native.Nat.{ℕ, suc, _<_}
 use native.Mathlib.Omega.{arith}
 use lib.IntN.{ℤ, pos, natAbs}
 use borrow.Author.Tests.{le-ltb}
-use Rattle.instruction.specs.Decode.{operandOf}
+use Rattle.field.specs.Code.{operandOf}
 use Rattle.operand.specs.Range.{outside, unfit}
 use Rattle.operand.specs.declared.kind.Kind.{Kind}
 use Rattle.operand.specs.declared.kind.Kind.the-variants.{Absent, Immediate, Direct, Register, BitNumber, Page, Far, Short, Long}

@@ -5,8 +5,7 @@ use mathlib.Core.Path.{_≡_}
 use mathlib.Core.Bool.{false}
 use Prim.Native.Nat.{ℕ, _<_}
 use lib.IntN.{ℤ}
-use Rattle.instruction.specs.Decode.{operandOf}
-use Rattle.instruction.specs.Encode.{codeOf}
+use Rattle.field.specs.Code.{operandOf, codeOf}
 use Rattle.operand.specs.Range.{unfit}
 use Rattle.operand.specs.declared.kind.Kind.{Kind}
 use Rattle.operand.specs.declared.kind.Kind.the-variants.{Absent, Immediate, Direct, Register, BitNumber, Page, Far, Short, Long}

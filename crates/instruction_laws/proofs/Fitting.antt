@@ -2,7 +2,8 @@
 -- Assumes nothing.
 use mathlib.Core.Path.{_≡_, ap, sym, _∙_}
 use Rattle.operand.specs.Answer.{accepted}
-use Rattle.instruction.specs.Encode.{codeOf, fitAnswer}
+use Rattle.instruction.specs.Encode.{fitAnswer}
+use Rattle.field.specs.Code.{codeOf}
 use Rattle.instruction.specs.Parts.{partsOf}
 use Rattle.instruction.specs.declared.instr.Instr.{Instr}
 use Rattle.instruction.specs.declared.instr.Parts.{Parts}

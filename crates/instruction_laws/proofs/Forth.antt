@@ -8,9 +8,10 @@ use lib.ListN.{length, take}
 use Rattle.operand.specs.Kinds.{kindsOf}
 use Rattle.operand.specs.declared.kind.Shape.{Shape}
 use Rattle.operand.specs.declared.kind.Shape.the-variants.{Bare, Imm, D9, Ri, ImmD9, ImmRi, D9B3, A12, A16, R16, R8, D9B3R8, D9R8, RiR8, ImmR8, RiImmR8}
-use Rattle.instruction.proofs.Reading.{closed}
-use Rattle.instruction.proofs.Shapes.{blank}
-use Rattle.instruction.proofs.Writing.{written}
+use Rattle.field.proofs.Reading.{closed}
+use Rattle.instruction.proofs.Reading.{formed}
+use Rattle.field.specs.Layout.{blank}
+use Rattle.field.proofs.Writing.{written}
 use Rattle.instruction_laws.proofs.Fields.{limit}
 use Rattle.instruction_laws.proofs.FirstByte.{held}
 use Rattle.instruction_laws.proofs.FreeBits.{again-nine, again-twelve}
@@ -20,7 +21,7 @@ pub record Read (s : Shape) (k t x p q : ℕ) : Type 0 where
   pub a : ℕ
   pub b : ℕ
   pub c : ℕ
-  pub reads : closed s k x p q ≡ operands s k a b c
+  pub reads : formed k (closed s x p q) ≡ operands s k a b c
   pub fit : In s a b c
   pub bytes : take (length (blank s)) (written s t a b c) ≡ take (length (blank s)) (x ∷ p ∷ q ∷ [])
 

@@ -7,8 +7,7 @@ use native.Mathlib.Omega.{arith}
 use lib.Dec.{ltb}
 use lib.IntN.{ℤ, pos, negsuc}
 use borrow.Author.Tests.{ltb-true, ltb-false, lt-ltb, le-ltb}
-use Rattle.instruction.specs.Decode.{shortOf}
-use Rattle.instruction.specs.Encode.{codeOf}
+use Rattle.field.specs.Code.{shortOf, codeOf}
 use Rattle.operand.specs.Range.{outside, unfit}
 use Rattle.operand.specs.declared.kind.Kind.the-variants.{Short}
 use Rattle.operand.proofs.Sign.{inside}

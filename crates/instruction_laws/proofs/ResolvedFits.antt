@@ -11,7 +11,8 @@ use Rattle.operand.specs.Answer.{accepted, Refusal, judge}
 use Rattle.operand.specs.Kinds.{kindAt}
 use Rattle.operand.specs.Range.{unfit}
 use Rattle.instruction.specs.Parts.{partsOf}
-use Rattle.instruction.specs.Resolve.{wrapped, operandRefusals, fieldOf, resolveAnswer}
+use Rattle.instruction.specs.Resolve.{resolveAnswer}
+use Rattle.field.specs.Resolve.{wrapped, operandRefusals, fieldOf}
 use Rattle.instruction.specs.declared.instr.Parts.{Parts}
 use Rattle.operand.specs.declared.kind.Kind.{Kind}
 use Rattle.operand.specs.declared.kind.Kind.the-variants.{Absent, Immediate, Direct, Register, BitNumber, Page, Far, Short, Long}

@@ -2,6 +2,7 @@
 -- cases.' Each of these definitions tells all cases and all values apart.
 -- Assumes nothing.
 use Rattle.operand.specs.Answer.{Apart}
+use Rattle.field.specs.Resolve.{resolutionOf}
 use Rattle.instruction.specs.Decode.{decodedOf}
 use Rattle.instruction.specs.Encode.{encodedOf, fitOf}
 use Rattle.instruction.specs.Resolve.{resolvedOf}
@@ -11,3 +12,4 @@ pub record AnswersApart : Type 0 where
   pub fit : Apart fitOf
   pub encode : Apart encodedOf
   pub resolve : Apart resolvedOf
+  pub operands : Apart resolutionOf

@@ -12,9 +12,9 @@ use Rattle.operand.specs.Answer.{accepted, Refusal, judge}
 use Rattle.operand.specs.declared.kind.Kind.{Kind}
 use Rattle.operand.specs.declared.kind.Kind.the-variants.{Absent, Immediate, Direct, Register, BitNumber, Page, Far, Short, Long}
 use Rattle.operand.proofs.Sign.{natural}
-use Rattle.instruction.specs.Encode.{codeOf}
-use Rattle.instruction.specs.Resolve.{noAddress, top, wrapped, operandRefusals, fieldOf}
-use Rattle.instruction.proofs.Resolving.{address-is, wraps-is}
+use Rattle.field.specs.Code.{codeOf}
+use Rattle.field.specs.Resolve.{noAddress, top, wrapped, operandRefusals, fieldOf}
+use Rattle.field.proofs.Resolving.{address-is, wraps-is}
 use Rattle.instruction_laws.specs.PartsMade.{used}
 use Rattle.instruction_laws.proofs.Accepting.{passed}
 use Rattle.ways.specs.Targets.{addressOf}

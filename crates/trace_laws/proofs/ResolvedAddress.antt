@@ -12,7 +12,8 @@ use Rattle.operand.proofs.Judging.{accepts}
 use Rattle.instruction.specs.Encode.{formIn}
 use Rattle.instruction.specs.Forms.{sizeOf}
 use Rattle.instruction.specs.Parts.{partsOf}
-use Rattle.instruction.specs.Resolve.{operandRefusals, fieldOf, resolveAnswer}
+use Rattle.instruction.specs.Resolve.{resolveAnswer}
+use Rattle.field.specs.Resolve.{operandRefusals, fieldOf}
 use Rattle.instruction.specs.declared.instr.Instr.{Instr}
 use Rattle.instruction.specs.declared.instr.Parts.{Parts}
 use Rattle.instruction.proofs.Known.{known}

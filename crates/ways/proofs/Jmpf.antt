@@ -7,7 +7,7 @@ use Prim.Native.Nat.{ℕ, _<_, _≤_}
 use lib.Dec.{T, eqb, leb}
 use borrow.Author.Tests.{eq-eqb, ne-eqb, leb-true}
 use Rattle.instruction.specs.Forms.{forms, formOf, numberOf}
-use Rattle.instruction.specs.Pattern.{pattern, bytesOf, onto, given, next}
+use Rattle.field.specs.Pattern.{pattern, bytesOf, onto, given, next}
 use Rattle.instruction.proofs.Every.{holds}
 use Rattle.ways.proofs.Ands.{first-part}
 use Rattle.ways.specs.At.{flashHere}

@@ -12,7 +12,7 @@ use mir.Val.{toZ, ofZ, SFits}
 use Rattle.operand.specs.Range.{unfit}
 use Rattle.operand.specs.declared.kind.Kind.the-variants.{Short}
 use Rattle.operand.proofs.Sign.{inside}
-use Rattle.instruction.proofs.Sign.{diff-fits}
+use Rattle.field.proofs.Sign.{diff-fits}
 
 sum-fits : (n : ℕ) (z : ℤ) → n ≤ 65536 → unfit Short z ≡ false → SFits w32 (pos n +ℤ z)
 unfolding unfit

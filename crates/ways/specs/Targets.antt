@@ -10,7 +10,8 @@ use Rattle.operand.specs.Kinds.{kindAt}
 use Rattle.operand.specs.declared.kind.Kind.{Kind}
 use Rattle.operand.specs.declared.kind.Kind.the-variants.{Absent, Immediate, Direct, Register, BitNumber, Page, Far, Short, Long}
 use Rattle.operand.specs.declared.kind.Shape.{Shape}
-use Rattle.instruction.specs.Encode.{formIn, misfits, misfitValues}
+use Rattle.instruction.specs.Encode.{formIn, misfits}
+use Rattle.field.specs.Resolve.{misfitValues}
 use Rattle.instruction.specs.Flow.{flowOf}
 use Rattle.instruction.specs.Forms.{sizeOf}
 use Rattle.instruction.specs.Parts.{partsOf}

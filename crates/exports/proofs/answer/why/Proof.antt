@@ -2,7 +2,7 @@
 -- Assumes nothing.
 use mathlib.Core.Path.{_∙_}
 use borrow.Author.Needs.{needs}
-use Rattle.instruction.specs.Resolve.{whyOf}
+use Rattle.field.specs.Resolve.{whyOf}
 use Rattle.exports.specs.Codec.{instrValues}
 use Rattle.exports.proofs.Told.{by-case, Read, ReadValue, told1, told2}
 use Rattle.exports.proofs.answer.why.Statement.{statement}

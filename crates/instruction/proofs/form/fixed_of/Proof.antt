@@ -4,7 +4,7 @@ use mathlib.Core.List.{[]}
 use lib.ListN.{getD, List·getD-map}
 use borrow.Author.Needs.{needs}
 use Rattle.instruction.specs.Forms.{forms, formAt, bits}
-use Rattle.instruction.specs.Pattern.{value, pattern, bytesOf, onto, given, next}
+use Rattle.field.specs.Pattern.{value, pattern, bytesOf, onto, given, next}
 use Rattle.instruction.proofs.form.fixed_of.Statement.{statement}
 use Rattle.instruction.proofs.form.fixed_of.Tie as tie
 

@@ -2,7 +2,7 @@
 -- Assumes nothing.
 use borrow.Author.Needs.{needs}
 use Rattle.operand.proofs.Sign.{back}
-use Rattle.instruction.proofs.Sign.{cast-pos}
+use Rattle.field.proofs.Sign.{cast-pos}
 use Rattle.ways.proofs.address.unsigned.Statement.{statement}
 use Rattle.ways.proofs.address.unsigned.Tie as tie
 

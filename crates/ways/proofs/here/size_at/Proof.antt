@@ -8,7 +8,7 @@ use lib.ListN.{getD, List·getD-eq-default}
 use Rattle.instruction.specs.Encode.{formIn}
 use Rattle.instruction.specs.Forms.{forms, formAt, formOf, sizeOf}
 use Rattle.instruction.specs.Grid.{ruleOf}
-use Rattle.instruction.specs.Pattern.{pattern, bytesOf, onto, given, next}
+use Rattle.field.specs.Pattern.{pattern, bytesOf, onto, given, next}
 use Rattle.instruction.specs.declared.instr.Instr.{Instr}
 use Rattle.instruction.specs.declared.instr.Parts.{Parts}
 use Rattle.instruction.proofs.Shapes.{size-range}

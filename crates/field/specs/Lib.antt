@@ -1,0 +1,4 @@
+pub mod Pattern
+pub mod Code
+pub mod Layout
+pub mod Resolve
