@@ -19,7 +19,6 @@ pub mod EncodeDecoded
 pub mod OwnForm
 pub mod DecodeEncoded
 pub mod ResolvedFits
-pub mod Edges
 pub mod Undone
 pub mod ResolvedApart
 pub mod Apart

@@ -3,5 +3,4 @@ pub mod Sizes
 pub mod PartsMade
 pub mod RoundTrips
 pub mod Resolving
-pub mod Edges
 pub mod Apart

@@ -1,13 +1,33 @@
--- Document 01, 'Both sides of each edge': those of decode, resolve and encode, 1 to 5 and 7 to 11.
+-- Document 01, 'Both sides of each edge': the starred ones, 1 to 12, in its order.
 -- Assumes nothing.
-use mathlib.Core.List.{[], _∷_}
+use Prim.Native.Nat.{ℕ}
+use mathlib.Core.List.{List, [], _∷_}
 use mathlib.Core.Path.{_≡_}
+use lib.ListN.{getD, replicate, take}
 use lib.IntN.{pos, negsuc}
 use Rattle.operand.specs.Answer.{accepted, refused}
 use Rattle.instruction.specs.Decode.{decodeAnswer}
 use Rattle.instruction.specs.Encode.{bytesIn}
 use Rattle.instruction.specs.Resolve.{resolveAnswer}
+use Rattle.ways.specs.Targets.{targetsAnswer}
+use Rattle.trace.specs.Run.{runMarks, runOrder}
+use Rattle.views.specs.Labels.{labelsOf}
 use Rattle.instruction.specs.declared.instr.Instr.the-variants.{Not1, Br, «Mov_d9», Call, Jmpf, Brf, Jmp}
+
+-- the image of edge 12
+abbrev pub flashCall : List ℕ
+flashCall = 0xB8 ∷ 0x0D ∷ 0x21 ∷ 0x00 ∷ 0x00 ∷ []
+
+-- five elements that are not looked at
+abbrev pub lent : List ℕ
+lent = replicate 5 9
+
+-- a run in it from one entry: the marks it leaves, and the positions that it notes, in their order
+abbrev pub marksFrom : ℕ → List ℕ
+marksFrom entry = runMarks flashCall lent lent (entry ∷ []) 5
+
+abbrev pub orderFrom : ℕ → List ℕ
+orderFrom entry = take 2 (runOrder flashCall lent lent (entry ∷ []) 5)
 
 abbrev pub Edges : Type 0
 Edges =
@@ -17,6 +37,8 @@ Edges =
     × (decodeAnswer (0x23 ∷ 0x00 ∷ 0x55 ∷ []) ≡ accepted («Mov_d9» (pos 0x55) (pos 0x100)))
     × (decodeAnswer (0x1F ∷ 0x34 ∷ []) ≡ accepted (Call (pos 0xF34)))
     × (decodeAnswer (0x21 ∷ 0x12 ∷ 0x34 ∷ []) ≡ accepted (Jmpf (pos 0x1234)))
+    × (decodeAnswer (0x11 ∷ 0x00 ∷ 0x80 ∷ []) ≡ accepted (Brf (pos 0x8000)))
+    × (targetsAnswer 0 (Brf (pos 0x8000)) ≡ accepted (pos 0x8002 ∷ []))
     × (resolveAnswer (Brf (pos 0)) 3 ≡ accepted (Brf (pos 0xFFFE)))
     × (bytesIn (Brf (pos 0xFFFE)) ≡ 0x11 ∷ 0xFE ∷ 0xFF ∷ [])
     × (resolveAnswer (Br (pos 129)) 2 ≡ accepted (Br (pos 127)))
@@ -28,3 +50,8 @@ Edges =
     × (resolveAnswer (Br (pos 65536)) 2 ≡ refused 8 (pos 65536 ∷ []))
     × (decodeAnswer [] ≡ refused 12 (pos 0 ∷ []))
     × (decodeAnswer (0x68 ∷ 0x00 ∷ []) ≡ refused 5 (pos 0 ∷ pos 0x68 ∷ []))
+    × (orderFrom 0 ≡ 0 ∷ 2 ∷ [])
+    × (getD (marksFrom 0) 2 0 ≡ 3)
+    × (orderFrom 2 ≡ 2 ∷ 0 ∷ [])
+    × (getD (marksFrom 2) 2 0 ≡ 2)
+    × (getD (labelsOf flashCall (marksFrom 2)) 0 0 ≡ 0)

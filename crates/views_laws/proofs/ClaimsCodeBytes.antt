@@ -1,0 +1,102 @@
+-- Which bytes are code: the mask of a finished run's marks.
+-- Assumes nothing.
+use mathlib.Core.Path.{_≡_, refl, sym, ap, subst, _∙_}
+use mathlib.Core.Bool.{Bool, true, false, _&&_, _||_}
+use mathlib.Core.List.{List, []}
+use mathlib.Core.Logic.{_⊎_, inl, inr}
+use Prim.Native.Nat.{ℕ, _+_, _<_, _≤_}
+use native.Mathlib.Omega.{arith}
+use native.Mathlib.Nat.{zero-add}
+use lib.Dec.{ltb, leb, eqb}
+use lib.ListN.{length, getD}
+use borrow.Author.Tests.{lt-ltb, ltb-true, le-leb, leb-true, eqb-true, eq-eqb}
+use Rattle.operand.proofs.Sign.{never}
+use Rattle.ways.specs.At.{sizeHere, fitsHere, waysHere}
+use Rattle.ways.proofs.Ands.{both, first-part, second-part}
+use Rattle.reach.specs.ClaimsOrder.{Final}
+use Rattle.reach.specs.Mark.{traced, flash, tracedMark, cleared}
+use Rattle.reach.specs.Reach.{Reach}
+use Rattle.reach.proofs.Cleared.{cleared-at}
+use Rattle.trace.specs.Tracer.{tracerOf}
+use Rattle.trace_laws.proofs.ClaimsImagesOrder.{image-run-final}
+use Rattle.views.specs.Mask.{under, covers, masked, maskOf}
+use Rattle.views.specs.Positions.{upFrom, positions, some, bit, tracedAt}
+use Rattle.views.proofs.Ups.{up-at}
+use Rattle.views_laws.specs.ClaimsCode.{Code, CodeBytes}
+use Rattle.views_laws.proofs.Finished.{sized, covered, marks-are, ended}
+use Rattle.views_laws.proofs.Reached.{plainly, over, reached-inside}
+use Rattle.views_laws.proofs.Somes.{Passes, which, passing}
+
+-- marks that are final
+module _ (image marks entries m : List ℕ) (F : Final (tracerOf image) (cleared (length image) marks) entries m) where
+  abbrev At : ℕ → Type 0
+  At q = Reach (tracerOf image) (waysHere image) (cleared (length image) marks) entries q
+
+  -- a reachable position has mark 1 or 2
+  reached-mark : (q : ℕ) → q < length image → At q → (b : Bool) → fitsHere image q ≡ b → getD m q 0 ≡ flash → ⊥
+  reached-mark q h r true f e = let g : getD m q 0 ≡ 2 = F .two q h .1 (r, f) in omega arith
+  reached-mark q h r false f e = let g : getD m q 0 ≡ 1 = F .one q h .1 (r, f) in omega arith
+
+  -- no mark is 3
+  no-flash : (q : ℕ) → q < length image → getD m q 0 ≡ flash → ⊥
+  no-flash q h e =
+      let z : getD m q 0 ≡ 0 = F .others q (λ r. reached-mark q h r (fitsHere image q) refl e) ∙ cleared-at (length image) marks q h in omega arith
+
+  traced-reached : (q : ℕ) → q < length image → tracedMark (getD m q 0) ≡ true → At q × (fitsHere image q ≡ true)
+  unfolding tracedMark
+  traced-reached q h t = F .two q h .0 (by (eqb (getD m q 0) traced) refl t)
+    where
+      by : (b : Bool) → eqb (getD m q 0) traced ≡ b → (b || eqb (getD m q 0) flash) ≡ true → getD m q 0 ≡ traced
+      by true e u = eqb-true (getD m q 0) traced e
+      by false e u = absurd (no-flash q h (eqb-true (getD m q 0) flash u))
+
+  reached-traced : (q : ℕ) → q < length image → At q → fitsHere image q ≡ true → tracedMark (getD m q 0) ≡ true
+  unfolding tracedMark
+  reached-traced q h r f = ap tracedMark (F .two q h .1 (r, f))
+
+  -- a byte that is masked is code
+  masked-code : (b : ℕ) → masked image m b ≡ true → Code image entries b
+  unfolding masked
+  masked-code b e =
+      let P = which (covers image m b) (length image) 0 e in
+      let q = P .at in
+      let t = first-part (tracedAt image m q) (under image b q) (P .passed) in
+      let u = second-part (tracedAt image m q) (under image b q) (P .passed) in
+      let h = ltb-true q (length image) (first-part (ltb q (length image)) _ t) in
+      let r = traced-reached q h (second-part (ltb q (length image)) _ t) in
+      record {
+        position = q;
+        reachable = plainly (tracerOf image) (waysHere image) marks entries (r .0);
+        fits = r .1;
+        from = leb-true q b (first-part (leb q b) _ u);
+        to = ltb-true b (q + sizeHere image q) (second-part (leb q b) _ u);
+      }
+
+  -- and code is masked
+  code-masked : (b : ℕ) → Code image entries b → masked image m b ≡ true
+  unfolding masked
+  code-masked b C =
+      let q = C .position in
+      let r = over (tracerOf image) (waysHere image) marks entries (C .reachable) in
+      let h = reached-inside (C .reachable) .inside in
+      passing (covers image m b) (length image) 0 q (omega arith) (subst (λ (k : ℕ). q < k) (sym (zero-add (length image))) h)
+      (both (tracedAt image m q) (under image b q)
+      (both (ltb q (length image)) (tracedMark (getD m q 0)) (lt-ltb q (length image) h) (reached-traced q h r (C .fits)))
+      (both (leb q b) (ltb b (q + sizeHere image q)) (le-leb q b (C .from)) (lt-ltb b (q + sizeHere image q) (C .to))))
+
+  mask-at : (b : ℕ) → b < length image → getD (maskOf image m) b 0 ≡ bit (masked image m b)
+  unfolding maskOf
+  mask-at b h = up-at (λ (k : ℕ). bit (masked image m k)) (length image) 0 b h ∙ ap (λ (k : ℕ). bit (masked image m k)) (zero-add b)
+
+  told : (b : ℕ) → b < length image → ((getD (maskOf image m) b 0 ≡ 1) × Code image entries b) ⊎ ((getD (maskOf image m) b 0 ≡ 0) × (Code image entries b → ⊥))
+  told b h = by (masked image m b) refl
+    where
+      by : (t : Bool) → masked image m b ≡ t → ((getD (maskOf image m) b 0 ≡ 1) × Code image entries b) ⊎ ((getD (maskOf image m) b 0 ≡ 0) × (Code image entries b → ⊥))
+      by true e = inl (mask-at b h ∙ ap bit e, masked-code b e)
+      by false e = inr (mask-at b h ∙ ap bit e, λ C. never (sym (code-masked b C) ∙ e))
+
+pub code-bytes : CodeBytes
+code-bytes image marks order entries limit s B C a f b h =
+    subst (λ (m : List ℕ). ((getD (maskOf image m) b 0 ≡ 1) × Code image entries b) ⊎ ((getD (maskOf image m) b 0 ≡ 0) × (Code image entries b → ⊥)))
+    (sym (marks-are image marks order entries limit s a))
+    (told image marks entries _ (image-run-final image marks entries limit B C (covered image marks order entries limit (sized image marks order entries limit s a)) (ended image marks order entries limit s a f)) b h)

@@ -1,0 +1,56 @@
+-- What an accepted run that is finished says: the sizes were right, and its marks are those of the definition's run.
+-- Assumes nothing.
+use mathlib.Core.Path.{_≡_, refl, sym, ap, _∙_}
+use mathlib.Core.Bool.{Bool, true, false}
+use mathlib.Core.List.{List, [], _∷_}
+use Prim.Native.Nat.{ℕ, _<_, _≤_}
+use native.Mathlib.Omega.{arith}
+use lib.Dec.{ltb}
+use lib.IntN.{ℤ, pos}
+use lib.ListN.{length}
+use borrow.Author.Tests.{ltb-true, ltb-false, le-ltb, lt-ltb}
+use Rattle.operand.specs.Answer.{Answer, accepted, refused, judge, after}
+use Rattle.operand.proofs.Judging.{pass, stop}
+use Rattle.operand.proofs.Sign.{never}
+use Rattle.reach.specs.Run.{End, finished, stopped, cutOff, Outcome, steps, noted}
+use Rattle.trace.specs.Run.{Said, runJudged, runAnswer, runMarks, ranAnswer, endOf, outcomeOf, orElse}
+
+differ : {A : Type 0} {a : A} {n : ℕ} {vs : List ℤ} → _≡_ {A = Answer A} (refused n vs) (accepted a) → ⊥
+differ e = let z : _≡_ {A = ℕ} 1 0 = cc in omega arith
+
+module _ (image marks order entries : List ℕ) (limit : ℕ) where
+  abbrev judged : Answer (Unit {0})
+  judged = runJudged image marks order
+
+  abbrev out : Outcome
+  out = outcomeOf image marks entries limit
+
+  module _ (s : Said) (a : runAnswer image marks order entries limit ≡ accepted s) where
+    passed : (r : Answer (Unit {0})) → judged ≡ r → (r ≡ accepted tt) × (ranAnswer image out ≡ accepted s)
+    unfolding runAnswer
+    passed (accepted tt) e = (refl, ap (λ (q : Answer (Unit {0})). orElse q (ranAnswer image out)) (sym e) ∙ a)
+    passed (refused n vs) e =
+        absurd (differ (ap (λ (q : Answer (Unit {0})). orElse q (ranAnswer image out)) (sym e) ∙ a))
+
+    pub sized : judged ≡ accepted tt
+    sized = passed judged refl .0
+
+    pub marks-are : runMarks image marks order entries limit ≡ out .marks
+    unfolding runMarks
+    marks-are = ap (λ (q : Answer (Unit {0})). after q (out .marks) marks) sized
+
+    pub ended : s .finished ≡ true → out .end ≡ finished
+    ended f = by (out .end) refl (passed judged refl .1)
+      where
+        by : (e : End) → out .end ≡ e → endOf image e (steps out) (length (noted out)) ≡ accepted s → out .end ≡ finished
+        by finished h r = h
+        by stopped h r = absurd (let z : false ≡ s .finished = cc in never (sym (z ∙ f)))
+        by (cutOff p) h r = absurd (differ r)
+
+  pub covered : judged ≡ accepted tt → length image ≤ length marks
+  covered e = by (ltb 65536 (length image)) refl (ltb (length marks) (length image)) refl
+    where
+      by : (b : Bool) → ltb 65536 (length image) ≡ b → (c : Bool) → ltb (length marks) (length image) ≡ c → length image ≤ length marks
+      by b f false g = ltb-false (length marks) (length image) g
+      by true f true g = absurd (differ (sym (stop _ _ _ f) ∙ e))
+      by false f true g = absurd (differ (sym (pass _ _ _ f ∙ stop _ _ _ g) ∙ e))

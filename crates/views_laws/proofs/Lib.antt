@@ -1,0 +1,6 @@
+pub mod ClaimsViewsApart
+pub mod Finished
+pub mod Somes
+pub mod Reached
+pub mod ClaimsCodeBytes
+pub mod Edges

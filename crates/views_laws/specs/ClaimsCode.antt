@@ -1,0 +1,36 @@
+-- Which bytes are code: demand 3 and the mask together. Document 01, 'Targets', 'Marks and steps' and 'Views'.
+-- Assumes nothing.
+use Prim.Native.Nat.{ℕ, _+_, _<_, _≤_}
+use mathlib.Core.Bool.{true}
+use mathlib.Core.List.{List, []}
+use mathlib.Core.Logic.{_⊎_}
+use mathlib.Core.Path.{_≡_}
+use lib.ListN.{length, getD}
+use Rattle.operand.specs.Answer.{accepted}
+use Rattle.ways.specs.At.{sizeHere, fitsHere, waysHere}
+use Rattle.reach.specs.Reach.{Reach}
+use Rattle.trace.specs.Run.{Said, runAnswer, runMarks}
+use Rattle.trace.specs.Tracer.{tracerOf}
+use Rattle.trace_laws.specs.ClaimsImages.{Bytes, Clean}
+use Rattle.views.specs.Mask.{maskOf}
+
+-- p is reachable from these entries: an entry inside the image, or a target inside the image of a reachable position whose instruction fits
+abbrev pub Reachable : List ℕ → List ℕ → ℕ → Type 0
+Reachable image entries p = Reach (tracerOf image) (waysHere image) [] entries p
+
+-- b lies under an instruction at a reachable position that fits
+pub record Code (image entries : List ℕ) (b : ℕ) : Type 0 where
+  pub position : ℕ
+  pub reachable : Reachable image entries position
+  pub fits : fitsHere image position ≡ true
+  pub from : position ≤ b
+  pub to : b < position + sizeHere image position
+
+-- for an image with no B8 0D 21 in succession and a finished run, the mask of the run's marks has 1 at each byte of code and 0 at every
+-- other byte
+abbrev pub CodeBytes : Type 0
+CodeBytes =
+    (image marks order entries : List ℕ) (limit : ℕ) (s : Said) → Bytes image → Clean image → runAnswer image marks order entries limit ≡ accepted s → s .finished ≡ true
+    → (b : ℕ) → b < length image
+    → ((getD (maskOf image (runMarks image marks order entries limit)) b 0 ≡ 1) × Code image entries b)
+    ⊎ ((getD (maskOf image (runMarks image marks order entries limit)) b 0 ≡ 0) × (Code image entries b → ⊥))

@@ -1,0 +1,3 @@
+pub mod ClaimsCode
+pub mod ClaimsViews
+pub mod Edges
