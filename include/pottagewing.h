@@ -1,4 +1,4 @@
-/* Pottagewing: the instructions of the LC86K, for C.
+/* Pottagewing: the instructions of the LC86K and tracing through them, for C.
  *
  * Every call answers a number: 0 where it did what was asked, otherwise the
  * number of the refusal. The values that belong to the answer stand in
@@ -6,27 +6,40 @@
  * answer's own room of five numbers: every call writes all five, also where it
  * refuses, and none reads them.
  *
- * Bytes are lent as a pointer and then their number. Every buffer must be at
- * least as long as said, must stay unchanged by others during the call, and
- * must not overlap any other buffer of the same call, `answer` among them. No
- * pointer may be null, also where the number is 0: nothing is read or written
- * through it then.
+ * Bytes, and lists of numbers, are lent as a pointer and then how many there
+ * are. Every buffer must be at least as long as said, must stay unchanged by
+ * others during the call, and must not overlap any other buffer of the same
+ * call, `answer` among them. No pointer may be null, also where the number is
+ * 0: nothing is read or written through it then.
  *
  * An instruction is passed as the first byte of its form (all 256 bytes name a
  * form, and the bits of operands in that byte do not count) and its operands
  * a, b, c in the order in which they are shown, immediate first in `mov`.
  * Operands that the form does not have are ignored.
  *
+ * Tracing goes over an image, its bytes, and marks, one byte for each position
+ * of it: 0 untouched, 1 waiting, 2 traced, 3 a traced `jmpf` whose target is
+ * not followed. That is one with the bytes B8 0D right before it, where the
+ * first of these two is traced when the `jmpf` is taken up. Marks and order
+ * lists may be longer than the image; what lies beyond its length is neither
+ * read nor written.
+ *
  * The numbers of the refusals, with the values in answer[0], answer[1]:
  *
+ *    1  the image is longer than 65,536: its length
+ *    2  the marks are shorter than the image: their length
+ *    3  the order list is shorter than the image: its length
+ *    4  the position is not waiting: its mark, 0 if it is not inside the image
  *    5  the instruction is cut off by the end: position, first byte
+ *    6  a mark is over 3: its position
  *    7  a number does not fit its field: operand, counted from 1, and the number
  *    8  not an address, 0 to 65,535: the number
  *    9  a short offset is not -128 to 127: the offset
  *   10  the top four bits differ: the base's, the address's
  *   11  no room: the number of bytes needed
  *   12  nothing to decode: 0
- *   14  the base is over 65,536: the base
+ *   14  the base, or the position after the instruction, is over 65,536: that
+ *       number
  */
 #ifndef POTTAGEWING_H
 #define POTTAGEWING_H
@@ -62,6 +75,52 @@ uint32_t pw_encode(uint8_t first, int32_t a, int32_t b, int32_t c,
  */
 uint32_t pw_resolve(uint8_t first, int32_t a, int32_t b, int32_t c,
                     uint32_t base, int64_t answer[5]);
+
+/* The positions to which control may go from an instruction at a position.
+ * Operands are fields, as pw_encode takes them.
+ * 0: how many (0 to 2), then the targets, 0 where there is none: where a jump,
+ *    branch or call leads, then the position after the instruction, if control
+ *    can go there. A short branch may lead below 0 or above 65,535.
+ * 14 with the position after the instruction, then 7.
+ */
+uint32_t pw_targets(uint32_t position, uint8_t first, int32_t a, int32_t b,
+                    int32_t c, int64_t answer[5]);
+
+/* Clears the marks of the image and sets 1 at the entries inside it. Repeated
+ * entries count once.
+ * 0: the number of positions set.
+ * 1, then 2: the marks stay as they were.
+ */
+uint32_t pw_start(const uint8_t *image, size_t image_length,
+                  uint8_t *marks, size_t marks_length,
+                  const uint32_t *entries, size_t entries_length,
+                  int64_t answer[5]);
+
+/* Takes up one waiting position: its mark becomes 2 or 3, and each of its
+ * targets inside the image that was untouched becomes waiting.
+ * 0: the new mark, and how many positions became waiting.
+ * 1, 2, 4, 6 at the position, 5, 6 at the position two before (read only for a
+ * `jmpf` after B8 0D), 6 at the targets in their order: the marks stay as they
+ * were.
+ */
+uint32_t pw_step(const uint8_t *image, size_t image_length,
+                 uint8_t *marks, size_t marks_length,
+                 uint32_t position, int64_t answer[5]);
+
+/* Starts afresh from the entries and takes positions up first come, first
+ * served, for at most `limit` steps. The order list gets each position noted,
+ * in the order in which they came; the rest of it stays as it was.
+ * 0: 1 where nothing was left waiting or 0 where the limit stopped it, the
+ *    number of steps (as many positions have the mark 2 or 3), and the number
+ *    of positions noted.
+ * 1, 2, 3: marks and order list stay as they were. 5: what was written before
+ * the cut-off instruction was met remains.
+ */
+uint32_t pw_run(const uint8_t *image, size_t image_length,
+                uint8_t *marks, size_t marks_length,
+                uint32_t *order, size_t order_length,
+                const uint32_t *entries, size_t entries_length,
+                uint32_t limit, int64_t answer[5]);
 
 #ifdef __cplusplus
 }

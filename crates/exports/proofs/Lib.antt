@@ -3,3 +3,4 @@ pub mod Told
 pub mod Named
 pub mod Carried
 pub mod Sizes
+pub mod Lengths

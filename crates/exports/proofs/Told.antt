@@ -25,6 +25,9 @@ module _ {r : Reply} {n : ℕ} where
   pub told2 : {a a′ b b′ : ℤ} → r ≡ reply n (a ∷ b ∷ []) → a ≡ a′ → b ≡ b′ → r ≡ reply n (a′ ∷ b′ ∷ [])
   told2 e p q = rw (← p, ← q) e
 
+  pub told3 : {a a′ b b′ c c′ : ℤ} → r ≡ reply n (a ∷ b ∷ c ∷ []) → a ≡ a′ → b ≡ b′ → c ≡ c′ → r ≡ reply n (a′ ∷ b′ ∷ c′ ∷ [])
+  told3 e p q s = rw (← p, ← q, ← s) e
+
   pub told5 : {a a′ b b′ c c′ d d′ f f′ : ℤ} → r ≡ reply n (a ∷ b ∷ c ∷ d ∷ f ∷ []) → a ≡ a′ → b ≡ b′ → c ≡ c′ → d ≡ d′ → f ≡ f′ → r ≡ reply n (a′ ∷ b′ ∷ c′ ∷ d′ ∷ f′ ∷ [])
   told5 e p q s t u = rw (← p, ← q, ← s, ← t, ← u) e
 

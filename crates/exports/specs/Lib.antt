@@ -1,3 +1,4 @@
 pub mod Reply
 pub mod Codec
+pub mod Tracing
 pub mod Counts

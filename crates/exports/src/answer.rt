@@ -31,7 +31,7 @@ fn instr(i: Instr) -> Reply
     )
 }
 
-fn misfit(m: Misfit) -> Reply
+pub fn misfit(m: Misfit) -> Reply
     ensures { λ r. ⌜ r ≡ reply 7 (misfitValues m) ⌝ }
 {
     Reply::two(7, wide::byte(m.operand), wide::signed(m.value))

@@ -36,6 +36,15 @@ impl Reply {
         }
     }
 
+    pub fn three(number: u32, a: i64, b: i64, c: i64) -> Self
+        ensures { λ r. ⌜ r ≡ reply number (a ∷ b ∷ c ∷ []) ⌝ }
+    {
+        Self {
+            number,
+            values: [a, b, c, 0, 0],
+        }
+    }
+
     // The values go into the caller's room, and the number is the answer.
     pub fn give(self, answer: &mut [i64; 5]) -> u32
         ensures { λ r. ⌜ (r ≡ self .number) × (now (answer .exit) ≡ self .values) ⌝ }
