@@ -10,7 +10,12 @@ pub struct Answer {
 
 impl Answer {
     pub const DONE: u32 = 0;
+    pub const LONG_IMAGE: u32 = 1;
+    pub const SHORT_MARKS: u32 = 2;
+    pub const SHORT_ORDER: u32 = 3;
+    pub const NOT_WAITING: u32 = 4;
     pub const CUT_OFF: u32 = 5;
+    pub const DAMAGED: u32 = 6;
     pub const MISFIT: u32 = 7;
     pub const NO_ADDRESS: u32 = 8;
     pub const FAR_OFFSET: u32 = 9;

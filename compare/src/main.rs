@@ -3,10 +3,15 @@
 
 mod decode;
 mod encode;
+mod lent;
 mod ours;
 mod resolve;
 mod room;
+mod run;
+mod steps;
 mod tally;
+mod targets;
+mod traces;
 
 use compare::paper;
 use compare::random::Random;
@@ -23,11 +28,15 @@ fn main() -> ExitCode {
     };
     println!("seed {seed}");
     paper::check_widths();
+    paper::flow::check_table();
     let mut random = Random(seed);
     let mut tally = tally::Tally::new();
     decode::compare(&mut tally, &mut random);
     encode::compare(&mut tally, &mut random);
     resolve::compare(&mut tally, &mut random);
+    targets::compare(&mut tally, &mut random);
+    steps::compare(&mut tally, &mut random);
+    traces::compare(&mut tally, &mut random);
     match tally.report() {
         true => ExitCode::SUCCESS,
         false => ExitCode::FAILURE,

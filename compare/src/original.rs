@@ -1,7 +1,10 @@
 //! The original's answers, as the plain numbers of our C face.
 
+pub mod traced;
+
 use crate::answer::Answer;
 use std::sync::LazyLock;
+use waterbear::disasm::probe;
 use waterbear::env::Names;
 use waterbear::expression::{Expr, IndirectionMode, Radix};
 use waterbear::files::FileID;
@@ -56,6 +59,13 @@ pub fn decode(bytes: &[u8]) -> Answer {
 /// For fields that are in range; what becomes of others, the text of the original does not say.
 pub fn encode(form: usize, fields: [i32; 3]) -> Vec<u8> {
     instruction(form, fields).encode()
+}
+
+/// The targets of an instruction at a position, for fields that are in range. A target below 0 comes out
+/// of the original as 2^64 less; it is put back here.
+pub fn targets(form: usize, fields: [i32; 3], position: u32) -> Vec<i64> {
+    let found = probe::targets_alone(position as usize, &instruction(form, fields));
+    found.into_iter().map(|target| target as i64).collect()
 }
 
 fn instruction(form: usize, fields: [i32; 3]) -> Instr<i32, u8> {

@@ -15,6 +15,36 @@ unsafe extern "C" {
         answer: *mut [i64; 5],
     ) -> u32;
     fn pw_resolve(first: u8, a: i32, b: i32, c: i32, base: u32, answer: *mut [i64; 5]) -> u32;
+    fn pw_targets(position: u32, first: u8, a: i32, b: i32, c: i32, answer: *mut [i64; 5]) -> u32;
+    fn pw_start(
+        image: *const u8,
+        image_length: usize,
+        marks: *mut u8,
+        marks_length: usize,
+        entries: *const u32,
+        entries_length: usize,
+        answer: *mut [i64; 5],
+    ) -> u32;
+    fn pw_step(
+        image: *const u8,
+        image_length: usize,
+        marks: *mut u8,
+        marks_length: usize,
+        position: u32,
+        answer: *mut [i64; 5],
+    ) -> u32;
+    fn pw_run(
+        image: *const u8,
+        image_length: usize,
+        marks: *mut u8,
+        marks_length: usize,
+        order: *mut u32,
+        order_length: usize,
+        entries: *const u32,
+        entries_length: usize,
+        limit: u32,
+        answer: *mut [i64; 5],
+    ) -> u32;
 }
 
 pub fn decode(bytes: &[u8]) -> Answer {
@@ -29,6 +59,45 @@ pub fn encode(first: u8, fields: [i32; 3], room: &mut [u8]) -> Answer {
 pub fn resolve(first: u8, operands: [i32; 3], base: u32) -> Answer {
     let [a, b, c] = operands;
     answered(|values| unsafe { pw_resolve(first, a, b, c, base, values) })
+}
+
+pub fn targets(first: u8, fields: [i32; 3], position: u32) -> Answer {
+    let [a, b, c] = fields;
+    answered(|values| unsafe { pw_targets(position, first, a, b, c, values) })
+}
+
+pub fn start(image: &[u8], marks: &mut [u8], entries: &[u32]) -> Answer {
+    let (at, n) = (marks.as_mut_ptr(), marks.len());
+    let (list, count) = (entries.as_ptr(), entries.len());
+    answered(|values| unsafe { pw_start(image.as_ptr(), image.len(), at, n, list, count, values) })
+}
+
+pub fn step(image: &[u8], marks: &mut [u8], position: u32) -> Answer {
+    let (at, n) = (marks.as_mut_ptr(), marks.len());
+    answered(|values| unsafe { pw_step(image.as_ptr(), image.len(), at, n, position, values) })
+}
+
+pub fn run(
+    image: &[u8],
+    marks: &mut [u8],
+    order: &mut [u32],
+    entries: &[u32],
+    limit: u32,
+) -> Answer {
+    answered(|values| unsafe {
+        pw_run(
+            image.as_ptr(),
+            image.len(),
+            marks.as_mut_ptr(),
+            marks.len(),
+            order.as_mut_ptr(),
+            order.len(),
+            entries.as_ptr(),
+            entries.len(),
+            limit,
+            values,
+        )
+    })
 }
 
 /// The values begin as numbers that no answer has, so that one left unwritten is seen.

@@ -2,6 +2,9 @@
 //! the calls that have no counterpart in the original, and are themselves held against the original
 //! where there is one.
 
+pub mod flow;
+pub mod tracer;
+
 use crate::answer::Answer;
 use crate::original;
 use std::ops::RangeInclusive;

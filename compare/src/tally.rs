@@ -8,12 +8,20 @@ pub enum Call {
     Decode,
     Encode,
     Resolve,
+    Targets,
+    Start,
+    Step,
+    Run,
 }
 
-const CALLS: [(Call, &str); 3] = [
+const CALLS: [(Call, &str); 7] = [
     (Call::Decode, "decode"),
     (Call::Encode, "encode"),
     (Call::Resolve, "resolve"),
+    (Call::Targets, "targets"),
+    (Call::Start, "start"),
+    (Call::Step, "step"),
+    (Call::Run, "run"),
 ];
 
 /// Who says what the answer is to be.
@@ -37,9 +45,27 @@ struct Counts {
 const NUMBERS: usize = 24;
 const SHOWN: u64 = 20;
 
+/// What the runs came to.
+#[derive(Default)]
+pub struct Traces {
+    pub finished: u64,
+    pub stopped: u64,
+    pub cut_off: u64,
+    /// With a Jmpf that is not followed.
+    pub unfollowed: u64,
+    /// With a Jmpf after B8 0D that is followed, since it came first.
+    pub followed: u64,
+    /// The most positions taken up by one.
+    pub most: usize,
+    /// Given up in the original, for too many visits, and judged by document 01.
+    pub capped: u64,
+}
+
 pub struct Tally {
     by_number: [[Counts; NUMBERS]; CALLS.len()],
     by_form: [[Counts; CALLS.len()]; FORMS],
+    pub traces: Traces,
+    taken: [u64; FORMS],
     all: Counts,
 }
 
@@ -48,7 +74,16 @@ impl Tally {
         Tally {
             by_number: [[Counts::default(); NUMBERS]; CALLS.len()],
             by_form: [[Counts::default(); CALLS.len()]; FORMS],
+            traces: Traces::default(),
+            taken: [0; FORMS],
             all: Counts::default(),
+        }
+    }
+
+    /// Counts the instructions that a run took up, by their first bytes.
+    pub fn taken(&mut self, firsts: impl Iterator<Item = u8>) {
+        for first in firsts {
+            self.taken[original::form(first)] += 1;
         }
     }
 
@@ -94,6 +129,7 @@ impl Tally {
     pub fn report(&self) -> bool {
         self.report_forms();
         self.report_numbers();
+        self.traces.report();
         let all = &self.all;
         let (alone, alone_differ) = (all.alone, all.alone_differ);
         println!(
@@ -105,13 +141,17 @@ impl Tally {
 
     fn report_forms(&self) {
         println!(
-            "form      decode    encode   resolve  differ   (with the original, and ours alone)"
+            "calls with the original, and ours alone; 'taken' are instructions taken up in runs"
         );
+        println!("form      decode    encode   resolve   targets      step     taken  differ");
         for (form, calls) in self.by_form.iter().enumerate() {
-            let [decode, encode, resolve] = calls.map(|counts| counts.compared + counts.alone);
+            let counts = calls.map(|counts| counts.compared + counts.alone);
+            let [decode, encode, resolve, targets, _, step, _] = counts;
             let differ: u64 = calls.iter().map(|counts| counts.differ).sum();
-            let name = original::name(form);
-            println!("{name:<7} {decode:>8}  {encode:>8}  {resolve:>8}  {differ:>6}");
+            let (name, taken) = (original::name(form), self.taken[form]);
+            println!(
+                "{name:<7} {decode:>8}  {encode:>8}  {resolve:>8}  {targets:>8}  {step:>8}  {taken:>8}  {differ:>6}"
+            );
         }
     }
 
@@ -126,6 +166,22 @@ impl Tally {
                 }
             }
         }
+    }
+}
+
+impl Traces {
+    fn report(&self) {
+        let Traces {
+            finished,
+            stopped,
+            cut_off,
+            ..
+        } = self;
+        println!("runs: finished {finished}, stopped {stopped}, cut off {cut_off}");
+        println!("most positions taken up by one: {}", self.most);
+        let (unfollowed, followed, capped) = (self.unfollowed, self.followed, self.capped);
+        println!("runs with a Jmpf after B8 0D: not followed {unfollowed}, followed {followed}");
+        println!("runs given up in the original (document 01 judges): {capped}");
     }
 }
 

@@ -1,13 +1,15 @@
 //! A limit on how often the original decodes, and so on how many positions its tracer takes up: it
-//! takes a position up again for every repeat in its list, which can be exponentially often.
+//! takes a position up again for every repeat in its list, which can be exponentially often. What was
+//! left of the bytes at each decoding is kept, since it tells where the tracer was.
 
 use std::any::Any;
-use std::cell::Cell;
+use std::cell::{Cell, RefCell};
 use std::panic::{AssertUnwindSafe, catch_unwind, resume_unwind};
 
 thread_local! {
-    static SPENT: Cell<u64> = const { Cell::new(0) };
-    static LIMIT: Cell<u64> = const { Cell::new(u64::MAX) };
+    static LEFT: RefCell<Vec<usize>> = const { RefCell::new(Vec::new()) };
+    /// None outside of a call under a limit.
+    static LIMIT: Cell<Option<u64>> = const { Cell::new(None) };
 }
 
 /// How a call under a limit ended.
@@ -20,26 +22,35 @@ pub enum Ended<T> {
 
 struct Over;
 
-/// Called by `decode_raw`. The unwinding past the limit prints nothing.
-pub fn spend() {
-    let spent = SPENT.get() + 1;
-    SPENT.set(spent);
-    if spent > LIMIT.get() {
+/// Called by `decode_raw` with the number of bytes it was given. The unwinding past the limit prints
+/// nothing.
+pub fn spend(left: usize) {
+    let Some(limit) = LIMIT.get() else { return };
+    let spent = LEFT.with_borrow_mut(|all| {
+        all.push(left);
+        all.len() as u64
+    });
+    if spent > limit {
         resume_unwind(Box::new(Over));
     }
 }
 
 /// How often the last call under a limit decoded.
 pub fn spent() -> u64 {
-    SPENT.get()
+    LEFT.with_borrow(|all| all.len() as u64)
+}
+
+/// How many bytes were left at each decoding of the last call under a limit, in their order.
+pub fn each_left(visit: impl FnMut(usize)) {
+    LEFT.with_borrow(|all| all.iter().copied().for_each(visit))
 }
 
 /// Calls `work` and gives it up when it decodes more often than `limit`.
 pub fn within<T>(limit: u64, work: impl FnOnce() -> T) -> Ended<T> {
-    SPENT.set(0);
-    LIMIT.set(limit);
+    LEFT.with_borrow_mut(Vec::clear);
+    LIMIT.set(Some(limit));
     let ended = catch_unwind(AssertUnwindSafe(work));
-    LIMIT.set(u64::MAX);
+    LIMIT.set(None);
     match ended {
         Ok(answer) => Ended::Answered(answer),
         Err(cause) if cause.is::<Over>() => Ended::OverLimit,

@@ -7,9 +7,15 @@
 //! - `E`: a first byte that names the form, three fields, the length of the room. The values are the
 //!   number of bytes written, then three bytes (0 past that number) as they stand in the room, then 0.
 //! - `R`: a first byte that names the form, three operands, the base.
+//! - `T`: a first byte that names the form, three fields, the position. The values are the number of
+//!   targets and the targets.
+//! - `G`: a whole trace of an image of up to ten bytes: its length, two numbers of five bytes (0 past its
+//!   length), two entries. The values are three of the run's, then the order list and the marks, of ten
+//!   each, as hexadecimal digits; before, the list is all 15 and the marks are all 9.
 //!
 //! The cases are those that the original answers: no register out of range, no field that encode is to
-//! refuse, no room too short, no base above 65,536.
+//! refuse, no room too short, no base above 65,536, no target below 0. Of a trace it tells how it ends,
+//! the first visits and the traced set; what was noted and not taken up is document 01's.
 
 #[path = "vectors/decoded.rs"]
 mod decoded;
@@ -17,6 +23,10 @@ mod decoded;
 mod encoded;
 #[path = "vectors/resolved.rs"]
 mod resolved;
+#[path = "vectors/targeted.rs"]
+mod targeted;
+#[path = "vectors/traced.rs"]
+mod traced;
 
 use compare::answer::Answer;
 use compare::paper;
@@ -52,6 +62,8 @@ fn main() {
     decoded::cases(&mut lines);
     encoded::cases(&mut lines);
     resolved::cases(&mut lines);
+    targeted::cases(&mut lines);
+    traced::cases(&mut lines);
     print!("{}", lines.text);
     let count = lines.seen.len();
     eprintln!("{count} answers of the original, made by 'compare/run --vectors SRC'");

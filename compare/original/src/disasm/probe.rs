@@ -20,6 +20,20 @@ pub fn trace(entries: &[usize], image: &[u8], visits: u64) -> Ended<Result<Graph
     })
 }
 
+/// The positions that the last trace took up, each once, in the order of their first visits. Where it
+/// was cut off, the last is the one that did it.
+pub fn first_visits(image: &[u8]) -> Vec<usize> {
+    let mut seen = vec![false; image.len()];
+    let mut visits = vec![];
+    budget::each_left(|left| {
+        let position = image.len() - left;
+        if !std::mem::replace(&mut seen[position], true) {
+            visits.push(position);
+        }
+    });
+    visits
+}
+
 impl Graph {
     /// The traced positions, ascending.
     pub fn positions(&self) -> Vec<usize> {

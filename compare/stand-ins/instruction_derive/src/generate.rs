@@ -19,7 +19,7 @@ fn leaned_on(forms: &[Form]) -> String {
     format!(
         "impl Instr<i32, u8> {{
             pub fn decode_raw(bytes: &[u8]) -> Option<Instr<i32, u8>> {{
-                crate::budget::spend();
+                crate::budget::spend(bytes.len());
                 {decodings}
                 None
             }}

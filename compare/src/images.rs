@@ -1,0 +1,112 @@
+//! Images to trace and entries to trace them from.
+
+use crate::original;
+use crate::random::Random;
+
+/// Bytes that begin an instruction of each flow, or stand well within one.
+pub const TELLING: [u8; 22] = [
+    0x00, 0x01, 0x02, 0x08, 0x10, 0x11, 0x20, 0x21, 0x22, 0x28, 0x34, 0x48, 0x64, 0x80, 0x81, 0xA0,
+    0xB8, 0x0D, 0xFC, 0xFD, 0xFE, 0xFF,
+];
+
+/// The exception's own bytes and what leads around them.
+pub const FLASH: [u8; 8] = [0xB8, 0x0D, 0x21, 0x00, 0x02, 0x01, 0x80, 0xA0];
+
+/// How images are made by chance.
+#[derive(Clone, Copy)]
+pub enum Kind {
+    Uniform,
+    /// No instruction is cut off: the last bytes are Ret.
+    Closed,
+    /// Mostly branches that stay near.
+    Branching,
+    /// Rich in B8 0D 21.
+    Flashing,
+    /// Whole instructions of all forms, most of which go on.
+    Plain,
+}
+
+pub const KINDS: [Kind; 5] = [
+    Kind::Uniform,
+    Kind::Closed,
+    Kind::Branching,
+    Kind::Flashing,
+    Kind::Plain,
+];
+
+pub fn image(kind: Kind, length: usize, random: &mut Random) -> Vec<u8> {
+    let mut image = vec![];
+    while image.len() < length {
+        match kind {
+            Kind::Uniform | Kind::Closed => image.push(random.any() as u8),
+            Kind::Branching => branch(&mut image, random),
+            Kind::Flashing => flash(&mut image, length, random),
+            Kind::Plain => plain(&mut image, random),
+        }
+    }
+    image.truncate(length);
+    if matches!(kind, Kind::Closed | Kind::Plain) {
+        let end = length.saturating_sub(2);
+        image[end..].fill(0xA0);
+    }
+    image
+}
+
+/// A short branch of any form, or something else.
+fn branch(image: &mut Vec<u8>, random: &mut Random) {
+    let first = random.pick(&[
+        0x01, 0x80, 0x90, 0x31, 0x42, 0x54, 0x58, 0x6C, 0x99, 0x64, 0xA0,
+    ]);
+    let size = original::size(original::form(first));
+    image.push(first);
+    if size == 3 {
+        image.push(random.any() as u8);
+    }
+    if size > 1 {
+        image.push((random.below(24) as i64 - 10) as u8);
+    }
+}
+
+/// The two instructions of the exception, whole or in part, with an address in the image.
+fn flash(image: &mut Vec<u8>, length: usize, random: &mut Random) {
+    let address = random.below(length as u64 + 2).to_be_bytes();
+    let jump = [0x21, address[6], address[7]];
+    match random.below(8) {
+        0..3 => image.extend([&[0xB8, 0x0D][..], &jump].concat()),
+        3 => image.extend(jump),
+        4 => image.extend([0xB8, 0x0D]),
+        5 => image.extend([0x80, random.below(12) as u8]),
+        6 => image.push(random.pick(&FLASH)),
+        _ => image.push(random.any() as u8),
+    }
+}
+
+fn plain(image: &mut Vec<u8>, random: &mut Random) {
+    let first = random.any() as u8;
+    image.push(first);
+    for _ in 1..original::size(original::form(first)) {
+        image.push(random.any() as u8);
+    }
+    if random.below(4) > 0 {
+        image.push(random.pick(&[0x00, 0x64, 0x75, 0x30, 0xC0]));
+    }
+}
+
+/// Some entries: inside, at the ends, repeated, outside.
+pub fn entries(length: usize, random: &mut Random) -> Vec<u32> {
+    let count = random.pick(&[0, 1, 1, 1, 1, 2, 2, 3, 4, 7]);
+    let mut entries: Vec<u32> = vec![];
+    for _ in 0..count {
+        let entry = match random.below(12) {
+            0..6 => random.below(length.max(1) as u64) as u32,
+            6 => 0,
+            7 => length as u32,
+            8 => (length as u32).wrapping_sub(1 + random.below(3) as u32),
+            9 => random.pick(&[65_535, 65_536, u32::MAX]),
+            10 => entries.first().copied().unwrap_or(0),
+            _ => random.below(16) as u32,
+        };
+        entries.push(entry);
+    }
+    entries
+}

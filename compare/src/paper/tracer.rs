@@ -1,0 +1,160 @@
+//! Document 01's start, step and run, written out a second time and plainly.
+
+use super::flow;
+use crate::answer::Answer;
+
+/// The longest image.
+pub const LONGEST: usize = 65_536;
+
+const UNTOUCHED: u8 = 0;
+const WAITING: u8 = 1;
+const TRACED: u8 = 2;
+const UNFOLLOWED: u8 = 3;
+
+fn length(number: u32, length: usize) -> Option<Answer> {
+    Some(Answer::new(number, &[length as i64]))
+}
+
+/// Refusals 1 and 2.
+fn sizes(image: &[u8], marks: &[u8]) -> Option<Answer> {
+    match () {
+        () if image.len() > LONGEST => length(Answer::LONG_IMAGE, image.len()),
+        () if marks.len() < image.len() => length(Answer::SHORT_MARKS, marks.len()),
+        () => None,
+    }
+}
+
+fn is_traced(mark: u8) -> bool {
+    mark == TRACED || mark == UNFOLLOWED
+}
+
+/// How many positions of the image are traced.
+pub fn traced(image: &[u8], marks: &[u8]) -> usize {
+    marks[..image.len()]
+        .iter()
+        .filter(|mark| is_traced(**mark))
+        .count()
+}
+
+/// Sets 1 at those positions inside the image that are untouched: these, in their order.
+fn note(image: &[u8], marks: &mut [u8], positions: impl IntoIterator<Item = i64>) -> Vec<u32> {
+    let mut noted = vec![];
+    for position in positions {
+        if (0..image.len() as i64).contains(&position) && marks[position as usize] == UNTOUCHED {
+            marks[position as usize] = WAITING;
+            noted.push(position as u32);
+        }
+    }
+    noted
+}
+
+fn clear_and_note(image: &[u8], marks: &mut [u8], entries: &[u32]) -> Vec<u32> {
+    marks[..image.len()].fill(UNTOUCHED);
+    note(image, marks, entries.iter().map(|entry| i64::from(*entry)))
+}
+
+pub fn start(image: &[u8], marks: &mut [u8], entries: &[u32]) -> Answer {
+    if let Some(refusal) = sizes(image, marks) {
+        return refusal;
+    }
+    let set = clear_and_note(image, marks, entries).len();
+    Answer::new(Answer::DONE, &[set as i64])
+}
+
+/// Refusal 5.
+fn cut_off(image: &[u8], at: usize) -> Option<Answer> {
+    let whole = at + flow::size(image[at]) <= image.len();
+    (!whole).then(|| Answer::new(Answer::CUT_OFF, &[at as i64, i64::from(image[at])]))
+}
+
+/// Whether a Jmpf stands at a position with B8 0D before it.
+fn after_flash(image: &[u8], at: usize) -> bool {
+    at >= 2 && image[at - 2..=at] == [0xB8, 0x0D, 0x21]
+}
+
+fn is_exempt(image: &[u8], marks: &[u8], at: usize) -> bool {
+    after_flash(image, at) && is_traced(marks[at - 2])
+}
+
+/// The targets of a position when it is taken up.
+fn targets(image: &[u8], marks: &[u8], at: usize) -> Vec<i64> {
+    match is_exempt(image, marks, at) {
+        true => vec![],
+        false => flow::targets_at(image, at),
+    }
+}
+
+/// Takes up a position: its new mark, and what became waiting.
+fn take_up(image: &[u8], marks: &mut [u8], at: usize) -> (u8, Vec<u32>) {
+    let targets = targets(image, marks, at);
+    let mark = match is_exempt(image, marks, at) {
+        true => UNFOLLOWED,
+        false => TRACED,
+    };
+    marks[at] = mark;
+    (mark, note(image, marks, targets))
+}
+
+/// The damage that a step finds beside its position.
+fn damage(image: &[u8], marks: &[u8], at: usize) -> Option<usize> {
+    let damaged = |at: &usize| marks[*at] > UNFOLLOWED;
+    let before = after_flash(image, at).then(|| at - 2).filter(damaged);
+    let inside = |target: &i64| (0..image.len() as i64).contains(target);
+    let targets = targets(image, marks, at).into_iter().filter(inside);
+    before.or_else(|| targets.map(|target| target as usize).find(damaged))
+}
+
+pub fn step(image: &[u8], marks: &mut [u8], position: u32) -> Answer {
+    if let Some(refusal) = sizes(image, marks) {
+        return refusal;
+    }
+    let at = position as usize;
+    let mark = if at < image.len() { marks[at] } else { 0 };
+    if mark > UNFOLLOWED {
+        return Answer::new(Answer::DAMAGED, &[i64::from(position)]);
+    }
+    if mark != WAITING {
+        return Answer::new(Answer::NOT_WAITING, &[i64::from(mark)]);
+    }
+    if let Some(refusal) = cut_off(image, at) {
+        return refusal;
+    }
+    if let Some(place) = damage(image, marks, at) {
+        return Answer::new(Answer::DAMAGED, &[place as i64]);
+    }
+    let (mark, noted) = take_up(image, marks, at);
+    Answer::new(Answer::DONE, &[i64::from(mark), noted.len() as i64])
+}
+
+pub fn run(
+    image: &[u8],
+    marks: &mut [u8],
+    order: &mut [u32],
+    entries: &[u32],
+    limit: u32,
+) -> Answer {
+    let short = order.len() < image.len();
+    let short_order = || length(Answer::SHORT_ORDER, order.len());
+    if let Some(refusal) = sizes(image, marks).or_else(|| short.then(short_order).flatten()) {
+        return refusal;
+    }
+    let mut noted = clear_and_note(image, marks, entries);
+    let mut steps = 0;
+    let answer = loop {
+        let counts = |finished| [finished, steps as i64, noted.len() as i64];
+        if steps == noted.len() {
+            break Answer::new(Answer::DONE, &counts(1));
+        }
+        if steps == limit as usize {
+            break Answer::new(Answer::DONE, &counts(0));
+        }
+        let at = noted[steps] as usize;
+        if let Some(refusal) = cut_off(image, at) {
+            break refusal;
+        }
+        noted.extend(take_up(image, marks, at).1);
+        steps += 1;
+    };
+    order[..noted.len()].copy_from_slice(&noted);
+    answer
+}
