@@ -1,7 +1,8 @@
 // The exported calls that a line can ask for. A line holds where the call is given what the line says and answers what it says.
 use crate::narrow;
+use crate::traces;
 
-fn same(numbers: &[i64; 11], given: &[i64; 5], number: u32, answer: &[i64; 5]) -> bool {
+pub fn same(numbers: &[i64; 11], given: &[i64; 5], number: u32, answer: &[i64; 5]) -> bool {
     if numbers[5] != narrow::of_word(number) {
         return false;
     }
@@ -86,11 +87,25 @@ fn resolve(numbers: &[i64; 11]) -> bool {
     same(numbers, &given, number, &answer)
 }
 
+fn targets(numbers: &[i64; 11]) -> bool {
+    let first = narrow::byte(numbers[0]);
+    let a = narrow::operand(numbers[1]);
+    let b = narrow::operand(numbers[2]);
+    let c = narrow::operand(numbers[3]);
+    let position = narrow::word(numbers[4]);
+    let mut answer = [0i64; 5];
+    let number = exports::pw_targets(position, first, a, b, c, &mut answer);
+    let given = inputs(first, a, b, c, narrow::of_word(position));
+    same(numbers, &given, number, &answer)
+}
+
 pub fn holds(letter: u8, numbers: &[i64; 11]) -> bool {
     match letter {
         b'D' => decode(numbers),
         b'E' => encode(numbers),
         b'R' => resolve(numbers),
+        b'T' => targets(numbers),
+        b'G' => traces::run(numbers),
         _ => false,
     }
 }

@@ -7,6 +7,7 @@ mod calls;
 mod line;
 mod narrow;
 mod replay;
+mod traces;
 
 use libc::STDOUT_FILENO;
 

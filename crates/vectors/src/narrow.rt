@@ -1,7 +1,7 @@
 // The numbers of a line as those of a call, and back. A number that does not fit becomes 0, and so does not come back as it was.
 
 // Below 0: 0.
-fn natural(z: i64) -> u64 {
+pub fn natural(z: i64) -> u64 {
     if z < 0 {
         return 0;
     }
