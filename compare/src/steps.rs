@@ -12,6 +12,8 @@ use compare::random::Random;
 
 const CALLS: u64 = 1_000_000;
 const WALKS: u64 = 100_000;
+/// The first byte of a Jmpf.
+const JMPF: u8 = 0x21;
 /// Visits after which the original is given up.
 const ENOUGH: u64 = 4_000;
 
@@ -29,15 +31,20 @@ pub fn compare(tally: &mut Tally, random: &mut Random) {
     }
 }
 
-/// A few bytes, at times the exception's own.
+/// A few bytes, at times with the exception among them.
 fn short(random: &mut Random) -> Vec<u8> {
-    let length = random.below(9);
+    let length = random.below(9) as usize;
     let alphabet = random.pick(&[&TELLING[..], &FLASH]);
     let mut byte = || match random.below(4) {
         0 => random.any() as u8,
         _ => random.pick(alphabet),
     };
-    (0..length).map(|_| byte()).collect()
+    let mut image: Vec<u8> = (0..length).map(|_| byte()).collect();
+    if length >= 5 && random.below(3) == 0 {
+        let at = random.below(length as u64 - 4) as usize;
+        image[at..at + 3].copy_from_slice(&[0xB8, 0x0D, JMPF]);
+    }
+    image
 }
 
 /// Images at the longest and past it.
@@ -97,6 +104,7 @@ fn start(tally: &mut Tally, random: &mut Random, image: &[u8]) {
 fn step(tally: &mut Tally, random: &mut Random, image: &[u8]) {
     let position = match random.below(16) {
         0 => random.pick(&[image.len() as u32, image.len() as u32 + 1, 65_536, u32::MAX]),
+        1..4 => image.iter().position(|byte| *byte == JMPF).unwrap_or(0) as u32,
         _ => random.below(image.len().max(1) as u64) as u32,
     };
     let mut ours = marks(random, image);

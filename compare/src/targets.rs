@@ -56,19 +56,10 @@ fn limits(tally: &mut Tally, random: &mut Random, form: usize) {
     let kinds = paper::kinds(form).iter();
     let lists: Vec<Vec<i32>> = kinds.map(|kind| values::fields(*kind)).collect();
     values::products(&lists, &mut |fields| {
-        one(tally, random.pick(firsts), fields, random.pick(&POSITIONS));
-        one(tally, random.pick(firsts), fields, random.base());
-    });
-    for position in POSITIONS {
-        for end in [low, high] {
-            one(
-                tally,
-                random.pick(firsts),
-                paper::numbers(form, end),
-                position,
-            );
+        for position in POSITIONS {
+            one(tally, random.pick(firsts), fields, position);
         }
-    }
+    });
 }
 
 fn every_position(tally: &mut Tally, form: usize) {
