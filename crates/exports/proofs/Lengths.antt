@@ -18,15 +18,15 @@ use Rattle.reach.specs.Run.{End, finished, stopped, cutOff, steps, noted}
 use Rattle.trace.specs.Run.{ranOf, runAnswer, runRefusals, runJudged, ranAnswer, outcomeOf, endOf, orElse, Said}
 use Rattle.trace.specs.Start.{startedOf, startAnswer}
 use Rattle.trace.specs.Step.{steppedOf, stepAnswer, stepRefusals, damageRefusals, damages}
-use Rattle.trace.specs.Targets.{nextOf, targetsOf, targetsAnswer}
+use Rattle.ways.specs.Targets.{nextOf, targetsOf, targetsAnswer}
 use Rattle.trace.specs.declared.run.Ran.{Ran}
 use Rattle.trace.specs.declared.run.Ran.the-variants as ran
 use Rattle.trace.specs.declared.start.Started.{Started}
 use Rattle.trace.specs.declared.start.Started.the-variants as started
 use Rattle.trace.specs.declared.step.Stepped.{Stepped}
 use Rattle.trace.specs.declared.step.Stepped.the-variants as stepped
-use Rattle.trace.specs.declared.target.Targets.{Targets}
-use Rattle.trace.specs.declared.target.Targets.the-variants as targets
+use Rattle.ways.specs.declared.target.Targets.{Targets}
+use Rattle.ways.specs.declared.target.Targets.the-variants as targets
 use Rattle.exports.specs.Counts.{nextIn, lengthInStarted, lengthInStepped, lengthInRan}
 use Rattle.exports.proofs.Carried.{Each, carries}
 

@@ -5,8 +5,8 @@
 use Prim.Native.Nat.{ℕ}
 use Rattle.instruction.specs.declared.encode.Encoded.{Encoded}
 use Rattle.instruction.specs.declared.encode.Encoded.the-variants.{Written, Unfit, NoRoom}
-use Rattle.trace.specs.declared.target.Targets.{Targets}
-use Rattle.trace.specs.declared.target.Targets.the-variants as targets
+use Rattle.ways.specs.declared.target.Targets.{Targets}
+use Rattle.ways.specs.declared.target.Targets.the-variants as targets
 use Rattle.trace.specs.declared.start.Started.{Started}
 use Rattle.trace.specs.declared.start.Started.the-variants as started
 use Rattle.trace.specs.declared.step.Stepped.{Stepped}

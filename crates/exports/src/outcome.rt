@@ -2,7 +2,7 @@
 // enums alone do not say so.
 ghost use mathlib.Core.Path.{_≡_};
 ghost use Prim.Native.Nat.{_<_, _^_};
-ghost use Rattle.trace.specs.Targets.{targetsOf};
+ghost use Rattle.ways.specs.Targets.{targetsOf};
 ghost use Rattle.trace.specs.Start.{startedOf};
 ghost use Rattle.trace.specs.Step.{steppedOf};
 ghost use Rattle.trace.specs.Run.{ranOf};
@@ -16,7 +16,7 @@ use crate::wide;
 use trace::Ran;
 use trace::Started;
 use trace::Stepped;
-use trace::Targets;
+use ways::Targets;
 
 pub fn targets(t: Targets) -> Reply
     requires { ⌜ nextIn t < 2 ^ 63 ⌝ }

@@ -1,6 +1,6 @@
 // The exported calls of the tracer.
 ghost use mathlib.Core.Path.{_≡_};
-ghost use Rattle.trace.specs.Targets.{targetsAnswer};
+ghost use Rattle.ways.specs.Targets.{targetsAnswer};
 ghost use Rattle.trace.specs.Start.{startAnswer, startMarks};
 ghost use Rattle.trace.specs.Step.{stepAnswer, stepMarks};
 ghost use Rattle.trace.specs.Run.{runAnswer, runMarks, runOrder};
@@ -25,7 +25,7 @@ pub extern "C" fn pw_targets(
 ) -> u32
     ensures { λ r. ⌜ (r ≡ numberOf (targetsAnswer position (named first a b c))) × (now (answer .exit) ≡ valuesOf targetsValues (targetsAnswer position (named first a b c))) ⌝ }
 {
-    outcome::targets(trace::targets(position, Instr::with_first(first, a, b, c))).give(answer)
+    outcome::targets(ways::targets(position, Instr::with_first(first, a, b, c))).give(answer)
 }
 
 // Accepted: the number of positions set.

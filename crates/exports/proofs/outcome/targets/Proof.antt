@@ -3,8 +3,8 @@
 use mathlib.Core.Path.{_≡_, refl, _∙_}
 use Prim.Native.Nat.{_<_, _^_}
 use borrow.Author.Needs.{needs}
-use Rattle.trace.specs.Targets.{targetsOf}
-use Rattle.trace.specs.declared.target.Targets.{Targets}
+use Rattle.ways.specs.Targets.{targetsOf}
+use Rattle.ways.specs.declared.target.Targets.{Targets}
 use Rattle.exports.specs.Tracing.{targetsValues}
 use Rattle.exports.specs.Counts.{nextIn}
 use Rattle.exports.proofs.Told.{by-case, Read, ReadValue, told1, told2, told3}

@@ -2,7 +2,7 @@
 -- Assumes nothing.
 use mathlib.Core.Path.{_≡_, _∙_, ap}
 use borrow.Author.Needs.{needs}
-use Rattle.trace.specs.Targets.{targetsAnswer}
+use Rattle.ways.specs.Targets.{targetsAnswer}
 use Rattle.instruction.specs.declared.instr.Instr.{Instr}
 use Rattle.exports.specs.Tracing.{targetsValues}
 use Rattle.exports.proofs.Lengths.{targets-small}
