@@ -60,18 +60,30 @@ fn trace(image: &[u8], entries: &[u32; 2], places: i64, values: i64, answer: &mu
     }
 }
 
-pub fn run(numbers: &[i64; 11]) -> bool {
-    // A number below 0 packs nothing.
+// A number below 0 packs nothing.
+fn told(numbers: &[i64; 11], n: u8, a: u32, b: u32, number: u32, answer: &[i64; 5]) -> bool {
     if numbers[1] < 0 {
         return false;
     }
     if numbers[2] < 0 {
         return false;
     }
-    let bytes = image(numbers[1], numbers[2]);
+    let given = [
+        narrow::of_byte(n),
+        numbers[1],
+        numbers[2],
+        narrow::of_word(a),
+        narrow::of_word(b),
+    ];
+    let values = [answer[0], answer[1], answer[2], numbers[9], numbers[10]];
+    calls::same(numbers, &given, number, &values)
+}
+
+pub fn run(numbers: &[i64; 11]) -> bool {
     let n = narrow::byte(numbers[0]);
     let a = narrow::word(numbers[3]);
     let b = narrow::word(numbers[4]);
+    let bytes = image(numbers[1], numbers[2]);
     let end = n as usize;
     if bytes.len() < end {
         return false;
@@ -84,13 +96,5 @@ pub fn run(numbers: &[i64; 11]) -> bool {
         numbers[10],
         &mut answer,
     );
-    let given = [
-        narrow::of_byte(n),
-        numbers[1],
-        numbers[2],
-        narrow::of_word(a),
-        narrow::of_word(b),
-    ];
-    let told = [answer[0], answer[1], answer[2], numbers[9], numbers[10]];
-    calls::same(numbers, &given, number, &told)
+    told(numbers, n, a, b, number, &answer)
 }
