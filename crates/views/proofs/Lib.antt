@@ -6,3 +6,10 @@ pub mod Viewing
 pub mod Fronts
 pub mod Masking
 pub mod Labelling
+pub mod DataRuns
+pub mod Kept
+pub mod Laid
+pub mod TracedAt
+pub mod Overlapping
+pub mod Holding
+pub mod Arriving
