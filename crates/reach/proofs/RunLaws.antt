@@ -1,6 +1,6 @@
 -- Laws of a run: its turns, and what is left of it once some positions are taken up. Assumes nothing.
 use Prim.Native.Nat.{ℕ, zero, suc}
-use mathlib.Core.Bool.{true, false}
+use mathlib.Core.Bool.{Bool, true, false, cond}
 use mathlib.Core.Path.{_≡_, refl, sym, ap, _∙_}
 use mathlib.Core.List.{List, [], _∷_, _++_}
 use lib.Seq.{append-snoc}
@@ -29,7 +29,8 @@ module _ (G : Tracer) where
     pub run-on : (limit : ℕ) → G .fits p ≡ true
         → runFrom (suc limit) G (p ∷ queue) m ≡ having p (runFrom limit G (queue ++ found G m p) (took G m p))
     unfolding runFrom
-    run-on limit f = rw f
+    run-on limit f =
+        ap (λ (b : Bool). cond b (having p (runFrom limit G (queue ++ found G m p) (took G m p))) (halt (cutOff p) (p ∷ queue) m)) f
 
 -- the outcome of a run that took `before` up and then came to `out`
 abbrev pub after : List ℕ → Outcome → Outcome

@@ -1,3 +1,4 @@
+pub mod Sizing
 pub mod OneNoted
 pub mod TakeUp
 pub mod Damages

@@ -5,12 +5,13 @@ use mathlib.Core.List.{List, [], _∷_}
 use Prim.Native.Nat.{ℕ, _<_, _≤_}
 use lib.IntN.{pos}
 use lib.ListN.{length}
-use borrow.Author.Tests.{lt-ltb, le-ltb}
 use Rattle.operand.specs.Answer.{Answer, accepted, refused, after}
-use Rattle.operand.proofs.Judging.{pass, stop, done}
+use Rattle.operand.proofs.Judging.{done}
 use Rattle.reach.specs.Mark.{cleared}
 use Rattle.reach.specs.Note.{note, fresh}
 use Rattle.trace.specs.Start.{startAnswer, startMarks}
+use Rattle.trace.proofs.Sizing.{long-image, right-sizes}
+use Rattle.trace.proofs.Sizing as sizing
 
 module _ (image marks entries : List ℕ) where
   abbrev n : ℕ
@@ -23,16 +24,16 @@ module _ (image marks entries : List ℕ) where
 
   pub long : 65536 < n → (refused 1 (pos n ∷ []) ≡ startAnswer image marks entries) × (marks ≡ startMarks image marks entries)
   unfolding startAnswer
-  long h = held (refused 1 (pos n ∷ [])) (stop _ _ _ (lt-ltb 65536 n h)) marks refl
+  long h = held (refused 1 (pos n ∷ [])) (long-image image marks [] (length (fresh n entries (cleared n marks))) h) marks refl
 
   module _ (fits : n ≤ 65536) where
     pub short : length marks < n → (refused 2 (pos (length marks) ∷ []) ≡ startAnswer image marks entries) × (marks ≡ startMarks image marks entries)
     unfolding startAnswer
-    short h = held (refused 2 (pos (length marks) ∷ [])) (pass _ _ _ (le-ltb 65536 n fits) ∙ stop _ _ _ (lt-ltb (length marks) n h)) marks refl
+    short h = held (refused 2 (pos (length marks) ∷ [])) (sizing.short-marks image marks [] (length (fresh n entries (cleared n marks))) fits h) marks refl
 
     pub set : n ≤ length marks → (m : List ℕ) → m ≡ cleared n marks → (k : ℕ) (t : List ℕ) → (k ≡ length (fresh n entries m)) × (t ≡ note n entries m) → (accepted k ≡ startAnswer image marks entries) × (t ≡ startMarks image marks entries)
     unfolding startAnswer
     set h m e k t q =
         let p : k ≡ length (fresh n entries (cleared n marks)) = q .0 ∙ ap (λ (l : List ℕ). length (fresh n entries l)) e in
-        held (accepted k) (pass _ _ _ (le-ltb 65536 n fits) ∙ pass _ _ _ (le-ltb (length marks) n h) ∙ done _ ∙ ap accepted (sym p)) t
+        held (accepted k) (right-sizes image marks [] (length (fresh n entries (cleared n marks))) fits h ∙ done _ ∙ ap accepted (sym p)) t
         (ap (note n entries) (sym e) ∙ sym (q .1))

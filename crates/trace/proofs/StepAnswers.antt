@@ -5,11 +5,11 @@ use mathlib.Core.Bool.{Bool, true, false, not}
 use mathlib.Core.List.{List, [], _∷_}
 use Prim.Native.Nat.{ℕ, _<_, _≤_}
 use native.Mathlib.Omega.{arith}
-use lib.Dec.{eqb}
+use lib.Dec.{eqb, leb}
 use lib.IntN.{pos}
 use lib.ListN.{length, getD}
 use borrow.Author.Tests.{lt-ltb, le-ltb, le-leb, lt-leb, eqb-false, ne-eqb}
-use Rattle.operand.specs.Answer.{Answer, refused, judge, after, refuse}
+use Rattle.operand.specs.Answer.{Answer, refused, Refusal, judge, after, refuse}
 use Rattle.operand.specs.declared.answer.CutOff.{CutOff}
 use Rattle.operand.proofs.Judging.{pass, stop}
 use Rattle.instruction.specs.Decode.{cutValues}
@@ -17,6 +17,7 @@ use Rattle.reach.specs.Tracer.{took}
 use Rattle.trace.specs.Step.{idle, damaged, damageRefusals, stepRefusals, Said, saidOf, stepAnswer, stepMarks}
 use Rattle.trace.specs.Tracer.{tracerOf}
 use Rattle.ways.specs.At.{fitsHere}
+use Rattle.trace.proofs.Sizing as sizing
 use Rattle.trace.proofs.Stepping.{Inner}
 
 none-left : (v : ℕ) → v ≤ 3 → (v ≡ 0 → ⊥) → (v ≡ 1 → ⊥) → (v ≡ 2 → ⊥) → (v ≡ 3 → ⊥) → ⊥
@@ -45,30 +46,39 @@ module _ (image m : List ℕ) (p : ℕ) where
   abbrev Is : Answer Said → List ℕ → Type 0
   Is r t = (r ≡ stepAnswer image m p) × (t ≡ stepMarks image m p)
 
+  -- the refusals after 1 and 2
+  abbrev later : List Refusal
+  later =
+      refuse (leb n p) 4 (pos 0 ∷ [])
+      ∷ refuse (idle v) 4 (pos v ∷ [])
+      ∷ refuse (damaged v) 6 (pos p ∷ [])
+      ∷ refuse (not (fitsHere image p)) 5 (pos p ∷ pos (getD image p 0) ∷ [])
+      ∷ damageRefusals image m p
+
   held : (r : Answer Said) → stepAnswer image m p ≡ r → (t : List ℕ) → after r (took (tracerOf image) m p) m ≡ t → Is r t
   unfolding stepMarks
   held r e t f = (sym e, rw e (sym f))
 
   pub long : 65536 < n → Is (refused 1 (pos n ∷ [])) m
   unfolding stepAnswer stepRefusals
-  long h = held (refused 1 (pos n ∷ [])) (stop _ _ _ (lt-ltb 65536 n h)) m refl
+  long h = held (refused 1 (pos n ∷ [])) (sizing.long-image image m later (saidOf image m p) h) m refl
 
   module _ (fits : n ≤ 65536) where
     pub short : length m < n → Is (refused 2 (pos (length m) ∷ [])) m
     unfolding stepAnswer stepRefusals
-    short h = held (refused 2 (pos (length m) ∷ [])) (pass _ _ _ (le-ltb 65536 n fits) ∙ stop _ _ _ (lt-ltb (length m) n h)) m refl
+    short h = held (refused 2 (pos (length m) ∷ [])) (sizing.short-marks image m later (saidOf image m p) fits h) m refl
 
     module _ (room : n ≤ length m) where
       pub outside : n ≤ p → Is (refused 4 (pos 0 ∷ [])) m
       unfolding stepAnswer stepRefusals
       outside h =
-          held (refused 4 (pos 0 ∷ [])) (pass _ _ _ (le-ltb 65536 n fits) ∙ pass _ _ _ (le-ltb (length m) n room) ∙ stop _ _ _ (le-leb n p h)) m refl
+          held (refused 4 (pos 0 ∷ [])) (sizing.right-sizes image m later (saidOf image m p) fits room ∙ stop _ _ _ (le-leb n p h)) m refl
 
       module _ (inside : p < n) where
         -- what follows the tests of the sizes and of the position
         begun : stepAnswer image m p ≡ judge (refuse (idle v) 4 (pos v ∷ []) ∷ refuse (damaged v) 6 (pos p ∷ []) ∷ refuse (not (fitsHere image p)) 5 (pos p ∷ pos (getD image p 0) ∷ []) ∷ damageRefusals image m p) (saidOf image m p)
         unfolding stepAnswer stepRefusals
-        begun = pass _ _ _ (le-ltb 65536 n fits) ∙ pass _ _ _ (le-ltb (length m) n room) ∙ pass _ _ _ (lt-leb n p inside)
+        begun = sizing.right-sizes image m later (saidOf image m p) fits room ∙ pass _ _ _ (lt-leb n p inside)
 
         pub hurt : 3 < v → Is (refused 6 (pos p ∷ [])) m
         hurt h =

@@ -6,9 +6,9 @@ use mathlib.Core.List.{List, [], _∷_, _++_}
 use Prim.Native.Nat.{ℕ, _+_, _-_, _<_, _≤_}
 use lib.IntN.{pos}
 use lib.ListN.{length}
-use borrow.Author.Tests.{lt-ltb, le-ltb}
 use Rattle.operand.specs.Answer.{Answer, accepted, refused, Refusal, judge}
 use Rattle.operand.proofs.Judging.{pass, stop, done}
+use Rattle.trace.proofs.Sizing.{long-image, short-marks, right-sizes}
 use Rattle.views.specs.Positions.{upFrom, positions}
 use Rattle.views.specs.View.{damagedHere, damageIn, viewRefusals}
 use Rattle.views.proofs.Ups.{up-next, up-end, up-start}
@@ -26,7 +26,7 @@ module _ (image m : List ℕ) where
 
   pub long : 65536 < n → Is (refused 1 (pos n ∷ []))
   unfolding viewRefusals
-  long h = sym (stop _ _ _ (lt-ltb 65536 n h))
+  long h = sym (long-image image m (damageIn image m (positions image)) 0 h)
 
   -- from p on there is the same damage as from the start
   pub Left : ℕ → Type 0
@@ -43,12 +43,12 @@ module _ (image m : List ℕ) where
   module _ (fits : n ≤ 65536) where
     pub short : length m < n → Is (refused 2 (pos (length m) ∷ []))
     unfolding viewRefusals
-    short h = sym (pass _ _ _ (le-ltb 65536 n fits) ∙ stop _ _ _ (lt-ltb (length m) n h))
+    short h = sym (short-marks image m (damageIn image m (positions image)) 0 fits h)
 
     module _ (room : n ≤ length m) where
       sized : _≡_ {A = Answer ℕ} (judge (viewRefusals image m) 0) (said (positions image))
       unfolding viewRefusals
-      sized = pass _ _ _ (le-ltb 65536 n fits) ∙ pass _ _ _ (le-ltb (length m) n room)
+      sized = right-sizes image m (damageIn image m (positions image)) 0 fits room
 
       pub hurt : (p : ℕ) → p < n → damagedHere image m p ≡ true → Left p → Is (refused 6 (pos p ∷ []))
       unfolding Left
