@@ -78,15 +78,15 @@ pub fn overlaps_at(image: &[u8], marks: &[u8], p: u32) -> Overlaps
         return Overlaps::Nothing;
     }
     let size = ways::size_at(image, p);
-    let zero = behind(image, marks, p);
+    let back = behind(image, marks, p);
     if size < 2 {
-        return zero;
+        return back;
     }
-    let one = with(zero, traced::is_traced_at(image, marks, at + 1), p + 1);
+    let ahead = with(back, traced::is_traced_at(image, marks, at + 1), p + 1);
     if size < 3 {
-        return one;
+        return ahead;
     }
-    with(one, traced::is_traced_at(image, marks, at + 2), p + 2)
+    with(ahead, traced::is_traced_at(image, marks, at + 2), p + 2)
 }
 
 // Writes these positions at the beginning of the room: how many they are.
@@ -114,6 +114,7 @@ fn put(o: Overlaps, room: &mut [u32]) -> usize
     }
 }
 
+// The overlaps at p, in their order.
 pub fn find_overlaps(image: &[u8], marks: &[u8], p: u32, room: &mut [u32]) -> Viewed
     ensures { λ r. ⌜ (viewedOf r ≡ viewAnswer (now (image .entry)) (now (marks .entry)) (overlapsOf (now (image .entry)) (now (marks .entry)) p) (now (room .entry))) × (now (room .exit) ≡ viewRoom (now (image .entry)) (now (marks .entry)) (overlapsOf (now (image .entry)) (now (marks .entry)) p) (now (room .entry))) ⌝ }
 {
