@@ -4,3 +4,4 @@ pub mod Somes
 pub mod Reached
 pub mod ClaimsCodeBytes
 pub mod Edges
+pub mod ClaimsSoundRun

@@ -1,3 +1,4 @@
 pub mod ClaimsCode
 pub mod ClaimsViews
 pub mod Edges
+pub mod ClaimsSound

@@ -1,0 +1,97 @@
+-- No taking up damages a mark: a 2 or 3 comes where the instruction fits, and a 3 on a Jmpf.
+-- Assumes nothing.
+use mathlib.Core.Path.{_≡_, refl, sym, ap, subst, _∙_}
+use mathlib.Core.Bool.{Bool, true, false, not, cond, _&&_, _||_}
+use mathlib.Core.List.{List}
+use Prim.Native.Nat.{ℕ, _-_, _<_, _≤_}
+use native.Mathlib.Omega.{arith}
+use lib.Dec.{eqb, leb}
+use lib.ListN.{length, getD}
+use Rattle.instruction.specs.Forms.{numberOf}
+use Rattle.ways.specs.At.{formHere, fitsHere, flashHere}
+use Rattle.ways.proofs.Ands.{first-part, second-part}
+use Rattle.reach.specs.Mark.{flash, traced, tracedMark, cleared}
+use Rattle.reach.specs.Note.{note}
+use Rattle.reach.specs.Takes.{Ready, Takes, stay, up}
+use Rattle.reach.specs.Tracer.{mark, took}
+use Rattle.reach.proofs.Cleared.{cleared-at, length-cleared}
+use Rattle.reach.proofs.NoteAt.{Noticed, as-before, newly, noticed}
+use Rattle.reach.proofs.Order.{cleared-base}
+use Rattle.reach.proofs.Run.{run-takes}
+use Rattle.reach.proofs.Took.{Moved, itself, kept, called, moved, length-took}
+use Rattle.reach.proofs.Note.{length-note}
+use Rattle.trace.specs.Run.{outcomeOf}
+use Rattle.trace.specs.Step.{damaged}
+use Rattle.trace.specs.Tracer.{tracerOf, exemptHere}
+use Rattle.views.specs.View.{offJmpf, misplaced, damagedHere}
+use Rattle.views_laws.specs.ClaimsSound.{Undamaged, RunUndamaged}
+
+module _ (image : List ℕ) where
+  abbrev n : ℕ
+  n = length image
+
+  -- of a mark v at q
+  abbrev Fine : ℕ → ℕ → Type 0
+  Fine q v = (damaged v || misplaced image v q) ≡ false
+
+  untouched-fine : (q : ℕ) → Fine q 0
+  unfolding misplaced offJmpf tracedMark
+  untouched-fine q = refl
+
+  waiting-fine : (q : ℕ) → Fine q 1
+  unfolding misplaced offJmpf tracedMark
+  waiting-fine q = refl
+
+  traced-fine : (q : ℕ) → fitsHere image q ≡ true → Fine q 2
+  unfolding misplaced offJmpf tracedMark
+  traced-fine q f = rw f
+
+  flash-fine : (q : ℕ) → fitsHere image q ≡ true → eqb (formHere image q) (numberOf "Jmpf") ≡ true → Fine q 3
+  unfolding misplaced offJmpf tracedMark
+  flash-fine q f j = rw (f, j)
+
+  is-jmpf : (m : List ℕ) (q : ℕ) → exemptHere image m q ≡ true → eqb (formHere image q) (numberOf "Jmpf") ≡ true
+  unfolding exemptHere flashHere
+  is-jmpf m q e =
+      first-part (eqb (formHere image q) (numberOf "Jmpf")) _ (second-part (leb 2 q) _ (first-part (flashHere image q) _ e))
+
+  marked-fine : (m : List ℕ) (q : ℕ) → fitsHere image q ≡ true → Fine q (mark (tracerOf image) m q)
+  unfolding mark
+  marked-fine m q f = by (exemptHere image m q) refl
+    where
+      by : (b : Bool) → exemptHere image m q ≡ b → Fine q (cond b flash traced)
+      by true e = flash-fine q f (is-jmpf m q e)
+      by false e = traced-fine q f
+
+  -- every mark is
+  abbrev Good : List ℕ → Type 0
+  Good m = (q : ℕ) → q < n → Fine q (getD m q 0)
+
+  step-good : (m : List ℕ) (p : ℕ) → n ≤ length m → Ready (tracerOf image) m p → Good m → Good (took (tracerOf image) m p)
+  step-good m p l R g q h = by (moved (tracerOf image) m p q l (R .inside))
+    where
+      by : Moved (tracerOf image) m p q → Fine q (getD (took (tracerOf image) m p) q 0)
+      by (itself e x) =
+          subst (Fine q) (sym (x ∙ ap (mark (tracerOf image) m) (sym e))) (marked-fine m q (ap (fitsHere image) e ∙ R .whole))
+      by (kept d f x) = subst (Fine q) (sym x) (g q h)
+      by (called d i o x) = subst (Fine q) (sym x) (waiting-fine q)
+
+  takes-good : {m m′ ps : List ℕ} → n ≤ length m → Takes (tracerOf image) m ps m′ → Good m → Good m′
+  takes-good l stay g = g
+  takes-good {m} l (up {p = p} R rest) g =
+      takes-good (let e = length-took (tracerOf image) m p in omega arith) rest (step-good m p l R g)
+
+  start-good : (marks entries : List ℕ) → n ≤ length marks → Good (note n entries (cleared n marks))
+  start-good marks entries l q h = by (noticed n entries (cleared n marks) q (omega (arith, length-cleared n marks l)))
+    where
+      by : Noticed n entries (cleared n marks) q → Fine q (getD (note n entries (cleared n marks)) q 0)
+      by (as-before f x) = subst (Fine q) (sym (x ∙ cleared-at n marks q h)) (untouched-fine q)
+      by (newly i o x) = subst (Fine q) (sym x) (waiting-fine q)
+
+pub run-undamaged : RunUndamaged
+unfolding outcomeOf damagedHere
+run-undamaged image marks entries limit l p h =
+    takes-good image
+    (let e = length-note (length image) entries (cleared (length image) marks) in omega (arith, length-cleared (length image) marks l))
+    (run-takes limit (tracerOf image) entries (cleared (length image) marks) (cleared-base (tracerOf image) marks l) .takes)
+    (start-good image marks entries l) p h
