@@ -2,6 +2,7 @@ pub mod Ors
 pub mod Checking
 pub mod Ups
 pub mod Refusing
+pub mod Rooming
 pub mod Viewing
 pub mod Fronts
 pub mod Masking

@@ -1,6 +1,6 @@
 -- The one answer of a view and the one content of its room: refused by what all views share, too little room, or shown.
 -- Assumes nothing.
-use mathlib.Core.Path.{_≡_, refl, sym, ap, subst, _∙_}
+use mathlib.Core.Path.{_≡_, refl, sym, ap, _∙_}
 use mathlib.Core.Bool.{Bool, true, false}
 use mathlib.Core.List.{List, [], _∷_, _++_}
 use Prim.Native.Nat.{ℕ, _<_, _≤_}
@@ -8,14 +8,16 @@ use native.Mathlib.Omega.{arith}
 use lib.Dec.{ltb}
 use lib.IntN.{ℤ, pos}
 use lib.ListN.{length, drop}
-use borrow.Author.Tests.{lt-ltb, le-ltb, ltb-true, ltb-false}
-use Rattle.operand.specs.Answer.{Answer, accepted, refused, judge, after}
-use Rattle.operand.proofs.Judging.{pass, stop, done, first-of, past-all, accepts}
+use borrow.Author.Tests.{ltb-true, ltb-false}
+use Rattle.operand.specs.Answer.{Answer, accepted, refused, judge}
+use Rattle.operand.proofs.Judging.{accepts}
 use Rattle.operand.proofs.Sign.{never}
 use Rattle.views.specs.View.{isWritten, viewedOf, viewRefusals, viewAnswer, viewRoom}
 use Rattle.views.specs.declared.view.Viewed.{Viewed}
 use Rattle.views.specs.declared.view.Viewed.the-variants.{Written, LongImage, ShortMarks, Damaged, NoRoom}
 use Rattle.views.proofs.Refusing.{long, short}
+use Rattle.views.proofs.Rooming.{said}
+use Rattle.views.proofs.Rooming as rooming
 
 -- none of the refusals that all views share holds
 abbrev pub Sound : List ℕ → List ℕ → Type 0
@@ -51,38 +53,20 @@ module _ (image m : List ℕ) where
       by false f = ltb-false (length m) (length image) f
 
   module _ (out room : List ℕ) where
-    held : (r : Answer ℕ) → viewAnswer image m out room ≡ r → (t : List ℕ) → after r (out ++ drop (length out) room) room ≡ t → Is image m out room r t
-    unfolding viewRoom
-    held r e t f = (sym e, rw e (sym f))
-
-    said : (n : ℕ) (vs : List ℤ) → _≡_ {A = Answer ℕ} (refused n vs) (judge (viewRefusals image m) 0) → Is image m out room (refused n vs) room
-    unfolding viewAnswer
-    said n vs e = held (refused n vs) (first-of _ 0 (length out) (viewRefusals image m) n vs (sym e)) room refl
-
     pub refused-all : (v : Viewed) → viewedOf v ≡ judge (viewRefusals image m) 0 → isWritten v ≡ false → Is image m out room (viewedOf v) room
+    unfolding viewAnswer viewRoom
     refused-all (Written k) e f = absurd (never f)
-    refused-all (LongImage k) e f = said 1 (pos k ∷ []) e
-    refused-all (ShortMarks k) e f = said 2 (pos k ∷ []) e
-    refused-all (Damaged k) e f = said 6 (pos k ∷ []) e
-    refused-all (NoRoom k) e f = said 11 (pos k ∷ []) e
+    refused-all (LongImage k) e f = said (viewRefusals image m) out room 1 (pos k ∷ []) (sym e)
+    refused-all (ShortMarks k) e f = said (viewRefusals image m) out room 2 (pos k ∷ []) (sym e)
+    refused-all (Damaged k) e f = said (viewRefusals image m) out room 6 (pos k ∷ []) (sym e)
+    refused-all (NoRoom k) e f = said (viewRefusals image m) out room 11 (pos k ∷ []) (sym e)
 
     module _ (s : Sound image m) where
-      pub no-room : length room < length out → Is image m out room (refused 11 (pos (length out) ∷ [])) room
-      unfolding viewAnswer
-      no-room h =
-          held (refused 11 (pos (length out) ∷ [])) (past-all _ 0 (length out) (viewRefusals image m) s ∙ stop _ _ _ (lt-ltb (length room) (length out) h)) room refl
-
-      pub shown : length out ≤ length room → Is image m out room (accepted (length out)) (out ++ drop (length out) room)
-      unfolding viewAnswer
-      shown h =
-          held (accepted (length out)) (past-all _ 0 (length out) (viewRefusals image m) s ∙ pass _ _ _ (le-ltb (length room) (length out) h) ∙ done (length out)) _ refl
-
-      -- the same where k is how much is shown
+      -- k is how much is shown
       pub no-room-for : (k : ℕ) → length out ≡ k → length room < k → Is image m out room (refused 11 (pos k ∷ [])) room
-      no-room-for k e h =
-          subst (λ (j : ℕ). Is image m out room (refused 11 (pos j ∷ [])) room) e (no-room (subst (λ (j : ℕ). length room < j) (sym e) h))
+      unfolding viewAnswer viewRoom
+      no-room-for k e h = rooming.no-room-for (viewRefusals image m) out room s k e h
 
       pub shown-as : (k : ℕ) → length out ≡ k → k ≤ length room → (t : List ℕ) → t ≡ out ++ drop k room → Is image m out room (accepted k) t
-      shown-as k e h t f =
-          let g : Is image m out room (accepted k) (out ++ drop k room) = subst (λ (j : ℕ). Is image m out room (accepted j) (out ++ drop j room)) e (shown (subst (λ (j : ℕ). j ≤ length room) (sym e) h)) in
-          (g .0, f ∙ g .1)
+      unfolding viewAnswer viewRoom
+      shown-as k e h t f = rooming.shown-as (viewRefusals image m) out room s k e h t f

@@ -51,11 +51,17 @@ isWritten (ShortMarks n) = false
 isWritten (Damaged p) = false
 isWritten (NoRoom n) = false
 
--- how much was written; 11 with what is needed where the room is shorter. out is what the view shows
-unfoldable pub viewAnswer : List ℕ → List ℕ → List ℕ → List ℕ → Answer ℕ
-viewAnswer image m out room =
-    judge (viewRefusals image m ++ refuse (ltb (length room) (length out)) 11 (pos (length out) ∷ []) ∷ []) (length out)
+-- after these refusals: how much was written; 11 with what is needed where the room is shorter. out is what is shown
+unfoldable pub roomAnswer : List Refusal → List ℕ → List ℕ → Answer ℕ
+roomAnswer rs out room = judge (rs ++ refuse (ltb (length room) (length out)) 11 (pos (length out) ∷ []) ∷ []) (length out)
 
 -- it is laid over the beginning of the room, whose rest stays; a refusal changes nothing
+unfoldable pub roomAfter : List Refusal → List ℕ → List ℕ → List ℕ
+roomAfter rs out room = after (roomAnswer rs out room) (out ++ drop (length out) room) room
+
+-- of a view over these marks
+unfoldable pub viewAnswer : List ℕ → List ℕ → List ℕ → List ℕ → Answer ℕ
+viewAnswer image m out room = roomAnswer (viewRefusals image m) out room
+
 unfoldable pub viewRoom : List ℕ → List ℕ → List ℕ → List ℕ → List ℕ
-viewRoom image m out room = after (viewAnswer image m out room) (out ++ drop (length out) room) room
+viewRoom image m out room = roomAfter (viewRefusals image m) out room
