@@ -1,0 +1,50 @@
+-- What some inputs say, computed: document 01's example, and inputs at the edges of the rules.
+-- Assumes nothing.
+use mathlib.Core.Path.{_≡_, refl}
+use mathlib.Core.List.{List, [], _∷_, _++_}
+use Prim.Native.Nat.{ℕ}
+use Prim.Native.Char.{code}
+use Prim.Native.String.{String, [] as end, _∷_ as _then_}
+use lib.IntN.{pos}
+use lib.ListN.{length, replicate}
+use Rattle.operand.specs.Answer.{Answer, accepted, refused, judge}
+use Rattle.input.specs.Bytes.{bytesOf, isBytes, bytesIn}
+use Rattle.input.specs.Entries.{isEntry, allEntries, isEntries, entryOf}
+use Rattle.input.specs.Hex.{digitOf, allHex}
+use Rattle.input.specs.Lines.{cut}
+use Rattle.input.specs.Text.{counts, countsOf, entriesOf, imageOf, imageRefusals, lineRefusals}
+use Rattle.input.specs.declared.parsed.Counts.{Counts}
+
+bytes : String → List ℕ
+bytes end = []
+bytes (c then s) = code c ∷ bytes s
+
+-- document 01's example
+sample : List ℕ
+unfolding bytes
+sample = bytes "0000" ++ 10 ∷ bytes "0102004164" ++ 10 ∷ bytes "80F9A0" ++ 10 ∷ []
+
+abbrev told : List ℕ → Answer Counts
+told text = judge (lineRefusals text) (countsOf text)
+
+abbrev malformed : ℕ → Answer Counts
+malformed k = refused 13 (pos k ∷ [])
+
+read : (told sample ≡ accepted (counts 1 8)) × (entriesOf sample ≡ 0 ∷ []) × (imageOf sample ≡ 1 ∷ 2 ∷ 0 ∷ 65 ∷ 100 ∷ 128 ∷ 249 ∷ 160 ∷ [])
+unfolding sample bytes judge lineRefusals imageRefusals countsOf cut isEntries allEntries isEntry entryOf digitOf allHex bytesOf isBytes bytesIn
+read = (refl, refl, refl)
+
+-- an empty input, an empty line 1, only line 1, two entries, no byte 10 at the end
+short : (told [] ≡ accepted (counts 0 0)) × (told (10 ∷ []) ≡ accepted (counts 0 0)) × (told (bytes "0000") ≡ accepted (counts 1 0)) × (told (bytes "0000" ++ 9 ∷ bytes "FFFF") ≡ accepted (counts 2 0)) × (told (10 ∷ bytes "A0") ≡ accepted (counts 0 1))
+unfolding bytes judge lineRefusals imageRefusals countsOf cut isEntries allEntries isEntry entryOf digitOf allHex bytesOf isBytes bytesIn
+short = (refl, refl, refl, refl, refl)
+
+-- a tab at either end, two tabs, a blank at the end, a byte of three digits, lower case, CR, NUL, an empty line
+bent : (told (bytes "0000" ++ 9 ∷ []) ≡ malformed 1) × (told (9 ∷ bytes "0000") ≡ malformed 1) × (told (bytes "0000" ++ 9 ∷ 9 ∷ bytes "0000") ≡ malformed 1) × (told (bytes "0000 ") ≡ malformed 1) × (told (10 ∷ bytes "A0A") ≡ malformed 2) × (told (10 ∷ bytes "a0") ≡ malformed 2) × (told (10 ∷ bytes "A0" ++ 13 ∷ 10 ∷ []) ≡ malformed 2) × (told (0 ∷ []) ≡ malformed 1) × (told (10 ∷ bytes "A0" ++ 10 ∷ 10 ∷ []) ≡ malformed 3)
+unfolding bytes judge lineRefusals imageRefusals countsOf cut isEntries allEntries isEntry entryOf digitOf allHex bytesOf isBytes bytesIn
+bent = (refl, refl, refl, refl, refl, refl, refl, refl, refl)
+
+-- 32 bytes on a line, and 33
+long : (told (10 ∷ replicate 64 48) ≡ accepted (counts 0 32)) × (told (10 ∷ replicate 66 48) ≡ malformed 2)
+unfolding judge lineRefusals imageRefusals countsOf cut isEntries allEntries isEntry entryOf digitOf allHex bytesOf isBytes bytesIn
+long = (refl, refl)

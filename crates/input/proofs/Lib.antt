@@ -1,0 +1,13 @@
+pub mod Cuts
+pub mod Digits
+pub mod Examples
+pub mod FieldPuts
+pub mod Fields
+pub mod Firsts
+pub mod PairPuts
+pub mod Pairs
+pub mod ParsedApart
+pub mod Puts
+pub mod Rooms
+pub mod Turns
+pub mod Whole

@@ -1,0 +1,79 @@
+-- What the listing program's input says. Document 01, 'The listing', and refusal 13 with the first bad line, from 1; then refusal 11.
+-- Assumes nothing.
+use Prim.Native.Nat.{ℕ, suc, _+_}
+use mathlib.Core.Bool.{Bool, not, _||_}
+use mathlib.Core.List.{List, [], _∷_, _++_}
+use lib.Dec.{ltb}
+use lib.IntN.{pos}
+use lib.ListN.{length, drop}
+use Rattle.operand.specs.Answer.{Answer, accepted, refused, Refusal, refuse, judge, after}
+use Rattle.input.specs.Bytes.{bytesOf, isBytes, bytesIn}
+use Rattle.input.specs.Entries.{isEntries, entriesIn}
+use Rattle.input.specs.Lines.{lines}
+use Rattle.input.specs.declared.parsed.Counts.{Counts}
+use Rattle.input.specs.declared.parsed.Parsed.{Parsed}
+use Rattle.input.specs.declared.parsed.Parsed.the-variants.{Accepted, Malformed, NoRoom}
+
+abbrev pub first : List (List ℕ) → List ℕ
+first [] = []
+first (l ∷ ls) = l
+
+abbrev pub others : List (List ℕ) → List (List ℕ)
+others [] = []
+others (l ∷ ls) = ls
+
+-- line 1, which is empty in an empty input, and the lines after it
+abbrev pub entryLine : List ℕ → List ℕ
+entryLine text = first (lines text)
+
+abbrev pub imageLines : List ℕ → List (List ℕ)
+imageLines text = others (lines text)
+
+abbrev pub entriesOf : List ℕ → List ℕ
+entriesOf text = entriesIn (entryLine text)
+
+abbrev pub imageOf : List ℕ → List ℕ
+imageOf text = bytesIn (imageLines text)
+
+abbrev pub bad : Bool → ℕ → Refusal
+bad b k = refuse b 13 (pos k ∷ [])
+
+-- the lines of image bytes from line k on, with n bytes before them: at most 16,384 bytes in all
+unfoldable pub imageRefusals : ℕ → ℕ → List (List ℕ) → List Refusal
+imageRefusals k n [] = []
+imageRefusals k n (l ∷ ls) =
+    bad (not (isBytes l) || ltb 16384 (n + length (bytesOf l))) k ∷ imageRefusals (suc k) (n + length (bytesOf l)) ls
+
+-- 13 at each line, from the first on
+unfoldable pub lineRefusals : List ℕ → List Refusal
+lineRefusals text = bad (not (isEntries (entryLine text))) 1 ∷ imageRefusals 2 0 (imageLines text)
+
+abbrev pub counts : ℕ → ℕ → Counts
+counts entries bytes = record { entries = entries; bytes = bytes }
+
+unfoldable pub countsOf : List ℕ → Counts
+countsOf text = counts (length (entriesOf text)) (length (imageOf text))
+
+abbrev pub parsedOf : Parsed → Answer Counts
+parsedOf (Accepted c) = accepted c
+parsedOf (Malformed k) = refused 13 (pos k ∷ [])
+parsedOf (NoRoom c) = refused 11 (pos (c .entries) ∷ pos (c .bytes) ∷ [])
+
+-- 13, then 11 with the entries and the bytes needed, where either room is too short
+unfoldable pub parseAnswer : List ℕ → List ℕ → List ℕ → Answer Counts
+parseAnswer text entries image =
+    judge
+    (lineRefusals text
+    ++ refuse (ltb (length entries) (length (entriesOf text)) || ltb (length image) (length (imageOf text))) 11 (pos (length (entriesOf text)) ∷ pos (length (imageOf text)) ∷ [])
+    ∷ [])
+    (countsOf text)
+
+-- what was read is laid over the beginning of a room, whose rest stays; a refusal changes nothing
+abbrev pub laid : List ℕ → List ℕ → List ℕ
+laid out room = out ++ drop (length out) room
+
+unfoldable pub parseEntries : List ℕ → List ℕ → List ℕ → List ℕ
+parseEntries text entries image = after (parseAnswer text entries image) (laid (entriesOf text) entries) entries
+
+unfoldable pub parseImage : List ℕ → List ℕ → List ℕ → List ℕ
+parseImage text entries image = after (parseAnswer text entries image) (laid (imageOf text) image) image

@@ -1,0 +1,11 @@
+// The input of the listing program: a line of entries, then lines of image bytes, all in upper-case hex.
+mod bytes;
+mod entries;
+mod hex;
+mod lines;
+pub mod parsed;
+pub mod text;
+
+pub use parsed::Counts;
+pub use parsed::Parsed;
+pub use text::parse;

@@ -1,0 +1,31 @@
+// What is answered of an input.
+ghost use mathlib.Core.Path.{_≡_};
+
+// How many entries, and how many image bytes.
+pub struct Counts {
+    pub entries: usize,
+    pub bytes: usize,
+}
+
+impl Counts {
+    pub const MOST_ENTRIES: usize = 256;
+
+    pub const MOST_BYTES: usize = 16_384;
+
+    pub const MOST_IN_LINE: usize = 32;
+
+    pub fn new(entries: usize, bytes: usize) -> Self
+        ensures { λ r. ⌜ (r .entries ≡ entries) × (r .bytes ≡ bytes) ⌝ }
+    {
+        Self { entries, bytes }
+    }
+}
+
+pub enum Parsed {
+    // What was read.
+    Accepted(Counts),
+    // 13: the first bad line, from 1.
+    Malformed(usize),
+    // 11: what is needed.
+    NoRoom(Counts),
+}
