@@ -2,17 +2,17 @@
 -- Assumes nothing.
 use mathlib.Core.Path.{_≡_, refl}
 use mathlib.Core.List.{List, [], _∷_, _++_}
-use Prim.Native.Nat.{ℕ}
+use Prim.Native.Nat.{ℕ, zero, suc}
 use Prim.Native.Char.{code}
 use Prim.Native.String.{String, [] as end, _∷_ as _then_}
 use lib.IntN.{pos}
-use lib.ListN.{length, replicate}
+use lib.ListN.{replicate}
 use Rattle.operand.specs.Answer.{Answer, accepted, refused, judge}
 use Rattle.input.specs.Bytes.{bytesOf, isBytes, bytesIn}
 use Rattle.input.specs.Entries.{isEntry, allEntries, isEntries, entryOf}
 use Rattle.input.specs.Hex.{digitOf, allHex}
 use Rattle.input.specs.Lines.{cut}
-use Rattle.input.specs.Text.{counts, countsOf, entriesOf, imageOf, imageRefusals, lineRefusals}
+use Rattle.input.specs.Text.{counts, countsOf, entriesOf, imageOf, imageRefusals, lineRefusals, parseAnswer, parseEntries, parseImage}
 use Rattle.input.specs.declared.parsed.Counts.{Counts}
 
 bytes : String → List ℕ
@@ -48,3 +48,30 @@ bent = (refl, refl, refl, refl, refl, refl, refl, refl, refl)
 long : (told (10 ∷ replicate 64 48) ≡ accepted (counts 0 32)) × (told (10 ∷ replicate 66 48) ≡ malformed 2)
 unfolding judge lineRefusals imageRefusals countsOf cut isEntries allEntries isEntry entryOf digitOf allHex bytesOf isBytes bytesIn
 long = (refl, refl)
+
+-- this many entries after the first
+more : ℕ → List ℕ
+more zero = []
+more (suc n) = 9 ∷ 70 ∷ 70 ∷ 70 ∷ 70 ∷ more n
+
+-- 256 entries, and 257
+many : (told (70 ∷ 70 ∷ 70 ∷ 70 ∷ more 255) ≡ accepted (counts 256 0)) × (told (70 ∷ 70 ∷ 70 ∷ 70 ∷ more 256) ≡ malformed 1)
+unfolding more judge lineRefusals imageRefusals countsOf cut isEntries allEntries isEntry entryOf digitOf allHex bytesOf isBytes bytesIn
+many = (refl, refl)
+
+-- this many full lines
+full : ℕ → List ℕ
+full zero = []
+full (suc n) = 10 ∷ (replicate 64 48 ++ full n)
+
+-- the 16,384th byte, and the 16,385th, which stands in line 514
+most : (told (full 512) ≡ accepted (counts 0 16384)) × (told (full 512 ++ 10 ∷ 48 ∷ 48 ∷ []) ≡ malformed 514)
+unfolding full judge lineRefusals imageRefusals countsOf cut isEntries allEntries isEntry entryOf digitOf allHex bytesOf isBytes bytesIn
+most = (refl, refl)
+
+-- what is written, and too little room for an entry or for a byte
+written : (parseEntries sample (7 ∷ 7 ∷ []) (replicate 9 7) ≡ 0 ∷ 7 ∷ []) × (parseImage sample (7 ∷ []) (replicate 9 7) ≡ 1 ∷ 2 ∷ 0 ∷ 65 ∷ 100 ∷ 128 ∷ 249 ∷ 160 ∷ 7 ∷ [])
+    × (parseAnswer sample [] (replicate 9 7) ≡ refused 11 (pos 1 ∷ pos 8 ∷ [])) × (parseAnswer sample (7 ∷ []) (replicate 7 7) ≡ refused 11 (pos 1 ∷ pos 8 ∷ []))
+    × (parseEntries sample (7 ∷ []) (replicate 7 7) ≡ 7 ∷ [])
+unfolding sample bytes parseAnswer parseEntries parseImage judge lineRefusals imageRefusals countsOf cut isEntries allEntries isEntry entryOf digitOf allHex bytesOf isBytes bytesIn
+written = (refl, refl, refl, refl, refl)

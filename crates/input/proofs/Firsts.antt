@@ -3,12 +3,12 @@
 use mathlib.Core.Path.{_≡_, refl, sym, ap, _∙_}
 use mathlib.Core.Bool.{Bool, true, false}
 use mathlib.Core.List.{List, [], _∷_}
-use Prim.Native.Nat.{ℕ, _+_, _-_, _≤_, _<_}
+use Prim.Native.Nat.{ℕ, _+_, _-_, _≤_}
 use native.Mathlib.Omega.{arith}
 use lib.IntN.{pos}
 use lib.ListN.{length, take, drop, length-map}
 use lib.Seq.{sets}
-use Rattle.operand.specs.Answer.{Answer, refused, judge}
+use Rattle.operand.specs.Answer.{refused, judge}
 use Rattle.operand.proofs.Judging.{pass, stop}
 use Rattle.input.specs.Bytes.{bytesIn}
 use Rattle.input.specs.Entries.{entryOf, entriesIn, isEntries, entriesLine}
@@ -16,7 +16,6 @@ use Rattle.input.specs.Lines.{cut, upTo, lines, fields}
 use Rattle.input.specs.Text.{first, others, entryLine, imageLines, entriesOf, imageOf, counts, countsOf, imageRefusals, lineRefusals, laid}
 use Rattle.input.specs.declared.lines.Line.{Line}
 use Rattle.input.specs.declared.lines.Line.the-variants.{Good, Bad}
-use Rattle.input.specs.declared.parsed.Counts.{Counts}
 use Rattle.input.proofs.Cuts.{line-next}
 use Rattle.input.proofs.Rooms.{laid-over}
 

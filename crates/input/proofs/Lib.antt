@@ -4,10 +4,12 @@ pub mod Examples
 pub mod FieldPuts
 pub mod Fields
 pub mod Firsts
+pub mod Longest
 pub mod PairPuts
 pub mod Pairs
 pub mod ParsedApart
 pub mod Puts
 pub mod Rooms
+pub mod Totals
 pub mod Turns
 pub mod Whole

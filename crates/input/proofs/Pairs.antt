@@ -67,11 +67,11 @@ good-line l n e = by (isBytes l) refl
     by true f = let g : Good (length (bytesOf l)) ≡ Good n = rw f at e in (f, cc)
     by false f = let g : Bad ≡ Good n = rw f at e in let z : _≡_ {A = ℕ} 0 1 = cc in absurd (omega arith)
 
-and-left : (a b : Bool) → (a && b) ≡ true → a ≡ true
+pub and-left : (a b : Bool) → (a && b) ≡ true → a ≡ true
 and-left true b e = refl
 and-left false b e = absurd (never (sym e))
 
-and-right : (a b : Bool) → (a && b) ≡ true → b ≡ true
+pub and-right : (a b : Bool) → (a && b) ≡ true → b ≡ true
 and-right true b e = e
 and-right false b e = absurd (never (sym e))
 

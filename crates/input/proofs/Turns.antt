@@ -1,12 +1,11 @@
 -- The lines of image bytes, judged line by line.
 -- Assumes nothing.
 use mathlib.Core.Path.{_≡_, refl, sym, ap, _∙_}
-use mathlib.Core.Bool.{Bool, true, false, not, _||_}
+use mathlib.Core.Bool.{true, false}
 use mathlib.Core.List.{List, [], _∷_}
 use Prim.Native.Nat.{ℕ, suc, _+_, _-_, _≤_, _<_}
 use native.Mathlib.Numerals.{add-one}
 use native.Mathlib.Omega.{arith}
-use lib.Dec.{ltb}
 use lib.IntN.{pos}
 use lib.ListN.{length, take, drop, length-append}
 use borrow.Author.Tests.{lt-ltb, le-ltb}
@@ -36,7 +35,7 @@ module _ (k n : ℕ) (l : List ℕ) (ls : List (List ℕ)) (c : Counts) where
     unfolding imageRefusals
     first-good h = pass _ _ _ (rw (e, le-ltb 16384 (n + length (bytesOf l)) h))
 
-more-bytes : (l : List ℕ) (ls : List (List ℕ)) → length (bytesIn (l ∷ ls)) ≡ length (bytesOf l) + length (bytesIn ls)
+pub more-bytes : (l : List ℕ) (ls : List (List ℕ)) → length (bytesIn (l ∷ ls)) ≡ length (bytesOf l) + length (bytesIn ls)
 unfolding bytesIn
 more-bytes l ls = length-append (bytesOf l) (bytesIn ls)
 

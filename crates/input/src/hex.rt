@@ -1,7 +1,7 @@
 // Upper-case hex digits.
 ghost use mathlib.Core.Path.{_≡_};
 ghost use Prim.Native.Nat.{_+_, _*_, _<_};
-ghost use lib.ListN.{length, getD};
+ghost use lib.ListN.{getD};
 ghost use Rattle.input.specs.Hex.{isDigit, digitOf, allHex};
 
 pub fn is_digit(b: u8) -> bool

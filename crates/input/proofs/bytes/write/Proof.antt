@@ -1,7 +1,6 @@
 -- `bytes::write` meets its contract.
 -- Assumes nothing.
-use mathlib.Core.List.{List}
-use Prim.Native.Nat.{ℕ, _+_, _-_, _≤_}
+use Prim.Native.Nat.{_-_}
 use native.Mathlib.Omega.{arith}
 use borrow.Author.Needs.{needs}
 use lib.ListN.{length}
@@ -20,9 +19,6 @@ start c = c .before .before .before
 
 loop-holds : tie.Need-loop-holds Inv-loop μ-loop
 loop-holds c = let a = c .before .before .args in put-start (a .line .now) (a .image .now) (a .at)
-
-loop-of : tie.After-pair Inv-loop μ-loop → tie.At-loop Inv-loop μ-loop
-loop-of c = c .before .before .before .before
 
 slice-write-image : tie.Need-slice-write-image Inv-loop μ-loop
 slice-write-image c =

@@ -1,0 +1,108 @@
+-- The longest valid input, and what a valid input holds at most.
+-- Assumes nothing.
+use mathlib.Core.Path.{_≡_, refl, sym, ap, _∙_}
+use mathlib.Core.Logic.{_⊎_, inl, inr}
+use mathlib.Core.Bool.{Bool, true, false, cond, not, _||_, _&&_}
+use mathlib.Core.List.{List, [], _∷_}
+use Prim.Native.Nat.{ℕ, suc, _+_, _*_, _≤_}
+use native.Mathlib.Omega.{arith}
+use lib.Dec.{eqb, leb, ltb}
+use lib.IntN.{pos}
+use lib.ListN.{length, length-map}
+use borrow.Author.Tests.{eqb-true, ltb-false, not-false}
+use Rattle.operand.specs.Answer.{Answer, accepted, refused, Refusal, judge}
+use Rattle.operand.proofs.Judging.{pass, stop, first-of}
+use Rattle.operand.proofs.Sign.{never}
+use Rattle.input.specs.Bytes.{bytesOf, isBytes, bytesIn}
+use Rattle.input.specs.ClaimsInput.{Valid, MostHeld, refusalOf, TooLong}
+use Rattle.input.specs.Entries.{entryOf, isEntries}
+use Rattle.input.specs.Hex.{allHex}
+use Rattle.input.specs.Lines.{lines, fields}
+use Rattle.input.specs.Text.{entryLine, imageLines, imageRefusals, lineRefusals, countsOf, parseAnswer}
+use Rattle.input.specs.declared.parsed.Counts.{Counts}
+use Rattle.input.proofs.Pairs.{and-left, not-empty}
+use Rattle.input.proofs.Totals.{total, all-there, with-first, longest-first}
+use Rattle.input.proofs.Turns.{more-bytes, no-bytes}
+
+-- where all is accepted, the first test does not hold
+passed : (r : Refusal) (rs : List Refusal) (c d : Counts) → judge (r ∷ rs) c ≡ accepted d → (r .holds ≡ false) × (judge rs c ≡ accepted d)
+passed r rs c d e = by (r .holds) refl
+  where
+    by : (t : Bool) → r .holds ≡ t → (r .holds ≡ false) × (judge rs c ≡ accepted d)
+    by true f = let g = sym (stop r rs c f) ∙ e in let z : _≡_ {A = ℕ} 0 1 = cc in absurd (omega arith)
+    by false f = (f, sym (pass r rs c f) ∙ e)
+
+or-left : (a b : Bool) → (a || b) ≡ false → a ≡ false
+or-left true b e = absurd (never e)
+or-left false b e = refl
+
+or-right : (a b : Bool) → (a || b) ≡ false → b ≡ false
+or-right true b e = absurd (never e)
+or-right false b e = e
+
+doubled : (l : List ℕ) → isBytes l ≡ true → length l ≡ length (bytesOf l) * 2
+unfolding isBytes
+doubled l e =
+    let n = length (bytesOf l) in
+    let a = eqb (length l) (n * 2) in
+    eqb-true (length l) (n * 2) (and-left a (leb 1 n) (and-left (a && leb 1 n) (leb n 32) (and-left (a && leb 1 n && leb n 32) (allHex l) e)))
+
+-- a line of n bytes takes at most 3 * n bytes
+pub image-most : (k n : ℕ) (ls : List (List ℕ)) (c d : Counts) → n ≤ 16384 → judge (imageRefusals k n ls) c ≡ accepted d → (total ls + n * 3 ≤ 49152) × (n + length (bytesIn ls) ≤ 16384)
+unfolding imageRefusals
+image-most k n [] c d h e = (omega arith, omega (arith, ap length no-bytes))
+image-most k n (l ∷ ls) c d h e =
+    let m = length (bytesOf l) in
+    let p = passed _ _ c d e in
+    let g = not-false (isBytes l) (or-left (not (isBytes l)) (ltb 16384 (n + m)) (p .0)) in
+    let o = ltb-false 16384 (n + m) (or-right (not (isBytes l)) (ltb 16384 (n + m)) (p .0)) in
+    let r = image-most (suc k) (n + m) ls c d o (p .1) in
+    (omega (arith, r .0, doubled l g, not-empty l g), omega (arith, r .1, more-bytes l ls))
+
+module _ (text : List ℕ) (v : Valid text) where
+  parts : (isEntries (entryLine text) ≡ true) × (judge (imageRefusals 2 0 (imageLines text)) (countsOf text) ≡ accepted (countsOf text))
+  unfolding lineRefusals
+  parts =
+      let p = passed _ _ (countsOf text) (countsOf text) v in (not-false (isEntries (entryLine text)) (p .0), p .1)
+
+  most-image : (total (imageLines text) + 0 * 3 ≤ 49152) × (0 + length (bytesIn (imageLines text)) ≤ 16384)
+  most-image = image-most 2 0 (imageLines text) (countsOf text) (countsOf text) (omega arith) (parts .1)
+
+  longest : length text ≤ 50432
+  longest =
+      omega (arith, all-there 10 [] text, with-first (lines text), longest-first (entryLine text) (parts .0) .0, most-image .0)
+
+  held : (length (fields (entryLine text)) ≤ 256) × (length (bytesIn (imageLines text)) ≤ 16384)
+  held = (longest-first (entryLine text) (parts .0) .1, omega (arith, most-image .1))
+
+pub most-held : MostHeld
+most-held text v = (omega (arith, held text v .0, length-map (fields (entryLine text)) entryOf), held text v .1)
+
+-- accepted, or refused with 13
+abbrev Thirteen : Answer Counts → Counts → Type 0
+Thirteen r c = (r ≡ accepted c) ⊎ (refusalOf r ≡ 13)
+
+one-line : (t : Bool) (k : ℕ) (rest : Answer Counts) (c : Counts) → Thirteen rest c → Thirteen (cond t (refused 13 (pos k ∷ [])) rest) c
+one-line true k rest c r = inr refl
+one-line false k rest c r = r
+
+image-13 : (k n : ℕ) (ls : List (List ℕ)) (c : Counts) → Thirteen (judge (imageRefusals k n ls) c) c
+unfolding imageRefusals judge
+image-13 k n [] c = inl refl
+image-13 k n (l ∷ ls) c = one-line (not (isBytes l) || ltb 16384 (n + length (bytesOf l))) k _ c (image-13 (suc k) (n + length (bytesOf l)) ls c)
+
+lines-13 : (text : List ℕ) → Thirteen (judge (lineRefusals text) (countsOf text)) (countsOf text)
+unfolding lineRefusals judge
+lines-13 text = one-line (not (isEntries (entryLine text))) 1 _ (countsOf text) (image-13 2 0 (imageLines text) (countsOf text))
+
+pub too-long : TooLong
+unfolding parseAnswer
+too-long text entries image h = by (lines-13 text)
+  where
+    told : (r : Answer Counts) → judge (lineRefusals text) (countsOf text) ≡ r → refusalOf r ≡ 13 → refusalOf (parseAnswer text entries image) ≡ 13
+    told (accepted c) e f = absurd (omega arith)
+    told (refused n vs) e f = ap refusalOf (first-of _ (countsOf text) (countsOf text) (lineRefusals text) n vs e) ∙ f
+
+    by : Thirteen (judge (lineRefusals text) (countsOf text)) (countsOf text) → refusalOf (parseAnswer text entries image) ≡ 13
+    by (inl v) = let k = longest text v in absurd (omega arith)
+    by (inr e) = told (judge (lineRefusals text) (countsOf text)) refl e
