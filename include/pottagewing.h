@@ -24,6 +24,13 @@
  * lists may be longer than the image; what lies beyond its length is neither
  * read nor written.
  *
+ * Views show what marks of any content say, those of a run as well as others.
+ * They look through the whole image for damage first: a mark over 3, a 2 or 3
+ * on an instruction that the end cuts off, a 3 that is not on a `jmpf`; the
+ * lowest is named. They refuse in the order 1, 2, 6, 11, and then their room
+ * stays as it was. What they show stands at the beginning of the room; the
+ * rest of it stays as it was.
+ *
  * The numbers of the refusals, with the values in answer[0], answer[1]:
  *
  *    1  the image is longer than 65,536: its length
@@ -31,12 +38,12 @@
  *    3  the order list is shorter than the image: its length
  *    4  the position is not waiting: its mark, 0 if it is not inside the image
  *    5  the instruction is cut off by the end: position, first byte
- *    6  a mark is over 3: its position
+ *    6  a mark is damaged: its position
  *    7  a number does not fit its field: operand, counted from 1, and the number
  *    8  not an address, 0 to 65,535: the number
  *    9  a short offset is not -128 to 127: the offset
  *   10  the top four bits differ: the base's, the address's
- *   11  no room: the number of bytes needed
+ *   11  no room: the number of bytes, or of positions, needed
  *   12  nothing to decode: 0
  *   14  the base, or the position after the instruction, is over 65,536: that
  *       number
@@ -121,6 +128,56 @@ uint32_t pw_run(const uint8_t *image, size_t image_length,
                 uint32_t *order, size_t order_length,
                 const uint32_t *entries, size_t entries_length,
                 uint32_t limit, int64_t answer[5]);
+
+/* The byte mask: 1 on each byte of a traced instruction, 0 on all others.
+ * 0: the number of bytes written, which is the image's length.
+ * 1, 2, 6, 11.
+ */
+uint32_t pw_mask(const uint8_t *image, size_t image_length,
+                 const uint8_t *marks, size_t marks_length,
+                 uint8_t *mask, size_t mask_length, int64_t answer[5]);
+
+/* Target marks: 1 at each position that a traced jump, branch or call names, 0
+ * at all others. A `jmpf` right after B8 0D names nothing where the first of
+ * these two bytes is traced in the marks, whatever its own mark.
+ * 0: the number of bytes written, which is the image's length.
+ * 1, 2, 6, 11.
+ */
+uint32_t pw_target_marks(const uint8_t *image, size_t image_length,
+                         const uint8_t *marks, size_t marks_length,
+                         uint8_t *room, size_t room_length,
+                         int64_t answer[5]);
+
+/* Overlaps at a traced position: the one before it, if that is traced and its
+ * instruction has two bytes or three, then the traced ones after it up to the
+ * last byte of its instruction. None at any other position.
+ * 0: the number of positions written, 0 to 3.
+ * 1, 2, 6, 11.
+ */
+uint32_t pw_overlaps(const uint8_t *image, size_t image_length,
+                     const uint8_t *marks, size_t marks_length,
+                     uint32_t position, uint32_t *room, size_t room_length,
+                     int64_t answer[5]);
+
+/* Arrivals at a position, upward: the traced positions that had it among their
+ * targets when they were taken up, of which those with the mark 3 had none.
+ * None at a position outside the image.
+ * 0: the number of positions written.
+ * 1, 2, 6, 11.
+ */
+uint32_t pw_arrivals(const uint8_t *image, size_t image_length,
+                     const uint8_t *marks, size_t marks_length,
+                     uint32_t position, uint32_t *room, size_t room_length,
+                     int64_t answer[5]);
+
+/* The data run at a position: up to 16 bytes of the image from there on, which
+ * end before a byte whose mask is not 0. Bytes that the mask does not have
+ * count as masked. An image may be of any length here.
+ * 0, always: the number of bytes, 0 where the position is past the image.
+ */
+uint32_t pw_data_run(const uint8_t *image, size_t image_length,
+                     const uint8_t *mask, size_t mask_length,
+                     uint32_t position, int64_t answer[5]);
 
 #ifdef __cplusplus
 }

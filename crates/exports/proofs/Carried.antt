@@ -2,7 +2,7 @@
 -- Assumes nothing.
 use mathlib.Core.Path.{_≡_}
 use mathlib.Core.Bool.{Bool, true, false, cond}
-use mathlib.Core.List.{List, [], _∷_}
+use mathlib.Core.List.{List, [], _∷_, _++_}
 use Prim.Native.Nat.{ℕ}
 use native.Mathlib.Omega.{arith}
 use lib.IntN.{ℤ}
@@ -12,6 +12,10 @@ use Rattle.operand.specs.Answer.{Answer, accepted, refused, Refusal, judge}
 abbrev pub Each : (ℕ → List ℤ → Type 0) → List Refusal → Type 0
 Each P [] = Unit {0}
 Each P (r ∷ rs) = P (r .number) (r .values) × Each P rs
+
+pub each-append : (P : ℕ → List ℤ → Type 0) (rs qs : List Refusal) → Each P rs → Each P qs → Each P (rs ++ qs)
+each-append P [] qs h k = k
+each-append P (r ∷ rs) qs h k = (h .0, each-append P rs qs (h .1) k)
 
 pub carries : {A : Type 0} (P : ℕ → List ℤ → Type 0) (rs : List Refusal) (a : A) (n : ℕ) (vs : List ℤ) → Each P rs → refused n vs ≡ judge rs a → P n vs
 unfolding judge

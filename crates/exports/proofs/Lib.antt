@@ -4,3 +4,4 @@ pub mod Named
 pub mod Carried
 pub mod Sizes
 pub mod Lengths
+pub mod Shown

@@ -13,6 +13,8 @@ use Rattle.trace.specs.declared.step.Stepped.{Stepped}
 use Rattle.trace.specs.declared.step.Stepped.the-variants as stepped
 use Rattle.trace.specs.declared.run.Ran.{Ran}
 use Rattle.trace.specs.declared.run.Ran.the-variants as ran
+use Rattle.views.specs.declared.view.Viewed.{Viewed}
+use Rattle.views.specs.declared.view.Viewed.the-variants as viewed
 
 -- the number of bytes that an answer of encode names
 abbrev pub countIn : Encoded → ℕ
@@ -49,3 +51,11 @@ lengthInRan (ran.LongImage n) = n
 lengthInRan (ran.ShortMarks n) = n
 lengthInRan (ran.ShortOrder n) = n
 lengthInRan (ran.Cut c) = 0
+
+-- the length, or how much was written or is needed, that an answer of a view names
+abbrev pub lengthInViewed : Viewed → ℕ
+lengthInViewed (viewed.Written n) = n
+lengthInViewed (viewed.LongImage n) = n
+lengthInViewed (viewed.ShortMarks n) = n
+lengthInViewed (viewed.Damaged p) = 0
+lengthInViewed (viewed.NoRoom n) = n

@@ -5,6 +5,7 @@ pub mod codec;
 mod outcome;
 mod reply;
 pub mod tracing;
+pub mod viewing;
 mod wide;
 
 pub use codec::pw_decode;
@@ -14,3 +15,8 @@ pub use tracing::pw_run;
 pub use tracing::pw_start;
 pub use tracing::pw_step;
 pub use tracing::pw_targets;
+pub use viewing::pw_arrivals;
+pub use viewing::pw_data_run;
+pub use viewing::pw_mask;
+pub use viewing::pw_overlaps;
+pub use viewing::pw_target_marks;
