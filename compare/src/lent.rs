@@ -25,6 +25,14 @@ impl<T: Copy> Lent<T> {
         &self.0[GUARD..self.0.len() - GUARD]
     }
 
+    /// The same once these stand at the beginning of the part, as many of them as it has room for.
+    pub fn with(mut self, list: &[T]) -> Lent<T> {
+        let part = self.lend();
+        let count = list.len().min(part.len());
+        part[..count].copy_from_slice(&list[..count]);
+        self
+    }
+
     pub fn lend(&mut self) -> &mut [T] {
         let end = self.0.len() - GUARD;
         &mut self.0[GUARD..end]

@@ -12,6 +12,7 @@ mod steps;
 mod tally;
 mod targets;
 mod traces;
+mod views;
 
 use compare::paper;
 use compare::random::Random;
@@ -37,6 +38,7 @@ fn main() -> ExitCode {
     targets::compare(&mut tally, &mut random);
     steps::compare(&mut tally, &mut random);
     traces::compare(&mut tally, &mut random);
+    views::compare(&mut tally, &mut random);
     match tally.report() {
         true => ExitCode::SUCCESS,
         false => ExitCode::FAILURE,

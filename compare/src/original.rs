@@ -1,6 +1,7 @@
 //! The original's answers, as the plain numbers of our C face.
 
 pub mod traced;
+pub mod viewed;
 
 use crate::answer::Answer;
 use std::sync::LazyLock;

@@ -45,6 +45,52 @@ unsafe extern "C" {
         limit: u32,
         answer: *mut [i64; 5],
     ) -> u32;
+    fn pw_mask(
+        image: *const u8,
+        image_length: usize,
+        marks: *const u8,
+        marks_length: usize,
+        mask: *mut u8,
+        mask_length: usize,
+        answer: *mut [i64; 5],
+    ) -> u32;
+    fn pw_target_marks(
+        image: *const u8,
+        image_length: usize,
+        marks: *const u8,
+        marks_length: usize,
+        room: *mut u8,
+        room_length: usize,
+        answer: *mut [i64; 5],
+    ) -> u32;
+    fn pw_overlaps(
+        image: *const u8,
+        image_length: usize,
+        marks: *const u8,
+        marks_length: usize,
+        position: u32,
+        room: *mut u32,
+        room_length: usize,
+        answer: *mut [i64; 5],
+    ) -> u32;
+    fn pw_arrivals(
+        image: *const u8,
+        image_length: usize,
+        marks: *const u8,
+        marks_length: usize,
+        position: u32,
+        room: *mut u32,
+        room_length: usize,
+        answer: *mut [i64; 5],
+    ) -> u32;
+    fn pw_data_run(
+        image: *const u8,
+        image_length: usize,
+        mask: *const u8,
+        mask_length: usize,
+        position: u32,
+        answer: *mut [i64; 5],
+    ) -> u32;
 }
 
 pub fn decode(bytes: &[u8]) -> Answer {
@@ -98,6 +144,59 @@ pub fn run(
             values,
         )
     })
+}
+
+pub fn mask(image: &[u8], marks: &[u8], room: &mut [u8]) -> Answer {
+    let (at, n) = (room.as_mut_ptr(), room.len());
+    let (table, count) = (marks.as_ptr(), marks.len());
+    answered(|values| unsafe { pw_mask(image.as_ptr(), image.len(), table, count, at, n, values) })
+}
+
+pub fn target_marks(image: &[u8], marks: &[u8], room: &mut [u8]) -> Answer {
+    let (at, n) = (room.as_mut_ptr(), room.len());
+    let (table, count) = (marks.as_ptr(), marks.len());
+    answered(|values| unsafe {
+        pw_target_marks(image.as_ptr(), image.len(), table, count, at, n, values)
+    })
+}
+
+pub fn overlaps(image: &[u8], marks: &[u8], position: u32, room: &mut [u32]) -> Answer {
+    let (at, n) = (room.as_mut_ptr(), room.len());
+    let (table, count) = (marks.as_ptr(), marks.len());
+    answered(|values| unsafe {
+        pw_overlaps(
+            image.as_ptr(),
+            image.len(),
+            table,
+            count,
+            position,
+            at,
+            n,
+            values,
+        )
+    })
+}
+
+pub fn arrivals(image: &[u8], marks: &[u8], position: u32, room: &mut [u32]) -> Answer {
+    let (at, n) = (room.as_mut_ptr(), room.len());
+    let (table, count) = (marks.as_ptr(), marks.len());
+    answered(|values| unsafe {
+        pw_arrivals(
+            image.as_ptr(),
+            image.len(),
+            table,
+            count,
+            position,
+            at,
+            n,
+            values,
+        )
+    })
+}
+
+pub fn data_run(image: &[u8], mask: &[u8], position: u32) -> Answer {
+    let (at, n) = (mask.as_ptr(), mask.len());
+    answered(|values| unsafe { pw_data_run(image.as_ptr(), image.len(), at, n, position, values) })
 }
 
 /// The values begin as numbers that no answer has, so that one left unwritten is seen.

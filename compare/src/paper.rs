@@ -4,6 +4,7 @@
 
 pub mod flow;
 pub mod tracer;
+pub mod views;
 
 use crate::answer::Answer;
 use crate::original;

@@ -4,6 +4,7 @@
 use crate::lent::Lent;
 use crate::ours;
 use crate::tally::{Call, Judge, Tally};
+use crate::views;
 use compare::answer::Answer;
 use compare::original::traced::{self, Told};
 use compare::paper::tracer;
@@ -49,14 +50,17 @@ pub fn one(tally: &mut Tally, random: &mut Random, image: &[u8], entries: &[u32]
     let known = told.as_ref().map(|told| told.unfollowed.is_some());
     let mut expected = given.run(tracer::run, known);
     let ours = given.run(ours::run, known);
-    let told = told.map(|told| told.under(given.limit));
-    if told != expected.seen {
+    let seen = told.as_ref().map(|told| told.under(given.limit));
+    if seen != expected.seen {
         let paper = &expected.seen;
-        tally.table_differs(|| format!("{}\n  {paper:?}\n  {told:?}", given.shown()));
+        tally.table_differs(|| format!("{}\n  {paper:?}\n  {seen:?}", given.shown()));
     }
-    expected.seen = told;
+    expected.seen = seen;
     count(tally, image, &expected);
     judge(tally, &given, &expected, &ours);
+    if let Some(graph) = told.and_then(|told| told.graph) {
+        views::of_trace(tally, random, image, entries, &graph);
+    }
 }
 
 fn judge(tally: &mut Tally, given: &Given, expected: &Outcome, ours: &Outcome) {

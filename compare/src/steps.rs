@@ -32,7 +32,7 @@ pub fn compare(tally: &mut Tally, random: &mut Random) {
 }
 
 /// A few bytes, at times with the exception among them.
-fn short(random: &mut Random) -> Vec<u8> {
+pub fn short(random: &mut Random) -> Vec<u8> {
     let length = random.below(9) as usize;
     let alphabet = random.pick(&[&TELLING[..], &FLASH]);
     let mut byte = || match random.below(4) {
@@ -61,7 +61,7 @@ fn long(tally: &mut Tally, random: &mut Random) {
 }
 
 /// Mostly marks that a step can meet, at times a damaged one.
-fn mark(mixed: u64) -> u8 {
+pub fn mark(mixed: u64) -> u8 {
     match mixed % 16 {
         0..5 => 1,
         5..9 => 0,
@@ -167,7 +167,7 @@ fn any_waiting(marks: &[u8], random: &mut Random) -> Option<u32> {
     (!waiting.is_empty()).then(|| random.pick(&waiting) as u32)
 }
 
-fn shown(image: &[u8]) -> String {
+pub fn shown(image: &[u8]) -> String {
     let beginning = &image[..image.len().min(48)];
     format!("{} bytes {beginning:02X?}", image.len())
 }

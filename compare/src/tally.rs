@@ -3,7 +3,7 @@
 use compare::original::{self, FORMS};
 use std::fmt::Debug;
 
-#[derive(Clone, Copy, PartialEq)]
+#[derive(Clone, Copy, PartialEq, Debug)]
 pub enum Call {
     Decode,
     Encode,
@@ -12,9 +12,14 @@ pub enum Call {
     Start,
     Step,
     Run,
+    Mask,
+    TargetMarks,
+    Overlaps,
+    Arrivals,
+    DataRun,
 }
 
-const CALLS: [(Call, &str); 7] = [
+const CALLS: [(Call, &str); 12] = [
     (Call::Decode, "decode"),
     (Call::Encode, "encode"),
     (Call::Resolve, "resolve"),
@@ -22,6 +27,11 @@ const CALLS: [(Call, &str); 7] = [
     (Call::Start, "start"),
     (Call::Step, "step"),
     (Call::Run, "run"),
+    (Call::Mask, "mask"),
+    (Call::TargetMarks, "target marks"),
+    (Call::Overlaps, "overlaps"),
+    (Call::Arrivals, "arrivals"),
+    (Call::DataRun, "data run"),
 ];
 
 /// Who says what the answer is to be.
@@ -146,7 +156,7 @@ impl Tally {
         println!("form      decode    encode   resolve   targets      step     taken  differ");
         for (form, calls) in self.by_form.iter().enumerate() {
             let counts = calls.map(|counts| counts.compared + counts.alone);
-            let [decode, encode, resolve, targets, _, step, _] = counts;
+            let [decode, encode, resolve, targets, _, step, ..] = counts;
             let differ: u64 = calls.iter().map(|counts| counts.differ).sum();
             let (name, taken) = (original::name(form), self.taken[form]);
             println!(
@@ -156,13 +166,13 @@ impl Tally {
     }
 
     fn report_numbers(&self) {
-        println!("call     number    compared  ours alone  differ");
+        println!("call          number    compared  ours alone  differ");
         for (call, name) in CALLS {
             for (number, counts) in self.by_number[call as usize].iter().enumerate() {
                 let (compared, alone) = (counts.compared, counts.alone);
                 if compared + alone > 0 {
                     let differ = counts.differ;
-                    println!("{name:<8} {number:>6}  {compared:>10}  {alone:>10}  {differ:>6}");
+                    println!("{name:<13} {number:>6}  {compared:>10}  {alone:>10}  {differ:>6}");
                 }
             }
         }

@@ -2,7 +2,7 @@
 
 use crate::seen::{End, Seen};
 use waterbear::budget::Ended;
-use waterbear::disasm::probe::{self, CutOff};
+use waterbear::disasm::probe::{self, CutOff, Graph};
 
 /// The first byte of a Jmpf.
 const JMPF: u8 = 0x21;
@@ -15,6 +15,8 @@ pub struct Told {
     pub cut_off: Option<(u32, u8)>,
     /// The Jmpf that were not followed, ascending. Where it was cut off, the original does not say.
     pub unfollowed: Option<Vec<u32>>,
+    /// Its graph, where it was not cut off.
+    pub graph: Option<Graph>,
 }
 
 /// Traces from the entries; nothing where that takes more visits.
@@ -22,7 +24,7 @@ pub fn trace(entries: &[u32], image: &[u8], visits: u64) -> Option<Told> {
     let entries: Vec<usize> = entries.iter().map(|entry| *entry as usize).collect();
     let ended = probe::trace(&entries, image, visits);
     let mut taken = probe::first_visits(image);
-    let (cut_off, unfollowed) = match ended {
+    let (cut_off, unfollowed, graph) = match ended {
         Ended::OverLimit => return None,
         Ended::Panicked(words) => panic!("the original, on {image:02X?} {entries:?}: {words}"),
         Ended::Answered(Ok(graph)) => {
@@ -33,17 +35,18 @@ pub fn trace(entries: &[u32], image: &[u8], visits: u64) -> Option<Told> {
             let jmpf = taken.iter().filter(|at| image[**at] == JMPF);
             let mut list = words(jmpf.filter(|at| graph.jumps(**at).is_empty()));
             list.sort_unstable();
-            (None, Some(list))
+            (None, Some(list), Some(graph))
         }
         Ended::Answered(Err(CutOff(position, first))) => {
             assert!(taken.pop() == Some(position), "it ends where it is cut off");
-            (Some((position as u32, first)), None)
+            (Some((position as u32, first)), None, None)
         }
     };
     Some(Told {
         taken: words(&taken),
         cut_off,
         unfollowed,
+        graph,
     })
 }
 

@@ -9,14 +9,14 @@ pub const LONGEST: usize = 65_536;
 const UNTOUCHED: u8 = 0;
 const WAITING: u8 = 1;
 const TRACED: u8 = 2;
-const UNFOLLOWED: u8 = 3;
+pub(super) const UNFOLLOWED: u8 = 3;
 
 fn length(number: u32, length: usize) -> Option<Answer> {
     Some(Answer::new(number, &[length as i64]))
 }
 
 /// Refusals 1 and 2.
-fn sizes(image: &[u8], marks: &[u8]) -> Option<Answer> {
+pub(super) fn sizes(image: &[u8], marks: &[u8]) -> Option<Answer> {
     match () {
         () if image.len() > LONGEST => length(Answer::LONG_IMAGE, image.len()),
         () if marks.len() < image.len() => length(Answer::SHORT_MARKS, marks.len()),
@@ -24,7 +24,7 @@ fn sizes(image: &[u8], marks: &[u8]) -> Option<Answer> {
     }
 }
 
-fn is_traced(mark: u8) -> bool {
+pub(super) fn is_traced(mark: u8) -> bool {
     mark == TRACED || mark == UNFOLLOWED
 }
 
@@ -62,7 +62,7 @@ pub fn start(image: &[u8], marks: &mut [u8], entries: &[u32]) -> Answer {
 }
 
 /// Refusal 5.
-fn cut_off(image: &[u8], at: usize) -> Option<Answer> {
+pub(super) fn cut_off(image: &[u8], at: usize) -> Option<Answer> {
     let whole = at + flow::size(image[at]) <= image.len();
     (!whole).then(|| Answer::new(Answer::CUT_OFF, &[at as i64, i64::from(image[at])]))
 }
@@ -72,7 +72,7 @@ fn after_flash(image: &[u8], at: usize) -> bool {
     at >= 2 && image[at - 2..=at] == [0xB8, 0x0D, 0x21]
 }
 
-fn is_exempt(image: &[u8], marks: &[u8], at: usize) -> bool {
+pub(super) fn is_exempt(image: &[u8], marks: &[u8], at: usize) -> bool {
     after_flash(image, at) && is_traced(marks[at - 2])
 }
 

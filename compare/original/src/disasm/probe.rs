@@ -50,7 +50,9 @@ impl Graph {
 
     /// The positions that get a label, ascending, those outside the image too.
     pub fn labels(&self) -> Vec<usize> {
-        sorted(build_names(&self.0).labels.keys())
+        let mut names = Names::new();
+        compute_labels(&self.0, &mut names);
+        sorted(names.labels.keys())
     }
 
     pub fn overlaps(&self, position: usize) -> Vec<usize> {
