@@ -15,7 +15,7 @@ use Rattle.ways.specs.At.{sizeHere}
 use Rattle.ways.proofs.Within.{Small, size-short}
 use Rattle.views.specs.Overlaps.{fromBefore, overlapsOf}
 use Rattle.views.specs.Positions.{upFrom, positions, kept, tracedAt}
-use Rattle.views.specs.View.{damageIn, viewRefusals, viewedOf, viewAnswer}
+use Rattle.views.specs.View.{damageIn, viewRefusals, viewedOf, roomAnswer, viewAnswer}
 use Rattle.views.specs.declared.view.Viewed.{Viewed}
 use Rattle.views.specs.declared.view.Viewed.the-variants.{Written, LongImage, ShortMarks, Damaged, NoRoom}
 use Rattle.views.proofs.Kept.{kept-few}
@@ -39,7 +39,7 @@ module _ (image m out room : List ℕ) (i : length image < 2 ^ 63) (k : length m
   view-each = each-append Fits (viewRefusals image m) _ (this 1 i, (this 2 k, damage-each image m (positions image))) (this 11 o, tt)
 
   pub viewed-small : (v : Viewed) → viewedOf v ≡ viewAnswer image m out room → lengthInViewed v < 2 ^ 63
-  unfolding viewAnswer
+  unfolding viewAnswer roomAnswer
   viewed-small (Written n) e = rw (← accepts _ _ n (sym e)) o
   viewed-small (LongImage n) e = carries Fits _ _ 1 (pos n ∷ []) view-each e refl n refl
   viewed-small (ShortMarks n) e = carries Fits _ _ 2 (pos n ∷ []) view-each e refl n refl
