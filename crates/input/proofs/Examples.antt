@@ -13,7 +13,7 @@ use Rattle.input.specs.Entries.{isEntry, allEntries, isEntries, entryOf}
 use Rattle.input.specs.Hex.{digitOf, allHex}
 use Rattle.input.specs.Lines.{cut}
 use Rattle.input.specs.Text.{counts, countsOf, entriesOf, imageOf, imageRefusals, lineRefusals, parseAnswer, parseEntries, parseImage}
-use Rattle.input.specs.declared.parsed.Counts.{Counts}
+use Rattle.input.specs.declared.parsed.Input.{Input}
 
 bytes : String → List ℕ
 bytes end = []
@@ -24,10 +24,10 @@ sample : List ℕ
 unfolding bytes
 sample = bytes "0000" ++ 10 ∷ bytes "0102004164" ++ 10 ∷ bytes "80F9A0" ++ 10 ∷ []
 
-abbrev told : List ℕ → Answer Counts
+abbrev told : List ℕ → Answer Input
 told text = judge (lineRefusals text) (countsOf text)
 
-abbrev malformed : ℕ → Answer Counts
+abbrev malformed : ℕ → Answer Input
 malformed k = refused 13 (pos k ∷ [])
 
 read : (told sample ≡ accepted (counts 1 8)) × (entriesOf sample ≡ 0 ∷ []) × (imageOf sample ≡ 1 ∷ 2 ∷ 0 ∷ 65 ∷ 100 ∷ 128 ∷ 249 ∷ 160 ∷ [])

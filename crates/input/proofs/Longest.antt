@@ -19,13 +19,13 @@ use Rattle.input.specs.Entries.{entryOf, isEntries}
 use Rattle.input.specs.Hex.{allHex}
 use Rattle.input.specs.Lines.{lines, fields}
 use Rattle.input.specs.Text.{entryLine, imageLines, imageRefusals, lineRefusals, countsOf, parseAnswer}
-use Rattle.input.specs.declared.parsed.Counts.{Counts}
+use Rattle.input.specs.declared.parsed.Input.{Input}
 use Rattle.input.proofs.Pairs.{and-left, not-empty}
 use Rattle.input.proofs.Totals.{total, all-there, with-first, longest-first}
 use Rattle.input.proofs.Turns.{more-bytes, no-bytes}
 
 -- where all is accepted, the first test does not hold
-passed : (r : Refusal) (rs : List Refusal) (c d : Counts) → judge (r ∷ rs) c ≡ accepted d → (r .holds ≡ false) × (judge rs c ≡ accepted d)
+passed : (r : Refusal) (rs : List Refusal) (c d : Input) → judge (r ∷ rs) c ≡ accepted d → (r .holds ≡ false) × (judge rs c ≡ accepted d)
 passed r rs c d e = by (r .holds) refl
   where
     by : (t : Bool) → r .holds ≡ t → (r .holds ≡ false) × (judge rs c ≡ accepted d)
@@ -48,7 +48,7 @@ doubled l e =
     eqb-true (length l) (n * 2) (and-left a (leb 1 n) (and-left (a && leb 1 n) (leb n 32) (and-left (a && leb 1 n && leb n 32) (allHex l) e)))
 
 -- a line of n bytes takes at most 3 * n bytes
-pub image-most : (k n : ℕ) (ls : List (List ℕ)) (c d : Counts) → n ≤ 16384 → judge (imageRefusals k n ls) c ≡ accepted d → (total ls + n * 3 ≤ 49152) × (n + length (bytesIn ls) ≤ 16384)
+pub image-most : (k n : ℕ) (ls : List (List ℕ)) (c d : Input) → n ≤ 16384 → judge (imageRefusals k n ls) c ≡ accepted d → (total ls + n * 3 ≤ 49152) × (n + length (bytesIn ls) ≤ 16384)
 unfolding imageRefusals
 image-most k n [] c d h e = (omega arith, omega (arith, ap length no-bytes))
 image-most k n (l ∷ ls) c d h e =
@@ -79,14 +79,14 @@ pub most-held : MostHeld
 most-held text v = (omega (arith, held text v .0, length-map (fields (entryLine text)) entryOf), held text v .1)
 
 -- accepted, or refused with 13
-abbrev Thirteen : Answer Counts → Counts → Type 0
+abbrev Thirteen : Answer Input → Input → Type 0
 Thirteen r c = (r ≡ accepted c) ⊎ (refusalOf r ≡ 13)
 
-one-line : (t : Bool) (k : ℕ) (rest : Answer Counts) (c : Counts) → Thirteen rest c → Thirteen (cond t (refused 13 (pos k ∷ [])) rest) c
+one-line : (t : Bool) (k : ℕ) (rest : Answer Input) (c : Input) → Thirteen rest c → Thirteen (cond t (refused 13 (pos k ∷ [])) rest) c
 one-line true k rest c r = inr refl
 one-line false k rest c r = r
 
-image-13 : (k n : ℕ) (ls : List (List ℕ)) (c : Counts) → Thirteen (judge (imageRefusals k n ls) c) c
+image-13 : (k n : ℕ) (ls : List (List ℕ)) (c : Input) → Thirteen (judge (imageRefusals k n ls) c) c
 unfolding imageRefusals judge
 image-13 k n [] c = inl refl
 image-13 k n (l ∷ ls) c = one-line (not (isBytes l) || ltb 16384 (n + length (bytesOf l))) k _ c (image-13 (suc k) (n + length (bytesOf l)) ls c)
@@ -99,7 +99,7 @@ pub too-long : TooLong
 unfolding parseAnswer
 too-long text entries image h = by (lines-13 text)
   where
-    told : (r : Answer Counts) → judge (lineRefusals text) (countsOf text) ≡ r → refusalOf r ≡ 13 → refusalOf (parseAnswer text entries image) ≡ 13
+    told : (r : Answer Input) → judge (lineRefusals text) (countsOf text) ≡ r → refusalOf r ≡ 13 → refusalOf (parseAnswer text entries image) ≡ 13
     told (accepted c) e f = absurd (omega arith)
     told (refused n vs) e f = ap refusalOf (first-of _ (countsOf text) (countsOf text) (lineRefusals text) n vs e) ∙ f
 

@@ -10,14 +10,14 @@ use lib.ListN.{getD}
 use Rattle.operand.specs.Answer.{Answer, accepted, refused}
 use Rattle.input.specs.ClaimsInput.{ParsedApart}
 use Rattle.input.specs.Text.{counts, parsedOf}
-use Rattle.input.specs.declared.parsed.Counts.{Counts}
+use Rattle.input.specs.declared.parsed.Input.{Input}
 use Rattle.input.specs.declared.parsed.Parsed.{Parsed}
 use Rattle.input.specs.declared.parsed.Parsed.the-variants.{Accepted, Malformed, NoRoom}
 
 abbrev numberAt : List ℤ → ℕ → ℕ
 numberAt vs n = natAbs (getD vs n (pos 0))
 
-abbrev answered : Answer Counts → Parsed
+abbrev answered : Answer Input → Parsed
 answered (accepted c) = Accepted c
 answered (refused n vs) = cond (eqb n 13) (Malformed (numberAt vs 0)) (NoRoom (counts (numberAt vs 0) (numberAt vs 1)))
 

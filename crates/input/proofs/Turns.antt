@@ -16,12 +16,12 @@ use Rattle.input.specs.Lines.{upTo, lines}
 use Rattle.input.specs.Text.{counts, imageRefusals}
 use Rattle.input.specs.declared.lines.Line.{Line}
 use Rattle.input.specs.declared.lines.Line.the-variants.{Good, Bad}
-use Rattle.input.specs.declared.parsed.Counts.{Counts}
+use Rattle.input.specs.declared.parsed.Input.{Input}
 use Rattle.input.proofs.Cuts.{line-next, lines-end}
 use Rattle.input.proofs.Pairs.{bad-line, good-line, not-empty}
 
 -- a line that is bad, or holds too much, and one that is good
-module _ (k n : ℕ) (l : List ℕ) (ls : List (List ℕ)) (c : Counts) where
+module _ (k n : ℕ) (l : List ℕ) (ls : List (List ℕ)) (c : Input) where
   first-bad : isBytes l ≡ false → judge (imageRefusals k n (l ∷ ls)) c ≡ refused 13 (pos k ∷ [])
   unfolding imageRefusals
   first-bad e = stop _ _ _ (rw e)
@@ -48,11 +48,11 @@ module _ (text : List ℕ) (from entries : ℕ) where
   abbrev left : ℕ → List ℕ
   left at = bytesIn (lines (drop at text))
 
-  abbrev all : Counts
+  abbrev all : Input
   all = counts entries (length (left from))
 
   -- of the lines from a place on, with k for their first and n bytes before them
-  abbrev said : ℕ → ℕ → ℕ → Answer Counts
+  abbrev said : ℕ → ℕ → ℕ → Answer Input
   said at k n = judge (imageRefusals k n (lines (drop at text))) all
 
   -- what is said of the lines from here is what is said of all
@@ -66,7 +66,7 @@ module _ (text : List ℕ) (from entries : ℕ) where
   judge-start = record { few = omega arith; count = omega arith; total = omega arith; same = refl }
 
   module _ (at k n : ℕ) (j : Judging at k n) where
-    pub judge-end : length text ≤ at → (c : Counts) → c .entries ≡ entries → c .bytes ≡ n → accepted c ≡ said from 2 0
+    pub judge-end : length text ≤ at → (c : Input) → c .entries ≡ entries → c .bytes ≡ n → accepted c ≡ said from 2 0
     unfolding imageRefusals
     judge-end h c a b =
         let e = lines-end text at h in

@@ -13,7 +13,7 @@ use borrow.Author.Tests.{lt-ltb, le-ltb}
 use Rattle.operand.specs.Answer.{Answer, accepted, refused, judge, after}
 use Rattle.operand.proofs.Judging.{pass, stop, done, first-of, past-all, accepts}
 use Rattle.input.specs.Text.{countsOf, entriesOf, imageOf, lineRefusals, laid, parsedOf, parseAnswer, parseEntries, parseImage}
-use Rattle.input.specs.declared.parsed.Counts.{Counts}
+use Rattle.input.specs.declared.parsed.Input.{Input}
 use Rattle.input.specs.declared.parsed.Parsed.{Parsed}
 use Rattle.input.specs.declared.parsed.Parsed.the-variants.{Accepted, Malformed, NoRoom}
 
@@ -27,14 +27,14 @@ or-true true = refl
 or-true false = refl
 
 module _ (text room image : List ℕ) where
-  abbrev pub Is : Answer Counts → List ℕ → List ℕ → Type 0
+  abbrev pub Is : Answer Input → List ℕ → List ℕ → Type 0
   Is r s t = (r ≡ parseAnswer text room image) × (s ≡ parseEntries text room image) × (t ≡ parseImage text room image)
 
   -- what the lines alone are judged to be
-  abbrev judged : Answer Counts
+  abbrev judged : Answer Input
   judged = judge (lineRefusals text) (countsOf text)
 
-  held : (r : Answer Counts) → parseAnswer text room image ≡ r → Is r (after r (laid (entriesOf text) room) room) (after r (laid (imageOf text) image) image)
+  held : (r : Answer Input) → parseAnswer text room image ≡ r → Is r (after r (laid (entriesOf text) room) room) (after r (laid (imageOf text) image) image)
   unfolding parseEntries parseImage
   held r e = (sym e, rw e, rw e)
 
@@ -43,12 +43,12 @@ module _ (text room image : List ℕ) where
   said n vs e = held (refused n vs) (first-of _ (countsOf text) (countsOf text) (lineRefusals text) n vs (sym e))
 
   -- an answer other than that all lines are good
-  pub other : (v : Parsed) → ((c : Counts) → v ≡ Accepted c → ⊥) → parsedOf v ≡ judged → Is (parsedOf v) room image
+  pub other : (v : Parsed) → ((c : Input) → v ≡ Accepted c → ⊥) → parsedOf v ≡ judged → Is (parsedOf v) room image
   other (Accepted c) k e = absurd (k c refl)
   other (Malformed l) k e = said 13 (pos l ∷ []) e
   other (NoRoom c) k e = said 11 (pos (c .entries) ∷ pos (c .bytes) ∷ []) e
 
-  module _ (v : Parsed) (c : Counts) (g : v ≡ Accepted c) (e : parsedOf v ≡ judged) where
+  module _ (v : Parsed) (c : Input) (g : v ≡ Accepted c) (e : parsedOf v ≡ judged) where
     -- the counts are those of the text
     same : countsOf text ≡ c
     same = accepts (lineRefusals text) (countsOf text) c (sym e ∙ ap parsedOf g)
@@ -58,11 +58,11 @@ module _ (text room image : List ℕ) where
 
     pub entries-of : length (entriesOf text) ≡ c .entries
     unfolding countsOf
-    entries-of = ap (λ (x : Counts). x .entries) same
+    entries-of = ap (λ (x : Input). x .entries) same
 
     pub bytes-of : length (imageOf text) ≡ c .bytes
     unfolding countsOf
-    bytes-of = ap (λ (x : Counts). x .bytes) same
+    bytes-of = ap (λ (x : Input). x .bytes) same
 
     short : (ltb (length room) (length (entriesOf text)) || ltb (length image) (length (imageOf text))) ≡ true → Is (refused 11 (pos (c .entries) ∷ pos (c .bytes) ∷ [])) room image
     unfolding parseAnswer

@@ -15,6 +15,7 @@ bytesOf [] = []
 bytesOf (a ∷ []) = []
 bytesOf (a ∷ b ∷ l) = (digitOf a * 16 + digitOf b) ∷ bytesOf l
 
+-- 1 to 32 bytes, no digit left over, and nothing but digits
 unfoldable pub isBytes : List ℕ → Bool
 isBytes l = eqb (length l) (length (bytesOf l) * 2) && leb 1 (length (bytesOf l)) && leb (length (bytesOf l)) 32 && allHex l
 

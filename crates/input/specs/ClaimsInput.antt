@@ -6,7 +6,7 @@ use mathlib.Core.Path.{_≡_}
 use lib.ListN.{length}
 use Rattle.operand.specs.Answer.{Answer, accepted, refused, judge, Apart}
 use Rattle.input.specs.Text.{countsOf, entriesOf, imageOf, lineRefusals, parsedOf, parseAnswer}
-use Rattle.input.specs.declared.parsed.Counts.{Counts}
+use Rattle.input.specs.declared.parsed.Input.{Input}
 
 -- the number and values of the answers tell all cases and all values apart
 abbrev pub ParsedApart : Type 0
@@ -14,14 +14,14 @@ ParsedApart = Apart parsedOf
 
 -- every line is good
 abbrev pub Valid : List ℕ → Type 0
-Valid text = _≡_ {A = Answer Counts} (judge (lineRefusals text) (countsOf text)) (accepted (countsOf text))
+Valid text = _≡_ {A = Answer Input} (judge (lineRefusals text) (countsOf text)) (accepted (countsOf text))
 
 -- rooms for 256 entries and 16,384 bytes are enough for every valid input
 abbrev pub MostHeld : Type 0
 MostHeld = (text : List ℕ) → Valid text → (length (entriesOf text) ≤ 256) × (length (imageOf text) ≤ 16384)
 
 -- the number of a refusal, 0 for none
-abbrev pub refusalOf : Answer Counts → ℕ
+abbrev pub refusalOf : Answer Input → ℕ
 refusalOf (accepted c) = 0
 refusalOf (refused n vs) = n
 

@@ -10,6 +10,7 @@ use Rattle.input.specs.Lines.{fields}
 use Rattle.input.specs.declared.lines.Line.{Line}
 use Rattle.input.specs.declared.lines.Line.the-variants.{Good, Bad}
 
+-- a field of four digits
 unfoldable pub isEntry : List ℕ → Bool
 isEntry f = eqb (length f) 4 && allHex f
 
@@ -17,13 +18,16 @@ isEntry f = eqb (length f) 4 && allHex f
 unfoldable pub entryOf : List ℕ → ℕ
 entryOf f = ((digitOf (getD f 0 0) * 16 + digitOf (getD f 1 0)) * 16 + digitOf (getD f 2 0)) * 16 + digitOf (getD f 3 0)
 
+-- every field is an entry
 unfoldable pub allEntries : List (List ℕ) → Bool
 allEntries [] = true
 allEntries (f ∷ fs) = isEntry f && allEntries fs
 
+-- none to 256 entries
 unfoldable pub isEntries : List ℕ → Bool
 isEntries l = allEntries (fields l) && leb (length (fields l)) 256
 
+-- their numbers, in their order
 abbrev pub entriesIn : List ℕ → List ℕ
 entriesIn l = map entryOf (fields l)
 

@@ -5,6 +5,7 @@ use mathlib.Core.Bool.{Bool, true, cond, _&&_, _||_}
 use mathlib.Core.List.{List, [], _∷_}
 use lib.Dec.{leb}
 
+-- a byte from low to high
 abbrev pub within : ℕ → ℕ → ℕ → Bool
 within low high b = leb low b && leb b high
 
@@ -16,6 +17,7 @@ isDigit b = within 48 57 b || within 65 70 b
 unfoldable pub digitOf : ℕ → ℕ
 digitOf b = cond (within 48 57 b) (b - 48) (cond (within 65 70 b) (b - 55) 0)
 
+-- every byte is a digit
 unfoldable pub allHex : List ℕ → Bool
 allHex [] = true
 allHex (b ∷ bs) = isDigit b && allHex bs

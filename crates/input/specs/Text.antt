@@ -10,10 +10,11 @@ use Rattle.operand.specs.Answer.{Answer, accepted, refused, Refusal, refuse, ju
 use Rattle.input.specs.Bytes.{bytesOf, isBytes, bytesIn}
 use Rattle.input.specs.Entries.{isEntries, entriesIn}
 use Rattle.input.specs.Lines.{lines}
-use Rattle.input.specs.declared.parsed.Counts.{Counts}
+use Rattle.input.specs.declared.parsed.Input.{Input}
 use Rattle.input.specs.declared.parsed.Parsed.{Parsed}
 use Rattle.input.specs.declared.parsed.Parsed.the-variants.{Accepted, Malformed, NoRoom}
 
+-- the first line, which is empty where there is none, and the others
 abbrev pub first : List (List ℕ) → List ℕ
 first [] = []
 first (l ∷ ls) = l
@@ -22,45 +23,49 @@ abbrev pub others : List (List ℕ) → List (List ℕ)
 others [] = []
 others (l ∷ ls) = ls
 
--- line 1, which is empty in an empty input, and the lines after it
+-- line 1, which is empty in an empty input, and the lines of image bytes
 abbrev pub entryLine : List ℕ → List ℕ
 entryLine text = first (lines text)
 
 abbrev pub imageLines : List ℕ → List (List ℕ)
 imageLines text = others (lines text)
 
+-- what an input holds
 abbrev pub entriesOf : List ℕ → List ℕ
 entriesOf text = entriesIn (entryLine text)
 
 abbrev pub imageOf : List ℕ → List ℕ
 imageOf text = bytesIn (imageLines text)
 
+-- a line with the number k is bad
 abbrev pub bad : Bool → ℕ → Refusal
 bad b k = refuse b 13 (pos k ∷ [])
 
--- the lines of image bytes from line k on, with n bytes before them: at most 16,384 bytes in all
+-- the lines of image bytes, the first of which has the number k, with n bytes before them: at most 16,384 bytes in all
 unfoldable pub imageRefusals : ℕ → ℕ → List (List ℕ) → List Refusal
 imageRefusals k n [] = []
 imageRefusals k n (l ∷ ls) =
     bad (not (isBytes l) || ltb 16384 (n + length (bytesOf l))) k ∷ imageRefusals (suc k) (n + length (bytesOf l)) ls
 
--- 13 at each line, from the first on
+-- the lines in their order: the first bad one speaks
 unfoldable pub lineRefusals : List ℕ → List Refusal
 lineRefusals text = bad (not (isEntries (entryLine text))) 1 ∷ imageRefusals 2 0 (imageLines text)
 
-abbrev pub counts : ℕ → ℕ → Counts
+-- how many entries and how many bytes
+abbrev pub counts : ℕ → ℕ → Input
 counts entries bytes = record { entries = entries; bytes = bytes }
 
-unfoldable pub countsOf : List ℕ → Counts
+unfoldable pub countsOf : List ℕ → Input
 countsOf text = counts (length (entriesOf text)) (length (imageOf text))
 
-abbrev pub parsedOf : Parsed → Answer Counts
+-- document 01's number and values of each answer; 11 has two
+abbrev pub parsedOf : Parsed → Answer Input
 parsedOf (Accepted c) = accepted c
 parsedOf (Malformed k) = refused 13 (pos k ∷ [])
 parsedOf (NoRoom c) = refused 11 (pos (c .entries) ∷ pos (c .bytes) ∷ [])
 
 -- 13, then 11 with the entries and the bytes needed, where either room is too short
-unfoldable pub parseAnswer : List ℕ → List ℕ → List ℕ → Answer Counts
+unfoldable pub parseAnswer : List ℕ → List ℕ → List ℕ → Answer Input
 parseAnswer text entries image =
     judge
     (lineRefusals text

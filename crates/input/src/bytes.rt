@@ -6,7 +6,7 @@ ghost use lib.Seq.{sets};
 ghost use Rattle.input.specs.Bytes.{bytesOf, bytesLine};
 use crate::hex;
 use crate::lines::Line;
-use crate::parsed::Counts;
+use crate::parsed::Input;
 
 // Whether a line is one of image bytes, and of how many.
 pub fn judge(line: &[u8]) -> Line
@@ -19,7 +19,7 @@ pub fn judge(line: &[u8]) -> Line
     if n == 0 {
         return Line::Bad;
     }
-    if Counts::MOST_IN_LINE < n {
+    if Input::MOST_IN_LINE < n {
         return Line::Bad;
     }
     if !hex::is_hex(line) {

@@ -8,7 +8,7 @@ ghost use Rattle.input.specs.Lines.{fields};
 use crate::hex;
 use crate::lines;
 use crate::lines::Line;
-use crate::parsed::Counts;
+use crate::parsed::Input;
 
 fn is_entry(field: &[u8]) -> bool
     ensures { λ r. ⌜ r ≡ isEntry (now (field .entry)) ⌝ }
@@ -36,7 +36,7 @@ pub fn judge(line: &[u8]) -> Line
     }
     let mut at: usize = 0;
     let mut n: usize = 0;
-    while n < Counts::MOST_ENTRIES {
+    while n < Input::MOST_ENTRIES {
         let e = lines::end(line, at, lines::TAB);
         if !is_entry(&line[at..e]) {
             return Line::Bad;

@@ -6,6 +6,6 @@ mod lines;
 pub mod parsed;
 pub mod text;
 
-pub use parsed::Counts;
+pub use parsed::Input;
 pub use parsed::Parsed;
 pub use text::parse;

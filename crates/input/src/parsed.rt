@@ -1,13 +1,13 @@
 // What is answered of an input.
 ghost use mathlib.Core.Path.{_≡_};
 
-// How many entries, and how many image bytes.
-pub struct Counts {
+// What an input holds: how many entries, and how many image bytes.
+pub struct Input {
     pub entries: usize,
     pub bytes: usize,
 }
 
-impl Counts {
+impl Input {
     pub const MOST_ENTRIES: usize = 256;
 
     pub const MOST_BYTES: usize = 16_384;
@@ -23,9 +23,9 @@ impl Counts {
 
 pub enum Parsed {
     // What was read.
-    Accepted(Counts),
+    Accepted(Input),
     // 13: the first bad line, from 1.
     Malformed(usize),
     // 11: what is needed.
-    NoRoom(Counts),
+    NoRoom(Input),
 }

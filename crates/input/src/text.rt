@@ -11,7 +11,7 @@ use crate::bytes;
 use crate::entries;
 use crate::lines;
 use crate::lines::Line;
-use crate::parsed::Counts;
+use crate::parsed::Input;
 use crate::parsed::Parsed;
 
 // Judges the lines of image bytes, which start at `from`.
@@ -27,13 +27,13 @@ fn judge_image(text: &[u8], from: usize, entries: usize) -> Parsed
             return Parsed::Malformed(k);
         };
         bytes += n;
-        if Counts::MOST_BYTES < bytes {
+        if Input::MOST_BYTES < bytes {
             return Parsed::Malformed(k);
         }
         k += 1;
         at = e + 1;
     }
-    Parsed::Accepted(Counts::new(entries, bytes))
+    Parsed::Accepted(Input::new(entries, bytes))
 }
 
 // The refusal 13, or else what the text holds.
