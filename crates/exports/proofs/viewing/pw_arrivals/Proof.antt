@@ -6,6 +6,7 @@ use native.Mathlib.Omega.{arith}
 use borrow.Author.Needs.{needs}
 use lib.ListN.{length}
 use Rattle.views.specs.Arrivals.{arrivalsOf}
+use Rattle.views.specs.View.{viewAnswer}
 use Rattle.views.proofs.Arriving.{few}
 use Rattle.exports.specs.Codec.{countValues}
 use Rattle.exports.proofs.Shown.{viewed-small}
@@ -26,7 +27,8 @@ returns : tie.Need-returns
 returns c =
     let d = c .before .before in
     let t = d .before .before .before in
-    let g = given countValues (d .viewed .ensures) (t .arrivals .ensures .0) (c .give .ensures .0) (c .give .ensures .1) in
+    let a = t .before .before .before .before .before .args in
+    let g = given countValues {y = viewAnswer (a .image .now) (a .marks .now) (arrivalsOf (a .image .now) (a .marks .now) (a .p)) (a .room .now)} (d .viewed .ensures) (t .arrivals .ensures .0) (c .give .ensures .0) (c .give .ensures .1) in
     (g .0, g .1, t .arrivals .ensures .1)
 
 pub pw-arrivals-spec : {M : Type 1} → statement M

@@ -6,6 +6,7 @@ use native.Mathlib.Omega.{arith}
 use borrow.Author.Needs.{needs}
 use lib.ListN.{length}
 use Rattle.views.specs.Mask.{maskOf}
+use Rattle.views.specs.View.{viewAnswer}
 use Rattle.views.proofs.Masking.{mask-length}
 use Rattle.exports.specs.Codec.{countValues}
 use Rattle.exports.proofs.Shown.{viewed-small}
@@ -26,7 +27,8 @@ returns : tie.Need-returns
 returns c =
     let d = c .before .before in
     let t = d .before .before .before in
-    let g = given countValues (d .viewed .ensures) (t .build-byte-mask .ensures .0) (c .give .ensures .0) (c .give .ensures .1) in
+    let a = t .before .before .before .before .before .args in
+    let g = given countValues {y = viewAnswer (a .image .now) (a .marks .now) (maskOf (a .image .now) (a .marks .now)) (a .mask .now)} (d .viewed .ensures) (t .build-byte-mask .ensures .0) (c .give .ensures .0) (c .give .ensures .1) in
     (g .0, g .1, t .build-byte-mask .ensures .1)
 
 pub pw-mask-spec : {M : Type 1} → statement M
