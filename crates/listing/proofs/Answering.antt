@@ -1,0 +1,52 @@
+-- The one answer of the listing: too little room, or written; and the mask and the target marks as the views leave them in a room.
+-- Assumes nothing.
+use mathlib.Core.Path.{_≡_, refl, sym, ap, subst, _∙_}
+use mathlib.Core.Bool.{Bool}
+use mathlib.Core.List.{List, [], _∷_, _++_}
+use Prim.Native.Nat.{ℕ, _+_, _-_, _<_, _≤_}
+use native.Mathlib.Nat.{zero-add}
+use native.Mathlib.Omega.{arith}
+use lib.IntN.{pos}
+use lib.ListN.{length, take, drop, length-take}
+use lib.Seq.{sets, sets-eq, take-at}
+use Rattle.operand.specs.Answer.{accepted, refused}
+use Rattle.views.specs.Labels.{labelsOf}
+use Rattle.views.specs.Mask.{maskOf}
+use Rattle.views.specs.View.{viewRoom}
+use Rattle.views.proofs.Viewing.{Is, small, shown-as, no-room-for}
+use Rattle.listing.specs.Puts.{Puts}
+use Rattle.listing.specs.Sound.{Sound}
+use Rattle.listing.specs.Walk.{isChosen, walk, listingOf}
+use Rattle.listing.specs.declared.tabbed.Arrivals.{Arrivals}
+
+-- a list as long as the image, left in a room for every image, is the room's beginning
+pub in-front : (image m : List ℕ) → Sound image m → (out : List ℕ) → length out ≡ length image → (room : List ℕ) → 65536 ≡ length room → (t : List ℕ) → t ≡ viewRoom image m out room → take (length image) t ≡ out
+in-front image m s out e room f t g =
+    let h : length image ≤ 65536 = small image m s in
+    let x = shown-as image m out room s (length image) e (omega arith) (out ++ drop (length image) room) refl in
+    ap (take (length image)) (g ∙ sym (x .1)) ∙ take-at out (drop (length image) room) (length image) e
+
+-- and the room is long enough
+pub long-enough : (l out : List ℕ) (n : ℕ) → take n l ≡ out → length out ≡ n → n ≤ length l
+long-enough l out n e f = omega (arith, length-take n l, ap length e ∙ f)
+
+-- the part of a room that a walk is lent
+pub part-is : (l out : List ℕ) (n : ℕ) → take n l ≡ out → take (n - 0) (drop 0 l) ≡ out
+part-is l out n e = let f : n - 0 ≡ n = omega arith in ap (λ (k : ℕ). take k l) f ∙ e
+
+-- the walk over them is the listing
+pub is-listing : (image m : List ℕ) (choice : Arrivals) (mask labels : List ℕ) (chosen : Bool) → mask ≡ maskOf image m → labels ≡ labelsOf image m → chosen ≡ isChosen choice
+    → walk image m mask labels chosen (length image) 0 0 ≡ listingOf image m choice
+unfolding listingOf
+is-listing image m choice mask labels chosen e f g = rw (e, f, g)
+
+module _ (image m : List ℕ) (text room : List ℕ) (s : Sound image m) where
+  pub too-small : {o new : List ℕ} {r : ℕ} → Puts text 0 o new r → length room < r → Is image m text room (refused 11 (pos r ∷ [])) room
+  too-small {o} {new} {r} p h = let e : length text ≡ r = omega (arith, p .next) in no-room-for image m text room s r e h
+
+  pub all-written : {new : List ℕ} {r n : ℕ} → Puts text 0 room new r → n ≡ 0 + length text → n ≤ length room → Is image m text room (accepted r) new
+  all-written {new} {r} {n} p f h =
+      let e : length text ≡ r = omega (arith, p .next) in
+      let l : 0 + length text ≤ length room = omega (arith, f, h) in
+      let z : sets room 0 text ≡ text ++ drop r room = sets-eq text room 0 l ∙ ap (λ (k : ℕ). text ++ drop k room) (sym (p .next)) in
+      shown-as image m text room s r e (omega (arith, e, f, h)) new (p .wrote ∙ z)

@@ -1,0 +1,76 @@
+-- Document 01's example, 'The listing', and edges 13 and 14: the text that antt computes is the text printed. T stands for a tab.
+-- Assumes nothing.
+use mathlib.Core.Path.{_≡_, refl}
+use mathlib.Core.Bool.{cond}
+use mathlib.Core.List.{List, [], _∷_, _++_}
+use Prim.Native.Nat.{ℕ}
+use Prim.Native.Char.{code}
+use Prim.Native.String.{String, [] as end, _∷_ as _then_}
+use lib.Dec.{eqb}
+use Rattle.operand.specs.Answer.{judge}
+use Rattle.operand.specs.Kinds.{kindsOf}
+use Rattle.operand.specs.Range.{unfit}
+use Rattle.field.specs.Pattern.{pattern, bytesOf, onto, given, next}
+use Rattle.instruction.specs.Decode.{fieldsIn}
+use Rattle.instruction.specs.Flow.{stops, jumps, branches, flowOf}
+use Rattle.instruction.specs.Forms.{forms, formAt, formOf, numberOf}
+use Rattle.instruction.specs.Mnemonic.{mnemonicOf, lettersOf}
+use Rattle.instruction.specs.Parts.{partsOf, madeOf}
+use Rattle.ways.specs.At.{fitsHere, instrHere, waysHere, flashHere, nameHere}
+use Rattle.ways.specs.Here.{hereOf}
+use Rattle.ways.specs.Targets.{addressOf, addressIn, targetsIn, targetsAnswer}
+use Rattle.ways.specs.Ways.{nameOf}
+use Rattle.reach.specs.Mark.{tracedMark}
+use Rattle.reach.specs.Tracer.{held}
+use Rattle.trace.specs.Tracer.{exemptHere}
+use Rattle.views.specs.Arrivals.{heldAt, arrives, arrivalsOf}
+use Rattle.views.specs.DataRun.{leading, runLength, dataRun}
+use Rattle.views.specs.Labels.{labelled, labelsOf}
+use Rattle.views.specs.Mask.{masked, maskOf}
+use Rattle.views.specs.Overlaps.{overlapsOf}
+use Rattle.views.specs.Positions.{upFrom, some, kept}
+use Rattle.listing.specs.Hex.{digit, hex2, hex3, hex4, hexes}
+use Rattle.listing.specs.Line.{fields}
+use Rattle.listing.specs.Lines.{labelLine, overlapLine, arrivalLine, instrLine, dataLine}
+use Rattle.listing.specs.Operand.{target, shown, operandsBy}
+use Rattle.listing.specs.Walk.{codeLines, printed, passed, walk, listingOf}
+use Rattle.listing.specs.declared.tabbed.Arrivals.{Arrivals}
+use Rattle.listing.specs.declared.tabbed.Arrivals.the-variants.{Chosen, Declined}
+
+abbrev lineOf : String → List ℕ
+lineOf end = 10 ∷ []
+lineOf (c then s) = let rest : List ℕ = lineOf s in cond (eqb (code c) (code "T")) 9 (code c) ∷ rest
+
+abbrev textOf : List String → List ℕ
+textOf [] = []
+textOf (s ∷ ss) = lineOf s ++ textOf ss
+
+-- the text of an image with these marks
+abbrev Lists : List ℕ → List ℕ → Arrivals → List String → Type 0
+Lists image marks choice lines = listingOf image marks choice ≡ textOf lines
+
+abbrev image : List ℕ
+image = 0x01 ∷ 0x02 ∷ 0x00 ∷ 0x41 ∷ 0x64 ∷ 0x80 ∷ 0xF9 ∷ 0xA0 ∷ []
+
+-- of the run from 0
+abbrev marks : List ℕ
+marks = 2 ∷ 0 ∷ 0 ∷ 0 ∷ 2 ∷ 2 ∷ 0 ∷ 2 ∷ []
+
+pub example : Lists image marks Declined ("LT0000" ∷ "IT0000T0102TbrT0004" ∷ "DT0002T0041" ∷ "LT0004" ∷ "IT0004T64TincT@R0" ∷ "IT0005T80F9TbzT0000" ∷ "IT0007TA0Tret" ∷ [])
+unfolding judge kindsOf unfit pattern bytesOf onto given next fieldsIn stops jumps branches flowOf forms formAt formOf numberOf mnemonicOf lettersOf partsOf madeOf fitsHere instrHere flashHere nameHere hereOf addressOf addressIn targetsIn targetsAnswer nameOf tracedMark exemptHere leading runLength dataRun labelled labelsOf masked maskOf overlapsOf upFrom some kept digit hex2 hex3 hex4 hexes fields labelLine overlapLine instrLine dataLine target shown operandsBy codeLines printed passed walk listingOf
+example = refl
+
+-- the same with arrivals
+pub chosen : Lists image marks Chosen ("LT0000" ∷ "AT0000T0005" ∷ "IT0000T0102TbrT0004" ∷ "DT0002T0041" ∷ "LT0004" ∷ "AT0004T0000" ∷ "IT0004T64TincT@R0" ∷ "AT0005T0004" ∷ "IT0005T80F9TbzT0000" ∷ "AT0007T0005" ∷ "IT0007TA0Tret" ∷ [])
+unfolding judge kindsOf unfit pattern bytesOf onto given next fieldsIn stops jumps branches flowOf forms formAt formOf numberOf mnemonicOf lettersOf partsOf madeOf fitsHere instrHere flashHere nameHere hereOf addressOf addressIn targetsIn targetsAnswer nameOf tracedMark exemptHere leading runLength dataRun labelled labelsOf masked maskOf overlapsOf upFrom some kept arrivalsOf arrives heldAt held waysHere arrivalLine digit hex2 hex3 hex4 hexes fields labelLine overlapLine instrLine dataLine target shown operandsBy codeLines printed passed walk listingOf
+chosen = refl
+
+-- edge 13, entries 0 and 2: an overlap, and a position walked inside an instruction
+pub overlap : Lists (0x22 ∷ 0x01 ∷ 0x00 ∷ 0xA0 ∷ []) (2 ∷ 0 ∷ 2 ∷ 2 ∷ []) Declined ("OT0000T0002" ∷ "IT0000T220100TmovT#00T001" ∷ "IT0002T00Tnop" ∷ "IT0003TA0Tret" ∷ [])
+unfolding judge kindsOf unfit pattern bytesOf onto given next fieldsIn stops jumps branches flowOf forms formAt formOf numberOf mnemonicOf lettersOf partsOf madeOf fitsHere instrHere flashHere nameHere hereOf addressOf addressIn targetsIn targetsAnswer nameOf tracedMark exemptHere leading runLength dataRun labelled labelsOf masked maskOf overlapsOf upFrom some kept digit hex2 hex3 hex4 hexes fields labelLine overlapLine instrLine dataLine target shown operandsBy codeLines printed passed walk listingOf
+overlap = refl
+
+-- edge 14: a target outside, and a run left out
+pub outside : Lists (0x01 ∷ 0x80 ∷ 0x00 ∷ 0x00 ∷ []) (2 ∷ 0 ∷ 0 ∷ 0 ∷ []) Declined ("IT0000T0180TbrT?" ∷ [])
+unfolding judge kindsOf unfit pattern bytesOf onto given next fieldsIn stops jumps branches flowOf forms formAt formOf numberOf mnemonicOf lettersOf partsOf madeOf fitsHere instrHere flashHere nameHere hereOf addressOf addressIn targetsIn targetsAnswer nameOf tracedMark exemptHere leading runLength dataRun labelled labelsOf masked maskOf overlapsOf upFrom some kept digit hex2 hex3 hex4 hexes fields labelLine overlapLine instrLine dataLine target shown operandsBy codeLines printed passed walk listingOf
+outside = refl

@@ -1,0 +1,9 @@
+pub mod Putting
+pub mod Hexing
+pub mod Lettering
+pub mod Naming
+pub mod Showing
+pub mod Lining
+pub mod Walking
+pub mod Answering
+pub mod Example

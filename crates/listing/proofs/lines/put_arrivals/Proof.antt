@@ -1,0 +1,76 @@
+-- `lines::put_arrivals` meets its contract.
+-- Assumes nothing.
+use mathlib.Core.Path.{_≡_, refl, sym, ap, _∙_}
+use mathlib.Core.Bool.{true}
+use mathlib.Core.List.{List, _∷_}
+use Prim.Native.Nat.{ℕ, _+_, _^_, _<_, _≤_}
+use native.Mathlib.Omega.{arith}
+use borrow.Author.Needs.{needs}
+use borrow.Author.Tests.{not-true, not-false}
+use lib.ListN.{length}
+use Rattle.views.specs.Arrivals.{arrivalsOf}
+use Rattle.views.proofs.Arriving.{leftFrom, all-left, none-left, Next, next-is}
+use Rattle.listing.proofs.Lining.{puts-begin, not-chosen, no-arrivals, arrivals}
+use Rattle.listing.proofs.Putting.{puts-as, puts-none, puts-then}
+use Rattle.listing.proofs.lines.put_arrivals.Statement.{statement}
+use Rattle.listing.proofs.lines.put_arrivals.Tie as tie
+
+abbrev start : tie.Else1 → tie.Start
+start e = e .before .before .before .before
+
+abbrev image : tie.Else1 → List ℕ
+image e = start e .args .image .now
+
+abbrev marks : tie.Else1 → List ℕ
+marks e = start e .args .marks .now
+
+abbrev p : tie.Else1 → ℕ
+p e = start e .args .p
+
+returns : tie.Need-returns
+returns c =
+    let a = c .before .before .before .before .args in
+    (puts-as (not-chosen (a .p) (a .chosen) (arrivalsOf (a .image .now) (a .marks .now) (a .p)) (not-true _ (c .if1 .taken))) (puts-none _ _), omega arith)
+
+-- the first arrival
+first : (n : tie.After-next-arrival) → Next (image (n .before)) (marks (n .before)) (p (n .before)) 0 (n .next-arrival .result)
+first n = let e = n .before in next-is (image e) (marks e) (p e) (start e .pre .1) 0 (n .next-arrival .result) (n .next-arrival .ensures)
+
+all : (n : tie.After-next-arrival) → arrivalsOf (image (n .before)) (marks (n .before)) (p (n .before)) ≡ leftFrom (image (n .before)) (marks (n .before)) (p (n .before)) (n .next-arrival .result)
+all n = let e = n .before in sym (first n .same ∙ all-left (image e) (marks e) (p e))
+
+chosen : (e : tie.Else1) → start e .args .chosen ≡ true
+chosen e = not-false _ (e .if1 .left)
+
+returns-2 : tie.Need-returns-2
+returns-2 c =
+    let n = c .before in
+    let e = n .before in
+    (puts-as (no-arrivals (p e) (start e .args .chosen) (arrivalsOf (image e) (marks e) (p e)) (chosen e) (all n ∙ none-left (image e) (marks e) (p e) (n .next-arrival .result) (c .if2 .taken))) (puts-none _ _), omega arith)
+
+put-arrived-requires : tie.Need-put-arrived-requires
+put-arrived-requires c κs =
+    let j = c .before .before .before in
+    let n = j .before .before .before in
+    let s = start (n .before) in
+    let b : s .args .at < 2 ^ 54 = s .pre .0 in
+    let h : j .put-start .result ≤ s .args .at + 6 = puts-begin (s .args .p) (j .put-start .ensures) in
+    (omega arith, s .pre .1, n .next-arrival .ensures)
+
+returns-3 : tie.Need-returns-3
+returns-3 c =
+    let k = c .before .before in
+    let j = k .before .before .before .before in
+    let d = j .before .before in
+    let n = d .before in
+    let e = n .before in
+    let q : ℕ = n .next-arrival .result in
+    let t : q < length (image e) = d .if2 .left in
+    let h : j .put-start .result ≤ start e .args .at + 6 = puts-begin (p e) (j .put-start .ensures) in
+    let g : k .put-arrived .result ≤ j .put-start .result + 327681 = k .put-arrived .ensures .1 in
+    (puts-as (arrivals (p e) (start e .args .chosen) (arrivalsOf (image e) (marks e) (p e)) (chosen e) q (leftFrom (image e) (marks e) (p e) (q + 1)) (all n ∙ first n .head t)) (puts-then (j .put-start .ensures) (k .put-arrived .ensures .0)), omega arith)
+
+pub put-arrivals-spec : {M : Type 1} → statement M
+put-arrivals-spec =
+    tie.close
+    (tie.spec returns (λ c κs. search needs) (λ c. search needs) returns-2 (λ c κs. search needs) put-arrived-requires (λ c. search needs) returns-3)

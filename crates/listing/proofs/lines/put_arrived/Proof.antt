@@ -1,0 +1,106 @@
+-- `lines::put_arrived` meets its contract: the fields of the arrivals that are left, put from here, are those of all, put from the start.
+-- Assumes nothing.
+use mathlib.Core.Path.{_≡_, refl, sym, ap, _∙_}
+use mathlib.Core.List.{List, [], _∷_, map}
+use Prim.Native.Nat.{ℕ, _+_, _*_, _^_, _<_, _≤_}
+use native.Mathlib.Omega.{arith}
+use borrow.Author.Needs.{needs}
+use lib.ListN.{length}
+use Rattle.views.specs.Arrivals.{arrivalsOf}
+use Rattle.views.proofs.Arriving.{leftFrom, all-left, none-left, few, Next, next-is, passed}
+use Rattle.listing.specs.Hex.{hex4}
+use Rattle.listing.specs.Line.{fields}
+use Rattle.listing.proofs.Lining.{puts-place}
+use Rattle.listing.proofs.Putting.{Going, going-from, going-next, going-over, puts-length, puts-most}
+use Rattle.listing.proofs.lines.put_arrived.Statement.{statement}
+use Rattle.listing.proofs.lines.put_arrived.Tie as tie
+
+-- the fields of these positions, and the end of the line
+abbrev text : List ℕ → List ℕ
+text qs = fields (map hex4 qs)
+
+abbrev Inv-loop : tie.InvT-loop
+Inv-loop image marks out₀ at p first n a₀ q₀ out a q =
+    (length out ≡ length out₀)
+    × (a + 5 * length (leftFrom image marks p q) ≤ at + 327680)
+    × Going (text (arrivalsOf image marks p)) out₀ at out a (text (leftFrom image marks p q))
+    × (q < length image → leftFrom image marks p q ≡ q ∷ leftFrom image marks p (q + 1))
+
+abbrev μ-loop : tie.MeasureT-loop
+μ-loop image marks out₀ at p first n a₀ q₀ out a q = length (leftFrom image marks p q)
+
+abbrev start : tie.After-slice-known Inv-loop μ-loop → tie.Start Inv-loop μ-loop
+start c = c .before .before .before
+
+abbrev image : tie.After-slice-known Inv-loop μ-loop → List ℕ
+image c = start c .args .image .now
+
+abbrev marks : tie.After-slice-known Inv-loop μ-loop → List ℕ
+marks c = start c .args .marks .now
+
+abbrev p : tie.After-slice-known Inv-loop μ-loop → ℕ
+p c = start c .args .p
+
+loop-holds : tie.Need-loop-holds Inv-loop μ-loop
+loop-holds c =
+    let a = start c .args in
+    let s = start c .pre in
+    let n = next-is (image c) (marks c) (p c) (s .1) 0 (a .first) (s .2) in
+    let e : leftFrom (image c) (marks c) (p c) (a .first) ≡ arrivalsOf (image c) (marks c) (p c) = n .same ∙ all-left (image c) (marks c) (p c) in
+    (refl, omega (arith, ap length e, few (image c) (marks c) (p c), s .1), going-from (a .out .now) (a .at) (ap text e), n .head)
+
+-- the arrival after q
+next : (c : tie.After-next-arrival Inv-loop μ-loop) → let l = c .before .before .before .before .before .before in let s = l .before in Next (image s) (marks s) (p s) (l .loop .q + 1) (c .next-arrival .result)
+next c =
+    let l = c .before .before .before .before .before .before in
+    let s = l .before in
+    next-is (image s) (marks s) (p s) (start s .pre .1) (l .loop .q + 1) (c .next-arrival .result) (c .next-arrival .ensures)
+
+-- one less is left
+turn : (c : tie.After-next-arrival Inv-loop μ-loop) → let l = c .before .before .before .before .before .before in let s = l .before in leftFrom (image s) (marks s) (p s) (l .loop .q) ≡ l .loop .q ∷ leftFrom (image s) (marks s) (p s) (c .next-arrival .result)
+turn c =
+    let t = c .before .before .before .before .before in
+    let l = t .before in
+    let s = l .before in
+    passed (image s) (marks s) (p s) (start s .pre .1) (l .loop .q) (c .next-arrival .result) (t .loop-test .taken) (l .loop .inv .3) (next c)
+
+loop-again : tie.Need-loop-again Inv-loop μ-loop
+unfolding fields
+loop-again c =
+    let k = c .before .before .before in
+    let l = k .before .before .before in
+    let v = l .loop .inv in
+    let h : k .put-place .result ≤ l .loop .a + 5 = puts-place (l .loop .q) (k .put-place .ensures) in
+    (puts-length (k .put-place .ensures) ∙ v .0, omega (arith, h, v .1, ap length (turn c)), going-next (v .2) (ap text (turn c)) (k .put-place .ensures), next c .head)
+
+-- where the writer stands
+place : (l : tie.At-loop Inv-loop μ-loop) → l .loop .a ≤ start (l .before) .args .at + 327680
+place l = omega (arith, l .loop .inv .1)
+
+returns : tie.Need-returns Inv-loop μ-loop
+unfolding fields
+returns c =
+    let k = c .before .before in
+    let e = k .before .before in
+    let l = e .before in
+    let s = l .before in
+    let z : text (leftFrom (image s) (marks s) (p s) (l .loop .q)) ≡ 10 ∷ [] = ap text (none-left (image s) (marks s) (p s) (l .loop .q) (e .loop-test .left)) in
+    let h : k .put-byte .result ≤ l .loop .a + 1 = puts-most (k .put-byte .ensures) (omega arith) in
+    (going-over (going-next (l .loop .inv .2) z (k .put-byte .ensures)) refl, omega (arith, h, place l))
+
+pub put-arrived-spec : {M : Type 1} → statement M
+put-arrived-spec =
+    tie.close
+    (tie.spec
+    Inv-loop
+    μ-loop
+    (λ c. let h : length (image c) ≤ 65536 = start c .pre .1 in record { fits = omega arith })
+    loop-holds
+    (λ c κs. let l = c .before .before in let s = start (l .before) in let b : s .args .at < 2 ^ 55 = s .pre .0 in let h = place l in omega arith)
+    (λ c. let t = c .before .before .before .before in let s = t .before .before in let h : length (image s) ≤ 65536 = start s .pre .1 in let g : t .before .loop .q < length (image s) = t .loop-test .taken in record { fits = omega arith })
+    (λ c κs. search needs)
+    (λ c. omega (arith, ap length (turn c)))
+    loop-again
+    (λ c κs. let l = c .before .before in let s = start (l .before) in let b : s .args .at < 2 ^ 55 = s .pre .0 in let h = place l in omega arith)
+    (λ c. let k = c .before .before in puts-length (k .put-byte .ensures) ∙ k .before .before .before .loop .inv .0)
+    returns)

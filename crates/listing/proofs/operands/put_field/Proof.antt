@@ -1,0 +1,28 @@
+-- `operands::put_field` meets its contract.
+-- Assumes nothing.
+use mathlib.Core.Path.{_≡_, sym, _∙_}
+use borrow.Author.Needs.{needs}
+use borrow.Author.Tests.{not-true, not-false}
+use Rattle.listing.proofs.Putting.{puts-as, puts-none, puts-then}
+use Rattle.listing.proofs.Showing.{is-field, is-none}
+use Rattle.listing.proofs.operands.put_field.Statement.{statement}
+use Rattle.listing.proofs.operands.put_field.Tie as tie
+
+returns : tie.Need-returns
+returns c =
+    let g = c .before in
+    let a = g .before .before .args in
+    puts-as (is-none (a .t) (a .kind) (a .n) (sym (g .is-given .ensures) ∙ not-true _ (c .if1 .taken))) (puts-none _ _)
+
+returns-2 : tie.Need-returns-2
+returns-2 c =
+    let k = c .before .before in
+    let j = k .before .before .before .before in
+    let e = j .before .before in
+    let g = e .before in
+    let a = g .before .before .args in
+    puts-as (is-field (a .t) (a .kind) (a .n) (sym (g .is-given .ensures) ∙ not-false _ (e .if1 .left))) (puts-then (j .put-byte .ensures) (k .put-operand .ensures))
+
+pub put-field-spec : {M : Type 1} → statement M
+put-field-spec =
+    tie.close (tie.spec (λ c κs. search needs) returns (λ c κs. search needs) (λ c κs. search needs) (λ c. search needs) returns-2)

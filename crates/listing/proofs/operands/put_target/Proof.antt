@@ -1,0 +1,22 @@
+-- `operands::put_target` meets its contract.
+-- Assumes nothing.
+use mathlib.Core.Path.{_≡_, sym, subst}
+use mathlib.Core.List.{List}
+use Prim.Native.Nat.{ℕ}
+use borrow.Author.Needs.{needs}
+use borrow.Author.Tests.{lt-ltb, le-ltb}
+use Rattle.listing.specs.Operand.{target}
+use Rattle.listing.proofs.operands.put_target.Statement.{statement}
+use Rattle.listing.proofs.operands.put_target.Tie as tie
+
+returns : tie.Need-returns
+unfolding target
+returns c = let k = c .before .before in rw (lt-ltb _ _ (k .before .before .if1 .taken)) (k .put-byte .ensures)
+
+returns-2 : tie.Need-returns-2
+unfolding target
+returns-2 c = let k = c .before .before in rw (le-ltb _ _ (k .before .before .if1 .left)) (k .put-hex4 .ensures)
+
+pub put-target-spec : {M : Type 1} → statement M
+put-target-spec =
+    tie.close (tie.spec (λ c κs. search needs) (λ c. search needs) returns (λ c κs. search needs) (λ c. search needs) returns-2)

@@ -1,0 +1,7 @@
+pub mod Hex
+pub mod Line
+pub mod Operand
+pub mod Lines
+pub mod Walk
+pub mod Puts
+pub mod Sound

@@ -1,0 +1,12 @@
+-- A line. Document 01, 'The listing': tab-parted, each line ended by byte 10. A line has a letter and then its fields.
+-- Assumes nothing.
+use Prim.Native.Nat.{ℕ}
+use mathlib.Core.List.{List, [], _∷_, _++_}
+
+-- a tab and the field, for each field, and byte 10
+unfoldable pub fields : List (List ℕ) → List ℕ
+fields [] = 10 ∷ []
+fields (f ∷ fs) = 9 ∷ f ++ fields fs
+
+abbrev pub line : ℕ → List (List ℕ) → List ℕ
+line letter fs = letter ∷ fields fs

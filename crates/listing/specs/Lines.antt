@@ -1,0 +1,52 @@
+-- The lines of the listing. Document 01, 'The listing': `L`, `O` and `A` carry the position after the letter, `O` and `A` then one field
+-- per position found. `I` has position, bytes, mnemonic and operands, `D` position and bytes.
+-- Assumes nothing.
+use Prim.Native.Nat.{ℕ}
+use Prim.Native.Char.{code}
+use mathlib.Core.Bool.{Bool, true, false, cond, _&&_}
+use mathlib.Core.List.{List, [], _∷_, map}
+use lib.Dec.{eqb}
+use lib.ListN.{take, drop}
+use Rattle.instruction.specs.Encode.{formIn}
+use Rattle.instruction.specs.Forms.{sizeOf}
+use Rattle.instruction.specs.Mnemonic.{mnemonicOf}
+use Rattle.instruction.specs.Parts.{partsOf}
+use Rattle.instruction.specs.declared.instr.Instr.{Instr}
+use Rattle.ways.specs.declared.here.Here.{Here}
+use Rattle.ways.specs.declared.here.Here.the-variants.{Whole, Cut, Outside}
+use Rattle.listing.specs.Hex.{hex4, hexes}
+use Rattle.listing.specs.Line.{line}
+use Rattle.listing.specs.Operand.{operands}
+
+unfoldable pub labelLine : ℕ → List ℕ
+labelLine p = line (code "L") (hex4 p ∷ [])
+
+-- a line of positions that were found, left out if there are none
+abbrev pub foundLine : ℕ → ℕ → List ℕ → List ℕ
+foundLine letter p [] = []
+foundLine letter p (q ∷ qs) = line letter (hex4 p ∷ map hex4 (q ∷ qs))
+
+unfoldable pub overlapLine : ℕ → List ℕ → List ℕ
+overlapLine p qs = foundLine (code "O") p qs
+
+unfoldable pub arrivalLine : ℕ → List ℕ → List ℕ
+arrivalLine p qs = foundLine (code "A") p qs
+
+-- the instruction i at p
+unfoldable pub instrLine : List ℕ → ℕ → Instr → List ℕ
+instrLine image p i =
+    line (code "I") (hex4 p ∷ hexes (take (sizeOf (formIn i)) (drop p image)) ∷ mnemonicOf (partsOf i .form) ∷ operands p i)
+
+-- what stands at p; a traced instruction that is cut off was refused before
+abbrev pub hereLine : List ℕ → ℕ → Here → List ℕ
+hereLine image p (Whole i) = instrLine image p i
+hereLine image p (Cut c) = []
+hereLine image p Outside = []
+
+abbrev pub zeros : List ℕ → Bool
+zeros [] = true
+zeros (b ∷ bs) = eqb b 0 && zeros bs
+
+-- a data run, left out if all zero
+unfoldable pub dataLine : ℕ → List ℕ → List ℕ
+dataLine p bytes = cond (zeros bytes) [] (line (code "D") (hex4 p ∷ hexes bytes ∷ []))

@@ -1,0 +1,59 @@
+-- The operands of an `I` line. Document 01, 'The listing': one field per operand as shown in 000: immediate `#` and two hex digits, d9
+-- three, Ri `@R` and digit, bit a digit, target four digits, or `?` if not 0-65,535.
+-- Assumes nothing.
+use Prim.Native.Nat.{ℕ}
+use Prim.Native.Char.{code}
+use mathlib.Core.Bool.{cond}
+use mathlib.Core.List.{List, [], _∷_}
+use lib.Dec.{ltb}
+use lib.IntN.{ℤ}
+use Rattle.operand.specs.Answer.{Answer, accepted, refused}
+use Rattle.operand.specs.Kinds.{kindsOf}
+use Rattle.operand.specs.declared.kind.Kind.{Kind}
+use Rattle.operand.specs.declared.kind.Kind.the-variants.{Absent, Immediate, Direct, Register, BitNumber, Page, Far, Short, Long}
+use Rattle.instruction.specs.Encode.{formIn}
+use Rattle.instruction.specs.Parts.{partsOf}
+use Rattle.instruction.specs.declared.instr.Instr.{Instr}
+use Rattle.ways.specs.At.{placeOf}
+use Rattle.ways.specs.Targets.{isGiven, targetsAnswer}
+use Rattle.listing.specs.Hex.{digit, hex2, hex3, hex4}
+
+-- a target by its position: 65,536 and more are outside memory, and so is what lies below 0
+unfoldable pub target : ℕ → List ℕ
+target t = cond (ltb 65535 t) (code "?" ∷ []) (hex4 t)
+
+-- an operand of a kind with the number n, of an instruction whose first target is t
+unfoldable pub shown : ℕ → Kind → ℕ → List ℕ
+shown t Absent n = []
+shown t Immediate n = code "#" ∷ hex2 n
+shown t Direct n = hex3 n
+shown t Register n = code "@" ∷ code "R" ∷ digit n ∷ []
+shown t BitNumber n = digit n ∷ []
+shown t Page n = target t
+shown t Far n = target t
+shown t Short n = target t
+shown t Long n = target t
+
+-- a field for each kind, in the order shown
+abbrev pub shownAll : ℕ → List Kind → List ℕ → List (List ℕ)
+shownAll t [] ns = []
+shownAll t (k ∷ ks) [] = []
+shownAll t (k ∷ ks) (n ∷ ns) = shown t k n ∷ shownAll t ks ns
+
+-- the numbers of the operands are not below 0, but for offsets, which are not shown
+unfoldable pub operandsBy : ℕ → Instr → List (List ℕ)
+operandsBy t i = shownAll t (kindsOf (formIn i .shape)) (placeOf (partsOf i .a) ∷ placeOf (partsOf i .b) ∷ placeOf (partsOf i .c) ∷ [])
+
+-- the position of the first target, which is the one that a jump, a branch or a call names
+abbrev pub firstOf : Answer (List ℤ) → ℕ
+firstOf (accepted []) = 65536
+firstOf (accepted (t ∷ ts)) = placeOf t
+firstOf (refused n vs) = 65536
+
+-- of the instruction i at p
+abbrev pub operands : ℕ → Instr → List (List ℕ)
+operands p i = operandsBy (firstOf (targetsAnswer p i)) i
+
+-- of an inner function: a tab and the operand, if there is one
+abbrev pub shownField : ℕ → Kind → ℕ → List ℕ
+shownField t k n = cond (isGiven k) (9 ∷ shown t k n) []

@@ -1,0 +1,11 @@
+// The listing: what stands at each position of an image, as tabbed text.
+mod lines;
+mod operands;
+mod put;
+mod rooms;
+pub mod tabbed;
+mod walk;
+
+pub use tabbed::Arrivals;
+pub use tabbed::listing;
+pub use tabbed::listing_with;

@@ -1,0 +1,176 @@
+// The lines of the listing. A line that may be left out is a function of its own. Each says how far it goes at most, so that a place never
+// runs over.
+ghost use mathlib.Core.Path.{_≡_};
+ghost use mathlib.Core.Bool.{cond};
+ghost use mathlib.Core.List.{[], _∷_, map};
+ghost use Prim.Native.Nat.{_+_, _^_, _≤_, _<_};
+ghost use lib.Dec.{eqb};
+ghost use lib.ListN.{length};
+ghost use Rattle.instruction.specs.Encode.{formIn};
+ghost use Rattle.instruction.specs.Forms.{sizeOf};
+ghost use Rattle.ways.specs.Here.{hereOf};
+ghost use Rattle.views.specs.Arrivals.{arrivalsOf, nextArrival};
+ghost use Rattle.views.specs.Overlaps.{overlapsIn, overlapsOf};
+ghost use Rattle.listing.specs.Hex.{hex4};
+ghost use Rattle.listing.specs.Line.{fields};
+ghost use Rattle.listing.specs.Lines.{labelLine, overlapLine, arrivalLine, instrLine, hereLine, zeros, dataLine};
+ghost use Rattle.listing.specs.Puts.{Puts};
+use crate::operands;
+use crate::put;
+use instruction::Instr;
+use views::Overlaps;
+use ways::Here;
+use ways::Image;
+
+// `L`, where there is a target mark.
+pub fn put_label(out: &mut [u8], at: usize, p: u32, mark: u8) -> usize
+    requires { ⌜ at < 2 ^ 56 ⌝ }
+    ensures { λ r. ⌜ Puts (cond (eqb mark 0) [] (labelLine p)) at (now (out .entry)) (now (out .exit)) r ⌝ }
+{
+    if mark == 0 {
+        return at;
+    }
+    let a = put::put_start(out, at, b'L', p);
+    put::put_byte(out, a, b'\n')
+}
+
+// Positions as fields, and the end of the line.
+fn put_one(out: &mut [u8], at: usize, p: u32) -> usize
+    requires { ⌜ at < 2 ^ 57 ⌝ }
+    ensures { λ r. ⌜ Puts (fields (hex4 p ∷ [])) at (now (out .entry)) (now (out .exit)) r ⌝ }
+{
+    let a = put::put_place(out, at, p);
+    put::put_byte(out, a, b'\n')
+}
+
+fn put_two(out: &mut [u8], at: usize, p: u32, q: u32) -> usize
+    requires { ⌜ at < 2 ^ 56 ⌝ }
+    ensures { λ r. ⌜ Puts (fields (hex4 p ∷ hex4 q ∷ [])) at (now (out .entry)) (now (out .exit)) r ⌝ }
+{
+    let a = put::put_place(out, at, p);
+    put_one(out, a, q)
+}
+
+fn put_three(out: &mut [u8], at: usize, o: u32, p: u32, q: u32) -> usize
+    requires { ⌜ at < 2 ^ 55 ⌝ }
+    ensures { λ r. ⌜ Puts (fields (hex4 o ∷ hex4 p ∷ hex4 q ∷ [])) at (now (out .entry)) (now (out .exit)) r ⌝ }
+{
+    let a = put::put_place(out, at, o);
+    put_two(out, a, p, q)
+}
+
+fn put_found(out: &mut [u8], at: usize, o: Overlaps) -> usize
+    requires { ⌜ at < 2 ^ 55 ⌝ }
+    ensures { λ r. ⌜ Puts (fields (map hex4 (overlapsIn o))) at (now (out .entry)) (now (out .exit)) r ⌝ }
+{
+    match o {
+        Overlaps::Nothing => put::put_byte(out, at, b'\n'),
+        Overlaps::One(a) => put_one(out, at, a),
+        Overlaps::Two(a, b) => put_two(out, at, a, b),
+        Overlaps::Three(a, b, c) => put_three(out, at, a, b, c),
+    }
+}
+
+// `O`, where there are overlaps.
+pub fn put_overlaps(image: &[u8], marks: &[u8], out: &mut [u8], at: usize, p: u32) -> usize
+    requires { ⌜ at < 2 ^ 54 ⌝ }
+    ensures { λ r. ⌜ (Puts (overlapLine p (overlapsOf (now (image .entry)) (now (marks .entry)) p)) at (now (out .entry)) (now (out .exit)) r) × (r ≤ at + 2 ^ 20) ⌝ }
+{
+    let o = views::overlaps_at(image, marks, p);
+    if o.count() == 0 {
+        return at;
+    }
+    let a = put::put_start(out, at, b'O', p);
+    put_found(out, a, o)
+}
+
+// The arrivals at p from the first of them on as fields, and the end of the line.
+fn put_arrived(image: &[u8], marks: &[u8], out: &mut [u8], at: usize, p: u32, first: u32) -> usize
+    requires { ⌜ (at < 2 ^ 55) × (length (now image) ≤ 65536) × (first ≡ nextArrival (now image) (now marks) p 0) ⌝ }
+    ensures { λ r. ⌜ (Puts (fields (map hex4 (arrivalsOf (now (image .entry)) (now (marks .entry)) p))) at (now (out .entry)) (now (out .exit)) r) × (r ≤ at + 327681) ⌝ }
+{
+    let n = image.len() as u32;
+    let mut a = at;
+    let mut q = first;
+    while q < n {
+        a = put::put_place(out, a, q);
+        q = views::next_arrival(image, marks, p, q + 1);
+    }
+    put::put_byte(out, a, b'\n')
+}
+
+// `A`, where arrivals are chosen and there are any.
+pub fn put_arrivals(
+    image: &[u8],
+    marks: &[u8],
+    chosen: bool,
+    out: &mut [u8],
+    at: usize,
+    p: u32,
+) -> usize
+    requires { ⌜ (at < 2 ^ 54) × (length (now image) ≤ 65536) ⌝ }
+    ensures { λ r. ⌜ (Puts (cond chosen (arrivalLine p (arrivalsOf (now (image .entry)) (now (marks .entry)) p)) []) at (now (out .entry)) (now (out .exit)) r) × (r ≤ at + 2 ^ 20) ⌝ }
+{
+    if !chosen {
+        return at;
+    }
+    let first = views::next_arrival(image, marks, p, 0);
+    if image.len() <= first as usize {
+        return at;
+    }
+    let a = put::put_start(out, at, b'A', p);
+    put_arrived(image, marks, out, a, p, first)
+}
+
+// `I`, of an instruction that ends within the image.
+fn put_instr(image: &[u8], out: &mut [u8], at: usize, p: u32, instr: Instr) -> usize
+    requires { ⌜ (at < 2 ^ 54) × (length (now image) ≤ 65536) × (p + sizeOf (formIn instr) ≤ length (now image)) ⌝ }
+    ensures { λ r. ⌜ (Puts (instrLine (now (image .entry)) p instr) at (now (out .entry)) (now (out .exit)) r) × (r ≤ at + 2 ^ 18) ⌝ }
+{
+    let t = operands::first_of(ways::targets(p, instr));
+    let b = p as usize;
+    let e = b + instr.size();
+    let word = instr.mnemonic();
+    let a1 = put::put_start(out, at, b'I', p);
+    let a2 = put::put_bytes(out, a1, &image[b..e]);
+    let a3 = put::put_word(out, a2, word);
+    operands::put_operands(out, a3, instr, t)
+}
+
+// `I`, of what stands at p.
+pub fn put_here(image: &[u8], out: &mut [u8], at: usize, p: u32) -> usize
+    requires { ⌜ (at < 2 ^ 54) × (length (now image) ≤ 65536) ⌝ }
+    ensures { λ r. ⌜ (Puts (hereLine (now (image .entry)) p (hereOf (now (image .entry)) p)) at (now (out .entry)) (now (out .exit)) r) × (r ≤ at + 2 ^ 20) ⌝ }
+{
+    match ways::instr_at(image, p) {
+        Here::Whole(i) => put_instr(image, out, at, p, i),
+        Here::Cut(_) => at,
+        Here::Outside => at,
+    }
+}
+
+fn all_zero(bytes: &[u8]) -> bool
+    ensures { λ r. ⌜ r ≡ zeros (now (bytes .entry)) ⌝ }
+{
+    let mut i: usize = 0;
+    while i < bytes.len() {
+        if bytes[i] != 0 {
+            return false;
+        }
+        i += 1;
+    }
+    true
+}
+
+// `D`, where the bytes are not all zero.
+pub fn put_data(out: &mut [u8], at: usize, p: u32, bytes: &[u8]) -> usize
+    requires { ⌜ (at < 2 ^ 54) × (length (now bytes) ≤ 65536) ⌝ }
+    ensures { λ r. ⌜ (Puts (dataLine p (now (bytes .entry))) at (now (out .entry)) (now (out .exit)) r) × (r ≤ at + 2 ^ 20) ⌝ }
+{
+    if all_zero(bytes) {
+        return at;
+    }
+    let a = put::put_start(out, at, b'D', p);
+    let b = put::put_bytes(out, a, bytes);
+    put::put_byte(out, b, b'\n')
+}

@@ -1,0 +1,54 @@
+// The tabbed listing.
+ghost use mathlib.Core.Path.{_≡_};
+ghost use Rattle.views.specs.View.{viewedOf, viewAnswer, viewRoom};
+ghost use Rattle.listing.specs.Walk.{isChosen, unchosen, listingOf};
+use crate::rooms;
+use crate::walk;
+use views::Viewed;
+
+// Whether the listing shows arrivals.
+pub enum Arrivals {
+    Chosen,
+    Declined,
+}
+
+impl Arrivals {
+    // Without a choice.
+    pub const DEFAULT: Arrivals = Arrivals::Declined;
+
+    pub fn is_chosen(self) -> bool
+        ensures { λ r. ⌜ r ≡ isChosen self ⌝ }
+    {
+        match self {
+            Self::Chosen => true,
+            Self::Declined => false,
+        }
+    }
+}
+
+// The listing of the traced image, with arrivals where they are chosen: how many bytes were written.
+pub fn listing_with(image: &[u8], marks: &[u8], arrivals: Arrivals, room: &mut [u8]) -> Viewed
+    ensures { λ r. ⌜ (viewedOf r ≡ viewAnswer (now (image .entry)) (now (marks .entry)) (listingOf (now (image .entry)) (now (marks .entry)) arrivals) (now (room .entry))) × (now (room .exit) ≡ viewRoom (now (image .entry)) (now (marks .entry)) (listingOf (now (image .entry)) (now (marks .entry)) arrivals) (now (room .entry))) ⌝ }
+{
+    let v = views::check(image, marks);
+    if !v.is_written() {
+        return v;
+    }
+    let n = image.len();
+    let chosen = arrivals.is_chosen();
+    let mask = rooms::mask_of(image, marks);
+    let labels = rooms::labels_of(image, marks);
+    let mut none = [0u8; 1];
+    let need = walk::put_walk(image, marks, &mask[0..n], &labels[0..n], chosen, &mut none);
+    if room.len() < need {
+        return Viewed::NoRoom(need);
+    }
+    Viewed::Written(walk::put_walk(image, marks, &mask[0..n], &labels[0..n], chosen, room))
+}
+
+// The listing without a choice.
+pub fn listing(image: &[u8], marks: &[u8], room: &mut [u8]) -> Viewed
+    ensures { λ r. ⌜ (viewedOf r ≡ viewAnswer (now (image .entry)) (now (marks .entry)) (listingOf (now (image .entry)) (now (marks .entry)) unchosen) (now (room .entry))) × (now (room .exit) ≡ viewRoom (now (image .entry)) (now (marks .entry)) (listingOf (now (image .entry)) (now (marks .entry)) unchosen) (now (room .entry))) ⌝ }
+{
+    listing_with(image, marks, Arrivals::DEFAULT, room)
+}
