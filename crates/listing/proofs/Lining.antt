@@ -1,9 +1,9 @@
 -- The lines: what is left out, what is shown, and how long the parts are.
 -- Assumes nothing.
-use mathlib.Core.Path.{_≡_, refl, sym, ap, ap₂, _∙_}
+use mathlib.Core.Path.{_≡_, refl, sym, ap, _∙_}
 use mathlib.Core.Bool.{Bool, true, false, cond, _&&_}
 use mathlib.Core.List.{List, [], _∷_, _++_, map}
-use Prim.Native.Nat.{ℕ, _+_, _*_, _-_, _<_, _≤_}
+use Prim.Native.Nat.{ℕ, _+_, _-_, _<_, _≤_}
 use Prim.Native.Char.{code}
 use native.Mathlib.Numerals.{add-one}
 use native.Mathlib.Omega.{arith}
@@ -11,7 +11,6 @@ use borrow.Author.Tests.{eq-eqb, ne-eqb}
 use lib.Dec.{eqb}
 use lib.ListN.{length, getD, take, drop, drop-of-length-le, length-append, length-drop}
 use lib.Seq.{drop-cons, length-take-le}
-use Rattle.operand.specs.Answer.{Answer}
 use Rattle.instruction.specs.Encode.{formIn}
 use Rattle.instruction.specs.Forms.{sizeOf}
 use Rattle.instruction.specs.Mnemonic.{mnemonicOf}
@@ -22,7 +21,7 @@ use Rattle.views.specs.Overlaps.{overlapsIn}
 use Rattle.views.specs.declared.overlaps.Overlaps.{Overlaps}
 use Rattle.views.specs.declared.overlaps.Overlaps.the-variants.{Nothing, One, Two, Three}
 use Rattle.listing.specs.Hex.{hex4, hexes}
-use Rattle.listing.specs.Line.{fields, line}
+use Rattle.listing.specs.Line.{fields}
 use Rattle.listing.specs.Lines.{labelLine, foundLine, overlapLine, arrivalLine, instrLine, zeros, dataLine}
 use Rattle.listing.specs.Operand.{firstOf, operandsBy}
 use Rattle.listing.specs.Puts.{Puts, letters}

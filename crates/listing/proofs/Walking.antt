@@ -1,6 +1,6 @@
 -- The walk one position after another: what is printed at each, how far it goes, and what is left.
 -- Assumes nothing.
-use mathlib.Core.Path.{_≡_, refl, ap, ap₂, sym, _∙_}
+use mathlib.Core.Path.{_≡_, refl, ap, sym, _∙_}
 use mathlib.Core.Bool.{Bool, true, false, cond}
 use mathlib.Core.List.{List, [], _∷_, _++_}
 use Prim.Native.Nat.{ℕ, zero, suc, _+_, _-_, _<_, _≤_}
@@ -13,7 +13,7 @@ use lib.Seq.{length-take-le}
 use Rattle.reach.specs.Mark.{tracedMark}
 use Rattle.views.specs.DataRun.{isData, leading, runLength, dataRun}
 use Rattle.views.specs.Positions.{upFrom}
-use Rattle.views.proofs.DataRuns.{by-mask, data-inside, leading-on, leading-none, leading-ends}
+use Rattle.views.proofs.DataRuns.{by-mask, data-inside, leading-on}
 use Rattle.listing.specs.Lines.{dataLine}
 use Rattle.listing.specs.Walk.{codeLines, printed, passed, walk}
 

@@ -1,11 +1,11 @@
 -- `lines::all_zero` meets its contract: the bytes that are left are all zero exactly where all are.
 -- Assumes nothing.
-use Prim.Native.Nat.{ℕ, _+_, _-_, _≤_, _<_}
+use Prim.Native.Nat.{ℕ, _-_, _≤_, _<_}
 use mathlib.Core.Path.{_≡_, refl, _∙_}
 use mathlib.Core.List.{List}
 use native.Mathlib.Omega.{arith}
 use borrow.Author.Needs.{needs}
-use lib.ListN.{length, drop, getD}
+use lib.ListN.{length, drop}
 use Rattle.listing.specs.Lines.{zeros}
 use Rattle.listing.proofs.Lining.{zeros-on, zeros-off, zeros-end}
 use Rattle.listing.proofs.lines.all_zero.Statement.{statement}

@@ -1,17 +1,12 @@
 -- `lines::put_instr` meets its contract.
 -- Assumes nothing.
-use mathlib.Core.Path.{_≡_, refl, sym, ap, _∙_}
-use mathlib.Core.List.{List}
+use mathlib.Core.Path.{_≡_, ap, _∙_}
 use Prim.Native.Nat.{ℕ, _+_, _-_, _^_, _<_, _≤_}
 use native.Mathlib.Omega.{arith}
 use borrow.Author.Needs.{needs}
-use lib.ListN.{length, take, drop, length-take}
-use lib.Seq.{length-take-le}
+use lib.ListN.{length, take, drop}
 use Rattle.instruction.specs.Encode.{formIn}
 use Rattle.instruction.specs.Forms.{sizeOf}
-use Rattle.instruction.specs.Mnemonic.{mnemonicOf}
-use Rattle.instruction.specs.Parts.{partsOf}
-use Rattle.ways.specs.Targets.{targetsAnswer}
 use Rattle.listing.specs.Operand.{firstOf}
 use Rattle.listing.specs.Puts.{letters}
 use Rattle.listing.proofs.Lining.{puts-begin, puts-bytes, puts-word, instr, part, part-length}

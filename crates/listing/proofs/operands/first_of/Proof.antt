@@ -1,6 +1,6 @@
 -- `operands::first_of` meets its contract.
 -- Assumes nothing.
-use mathlib.Core.Path.{_≡_, sym, ap, _∙_}
+use mathlib.Core.Path.{sym, ap, _∙_}
 use borrow.Author.Needs.{needs}
 use Rattle.ways.specs.At.{placeOf}
 use Rattle.ways.specs.Targets.{targetsOf}

@@ -1,6 +1,6 @@
 -- `operands::put_field` meets its contract.
 -- Assumes nothing.
-use mathlib.Core.Path.{_≡_, sym, _∙_}
+use mathlib.Core.Path.{sym, _∙_}
 use borrow.Author.Needs.{needs}
 use borrow.Author.Tests.{not-true, not-false}
 use Rattle.listing.proofs.Putting.{puts-as, puts-none, puts-then}

@@ -1,10 +1,8 @@
 -- `tabbed::listing_with` meets its contract.
 -- Assumes nothing.
-use mathlib.Core.Path.{_≡_, sym, ap, subst, _∙_}
-use mathlib.Core.Bool.{true, false}
-use mathlib.Core.List.{List, [], _∷_}
-use Prim.Native.Nat.{ℕ, _+_, _-_, _<_, _≤_}
-use native.Mathlib.Omega.{arith}
+use mathlib.Core.Path.{_≡_, sym, ap, _∙_}
+use mathlib.Core.List.{List}
+use Prim.Native.Nat.{ℕ, _+_, _-_, _≤_}
 use borrow.Author.Needs.{needs}
 use borrow.Author.Tests.{not-true, not-false}
 use lib.ListN.{length, take, drop}
@@ -13,7 +11,6 @@ use Rattle.views.specs.Mask.{maskOf}
 use Rattle.views.proofs.Labelling.{labels-length}
 use Rattle.views.proofs.Masking.{mask-length}
 use Rattle.views.proofs.Viewing.{is-sound, small, covered, refused-all}
-use Rattle.listing.specs.Puts.{Puts}
 use Rattle.listing.specs.Sound.{Sound}
 use Rattle.listing.specs.Walk.{walk, listingOf}
 use Rattle.listing.proofs.Answering.{long-enough, part-is, is-listing, too-small, all-written}

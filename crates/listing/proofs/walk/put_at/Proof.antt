@@ -1,14 +1,12 @@
 -- `walk::put_at` meets its contract.
 -- Assumes nothing.
-use mathlib.Core.Path.{_≡_, sym, ap, _∙_}
+use mathlib.Core.Path.{_≡_, sym, _∙_}
 use mathlib.Core.Bool.{Bool, true, false}
-use mathlib.Core.List.{List}
-use Prim.Native.Nat.{ℕ, _+_, _^_, _<_, _≤_}
+use Prim.Native.Nat.{_+_, _^_, _<_, _≤_}
 use native.Mathlib.Omega.{arith}
 use borrow.Author.Needs.{needs}
-use lib.ListN.{length, getD}
+use lib.ListN.{getD}
 use Rattle.reach.specs.Mark.{tracedMark}
-use Rattle.views.specs.DataRun.{dataRun}
 use Rattle.listing.proofs.Putting.{puts-as, puts-none}
 use Rattle.listing.proofs.Walking.{print-code, print-none, print-data, run-length}
 use Rattle.listing.proofs.walk.put_at.Statement.{statement}

@@ -1,10 +1,9 @@
 -- `walk::step_at` meets its contract.
 -- Assumes nothing.
 use mathlib.Core.Path.{_≡_, sym, _∙_}
-use mathlib.Core.Bool.{Bool, true, false}
-use Prim.Native.Nat.{ℕ, _+_}
+use mathlib.Core.Bool.{Bool, false}
 use borrow.Author.Needs.{needs}
-use lib.ListN.{length, getD}
+use lib.ListN.{getD}
 use Rattle.reach.specs.Mark.{tracedMark}
 use Rattle.listing.proofs.Walking.{step-code, step-none, step-run}
 use Rattle.listing.proofs.walk.step_at.Statement.{statement}

@@ -1,0 +1,4 @@
+pub mod Lines
+pub mod Sounding
+pub mod Texts
+pub mod Images

@@ -1,0 +1,47 @@
+// What the listing program prints.
+ghost use mathlib.Core.Path.{_≡_};
+ghost use mathlib.Core.List.{[]};
+ghost use Prim.Native.Nat.{_≤_};
+ghost use lib.ListN.{length};
+ghost use Rattle.views.specs.View.{viewedOf, roomAnswer, roomAfter};
+ghost use Rattle.lister.specs.Output.{shown, tracedText, outputOf};
+use crate::refusal;
+use crate::rooms;
+use input::Parsed;
+use listing::Arrivals;
+use trace::Ran;
+use views::Viewed;
+
+// The listing of a run in this image from these entries, or the line of a refusal.
+fn list_image(image: &[u8], entries: &[u32], room: &mut [u8]) -> Viewed
+    requires { ⌜ length (now image) ≤ 16384 ⌝ }
+    ensures { λ r. ⌜ (viewedOf r ≡ roomAnswer [] (shown (tracedText (now (image .entry)) (now (entries .entry)))) (now (room .entry))) × (now (room .exit) ≡ roomAfter [] (shown (tracedText (now (image .entry)) (now (entries .entry)))) (now (room .entry))) ⌝ }
+{
+    let mut marks = rooms::bytes();
+    let mut order = rooms::positions();
+    match trace::run::run(image, &mut marks, &mut order, entries, image.len() as u32) {
+        Ran::Finished(_) => listing::listing_with(image, &marks, Arrivals::Declined, room),
+        Ran::Stopped(_) => listing::listing_with(image, &marks, Arrivals::Declined, room),
+        Ran::LongImage(_) => refusal::put_refusal(1, room),
+        Ran::ShortMarks(_) => refusal::put_refusal(2, room),
+        Ran::ShortOrder(_) => refusal::put_refusal(3, room),
+        Ran::Cut(_) => refusal::put_refusal(5, room),
+    }
+}
+
+// The whole output of the listing program for this input: how many bytes were written, or 11 with how many are needed.
+pub fn list_text(text: &[u8], room: &mut [u8]) -> Viewed
+    ensures { λ r. ⌜ (viewedOf r ≡ roomAnswer [] (outputOf (now (text .entry))) (now (room .entry))) × (now (room .exit) ≡ roomAfter [] (outputOf (now (text .entry))) (now (room .entry))) ⌝ }
+{
+    let mut entries = rooms::entries();
+    let mut image = rooms::bytes();
+    match input::parse(text, &mut entries, &mut image) {
+        Parsed::Accepted(c) => {
+            let n = c.bytes;
+            let k = c.entries;
+            list_image(&image[0..n], &entries[0..k], room)
+        }
+        Parsed::Malformed(_) => refusal::put_refusal(13, room),
+        Parsed::NoRoom(_) => refusal::put_refusal(11, room),
+    }
+}
