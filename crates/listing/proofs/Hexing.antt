@@ -1,4 +1,4 @@
--- Bytes in hex one by one, and their length.
+-- Hex digits, bytes in hex one by one, and their length.
 -- Assumes nothing.
 use mathlib.Core.Path.{_≡_, refl}
 use mathlib.Core.List.{List, [], _∷_, _++_}
@@ -7,7 +7,16 @@ use native.Mathlib.Numerals.{add-one}
 use native.Mathlib.Omega.{arith}
 use lib.ListN.{length, getD, drop, drop-of-length-le, length-append}
 use lib.Seq.{drop-cons}
-use Rattle.listing.specs.Hex.{hex2, hex3, hex4, hexes}
+use borrow.Author.Tests.{lt-ltb, le-ltb}
+use Rattle.listing.specs.Hex.{letterOf, hex2, hex3, hex4, hexes}
+
+-- one digit: up to 9, and from 10 on
+module _ (d : ℕ) where
+  pub low : d < 10 → 48 + d ≡ letterOf d
+  low h = rw (lt-ltb d 10 h)
+
+  pub high : 10 ≤ d → 55 + d ≡ letterOf d
+  high h = rw (le-ltb d 10 h)
 
 pub hexes-more : (bs : List ℕ) (i : ℕ) → i < length bs → hexes (drop i bs) ≡ hex2 (getD bs i 0) ++ hexes (drop (i + 1) bs)
 unfolding hexes

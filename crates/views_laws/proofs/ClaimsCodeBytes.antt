@@ -42,7 +42,7 @@ module _ (image marks entries m : List ℕ) (F : Final (tracerOf image) (cleared
   no-flash q h e =
       let z : getD m q 0 ≡ 0 = F .others q (λ r. reached-mark q h r (fitsHere image q) refl e) ∙ cleared-at (length image) marks q h in omega arith
 
-  traced-reached : (q : ℕ) → q < length image → tracedMark (getD m q 0) ≡ true → At q × (fitsHere image q ≡ true)
+  pub traced-reached : (q : ℕ) → q < length image → tracedMark (getD m q 0) ≡ true → At q × (fitsHere image q ≡ true)
   unfolding tracedMark
   traced-reached q h t = F .two q h .0 (by (eqb (getD m q 0) traced) refl t)
     where
@@ -50,7 +50,7 @@ module _ (image marks entries m : List ℕ) (F : Final (tracerOf image) (cleared
       by true e u = eqb-true (getD m q 0) traced e
       by false e u = absurd (no-flash q h (eqb-true (getD m q 0) flash u))
 
-  reached-traced : (q : ℕ) → q < length image → At q → fitsHere image q ≡ true → tracedMark (getD m q 0) ≡ true
+  pub reached-traced : (q : ℕ) → q < length image → At q → fitsHere image q ≡ true → tracedMark (getD m q 0) ≡ true
   unfolding tracedMark
   reached-traced q h r f = ap tracedMark (F .two q h .1 (r, f))
 

@@ -1,18 +1,18 @@
 -- `put::digit` meets its contract.
 -- Assumes nothing.
 use borrow.Author.Needs.{needs}
-use borrow.Author.Tests.{lt-ltb, le-ltb}
 use Rattle.listing.specs.Hex.{digit}
+use Rattle.listing.proofs.Hexing.{low, high}
 use Rattle.listing.proofs.put.digit.Statement.{statement}
 use Rattle.listing.proofs.put.digit.Tie as tie
 
 returns : tie.Need-returns
 unfolding digit
-returns c = simp (lt-ltb _ _ (c .if1 .taken))
+returns c = low _ (c .if1 .taken)
 
 returns-2 : tie.Need-returns-2
 unfolding digit
-returns-2 c = simp (le-ltb _ _ (c .if1 .left))
+returns-2 c = high _ (c .if1 .left)
 
 pub digit-spec : {M : Type 1} → statement M
 digit-spec = tie.close (tie.spec (λ c. search needs) (λ c. search needs) (λ c. search needs) returns returns-2)

@@ -1,0 +1,100 @@
+-- At a traced position of undamaged marks the instruction is not cut off, so decode and targets answer there.
+-- Assumes nothing.
+use mathlib.Core.Path.{_≡_, refl, sym, ap, subst, _∙_}
+use mathlib.Core.Bool.{Bool, true, false, not, _&&_, _||_}
+use mathlib.Core.List.{List, _∷_}
+use Prim.Native.Char.{code}
+use Prim.Native.Nat.{ℕ, _+_, _<_, _≤_}
+use native.Mathlib.Omega.{arith}
+use lib.Dec.{ltb}
+use lib.IntN.{ℤ}
+use lib.ListN.{length, getD, take, drop}
+use borrow.Author.Tests.{lt-ltb}
+use Rattle.operand.specs.Answer.{Answer, accepted}
+use Rattle.operand.proofs.Sign.{never}
+use Rattle.instruction.specs.Decode.{decodeAnswer}
+use Rattle.instruction.specs.Encode.{formIn}
+use Rattle.instruction.specs.Forms.{sizeOf}
+use Rattle.instruction.specs.Mnemonic.{mnemonicOf}
+use Rattle.instruction.specs.Parts.{partsOf}
+use Rattle.instruction.specs.declared.instr.Instr.{Instr}
+use Rattle.ways.specs.At.{fitsHere, instrHere, waysHere}
+use Rattle.ways.specs.Here.{hereOf}
+use Rattle.ways.specs.Targets.{nextOf, targetsIn, targetsAnswer}
+use Rattle.ways.specs.declared.here.Here.the-variants.{Whole}
+use Rattle.ways.proofs.Ands.{both, second-part}
+use Rattle.ways.proofs.AskedAlone.{found}
+use Rattle.ways.proofs.HereIs.{answer, whole-here}
+use Rattle.ways.proofs.Within.{within}
+use Rattle.reach.specs.ClaimsOrder.{Final}
+use Rattle.reach.specs.Mark.{tracedMark, cleared}
+use Rattle.trace.specs.Run.{outcomeOf}
+use Rattle.trace.specs.Step.{damaged}
+use Rattle.trace.specs.Tracer.{tracerOf}
+use Rattle.trace_laws.proofs.ClaimsImagesOrder.{image-run-final}
+use Rattle.views.specs.Positions.{tracedAt}
+use Rattle.views.specs.View.{offJmpf, misplaced, damagedHere}
+use Rattle.views.proofs.TracedAt.{traced-inside}
+use Rattle.views_laws.specs.ClaimsCode.{Reachable}
+use Rattle.views_laws.specs.ClaimsSound.{Undamaged}
+use Rattle.views_laws.proofs.ClaimsCodeBytes.{traced-reached, reached-traced}
+use Rattle.views_laws.proofs.Finished.{sized, covered, marks-are, ended}
+use Rattle.views_laws.proofs.Reached.{plainly, over, reached-inside}
+use Rattle.listing.specs.Hex.{hex4, hexes}
+use Rattle.listing.specs.Line.{line}
+use Rattle.listing.specs.Lines.{hereLine, instrLine}
+use Rattle.listing.specs.Operand.{firstOf, operandsBy}
+use Rattle.listing_laws.specs.ClaimsShown.{Shown, TracedShown, TracedReachable}
+
+-- a traced instruction that is cut off would be damage
+uncut : (image m : List ℕ) (p : ℕ) → tracedMark (getD m p 0) ≡ true → damagedHere image m p ≡ false → fitsHere image p ≡ true
+unfolding damagedHere misplaced
+uncut image m p t d = by (damaged (getD m p 0)) (tracedMark (getD m p 0)) (fitsHere image p) (offJmpf image (getD m p 0) p) t d
+  where
+    by : (a t b c : Bool) → t ≡ true → (a || ((t && not b) || c)) ≡ false → b ≡ true
+    by a t true c f e = refl
+    by a false false c f e = absurd (never (sym f))
+    by true true false c f e = absurd (never e)
+    by false true false c f e = absurd (never e)
+
+-- the line of an instruction, by what its targets are
+abbrev lineBy : List ℕ → ℕ → Instr → Answer (List ℤ) → List ℕ
+lineBy image p i ts =
+    line (code "I") (hex4 p ∷ hexes (take (sizeOf (formIn i)) (drop p image)) ∷ mnemonicOf (partsOf i .form) ∷ operandsBy (firstOf ts) i)
+
+pub traced-shown : TracedShown
+unfolding instrLine
+traced-shown image m B l U p t =
+    let h : p < length image = traced-inside image m p t in
+    let f : fitsHere image p ≡ true = uncut image m p (second-part (ltb p (length image)) _ t) (U p h) in
+    let i : Instr = instrHere image p in
+    let w = within image p B h f in
+    let a : decodeAnswer (drop p image) ≡ accepted i = answer image p h true f in
+    let g : targetsAnswer p i ≡ accepted (targetsIn (nextOf p i) i) = sym (found p i (omega (arith, w .size, w .most)) (sym (w .fit))) in
+    record {
+      instr = i;
+      decoded = a;
+      targets = targetsIn (nextOf p i) i;
+      going = g;
+      shown = ap (hereLine image p) (sym (whole-here image p h i (sym a))) ∙ ap (lineBy image p i) g;
+    }
+
+-- marks that are final
+module _ (image marks entries m : List ℕ) (F : Final (tracerOf image) (cleared (length image) marks) entries m) (p : ℕ) where
+  there : tracedAt image m p ≡ true → Reachable image entries p × (fitsHere image p ≡ true)
+  there t =
+      let h = traced-inside image m p t in
+      let r = traced-reached image marks entries m F p h (second-part (ltb p (length image)) _ t) in
+      (plainly (tracerOf image) (waysHere image) marks entries (r .0), r .1)
+
+  back : Reachable image entries p → fitsHere image p ≡ true → tracedAt image m p ≡ true
+  back r g =
+      let h = reached-inside r .inside in
+      both (ltb p (length image)) (tracedMark (getD m p 0)) (lt-ltb p (length image) h)
+      (reached-traced image marks entries m F p h (over (tracerOf image) (waysHere image) marks entries r) g)
+
+pub traced-reachable : TracedReachable
+traced-reachable image marks order entries limit s B C a f p =
+    let m : List ℕ = outcomeOf image marks entries limit .marks in
+    let F : Final (tracerOf image) (cleared (length image) marks) entries m = image-run-final image marks entries limit B C (covered image marks order entries limit (sized image marks order entries limit s a)) (ended image marks order entries limit s a f) in
+    rw (marks-are image marks order entries limit s a) (there image marks entries m F p, back image marks entries m F p)

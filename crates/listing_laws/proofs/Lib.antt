@@ -1,0 +1,2 @@
+pub mod ClaimsLinesListed
+pub mod ClaimsShownTraced

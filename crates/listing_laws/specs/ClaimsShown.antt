@@ -1,0 +1,50 @@
+-- What an `I` line shows: the processor's instruction as far as the patterns are the processor's. Document 01, 'The listing', 'Targets'
+-- and 'Marks and steps'.
+-- Assumes nothing.
+use Prim.Native.Nat.{ℕ, _+_, _≤_}
+use Prim.Native.Char.{code}
+use mathlib.Core.Bool.{true}
+use mathlib.Core.List.{List, _∷_}
+use mathlib.Core.Path.{_≡_}
+use lib.IntN.{ℤ}
+use lib.ListN.{length, take, drop}
+use Rattle.operand.specs.Answer.{accepted}
+use Rattle.instruction.specs.Decode.{decodeAnswer}
+use Rattle.instruction.specs.Encode.{formIn}
+use Rattle.instruction.specs.Forms.{sizeOf}
+use Rattle.instruction.specs.Mnemonic.{mnemonicOf}
+use Rattle.instruction.specs.Parts.{partsOf}
+use Rattle.instruction.specs.declared.instr.Instr.{Instr}
+use Rattle.ways.specs.At.{fitsHere}
+use Rattle.ways.specs.Here.{hereOf}
+use Rattle.ways.specs.Targets.{targetsAnswer}
+use Rattle.trace.specs.Run.{Said, runAnswer, runMarks}
+use Rattle.trace_laws.specs.ClaimsImages.{Bytes, Clean}
+use Rattle.views.specs.Positions.{tracedAt}
+use Rattle.views_laws.specs.ClaimsCode.{Reachable}
+use Rattle.views_laws.specs.ClaimsSound.{Undamaged}
+use Rattle.listing.specs.Hex.{hex4, hexes}
+use Rattle.listing.specs.Line.{line}
+use Rattle.listing.specs.Lines.{hereLine}
+use Rattle.listing.specs.Operand.{firstOf, operandsBy}
+
+-- decode of the bytes from p on and targets at p both answer, and the line at p is made of what they answer
+pub record Shown (image : List ℕ) (p : ℕ) : Type 0 where
+  pub instr : Instr
+  pub decoded : decodeAnswer (drop p image) ≡ accepted instr
+  pub targets : List ℤ
+  pub going : targetsAnswer p instr ≡ accepted targets
+  pub shown : hereLine image p (hereOf image p) ≡ line (code "I") (hex4 p ∷ hexes (take (sizeOf (formIn instr)) (drop p image)) ∷ mnemonicOf (partsOf instr .form) ∷ operandsBy (firstOf (accepted targets)) instr)
+
+-- at each traced position of marks that no view refuses
+abbrev pub TracedShown : Type 0
+TracedShown =
+    (image m : List ℕ) → Bytes image → length image ≤ 65536 → Undamaged image m → (p : ℕ) → tracedAt image m p ≡ true → Shown image p
+
+-- for an image with no B8 0D 21 in succession and a finished run, the traced positions are those reachable from the entries at which the
+-- instruction is not cut off
+abbrev pub TracedReachable : Type 0
+TracedReachable =
+    (image marks order entries : List ℕ) (limit : ℕ) (s : Said) → Bytes image → Clean image → runAnswer image marks order entries limit ≡ accepted s → s .finished ≡ true
+    → (p : ℕ) → (tracedAt image (runMarks image marks order entries limit) p ≡ true → Reachable image entries p × (fitsHere image p ≡ true))
+    × (Reachable image entries p → fitsHere image p ≡ true → tracedAt image (runMarks image marks order entries limit) p ≡ true)

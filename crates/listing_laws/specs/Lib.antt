@@ -1,0 +1,2 @@
+pub mod ClaimsLines
+pub mod ClaimsShown
