@@ -11,10 +11,9 @@ use lib.Seq.{sets, sets-eq, take-at}
 use Rattle.operand.specs.Answer.{accepted, refused}
 use Rattle.views.specs.Labels.{labelsOf}
 use Rattle.views.specs.Mask.{maskOf}
-use Rattle.views.specs.View.{viewRoom}
+use Rattle.views.specs.View.{Sound, viewRoom}
 use Rattle.views.proofs.Viewing.{Is, small, shown-as, no-room-for}
 use Rattle.listing.specs.Puts.{Puts}
-use Rattle.listing.specs.Sound.{Sound}
 use Rattle.listing.specs.Walk.{isChosen, walk, listingOf}
 use Rattle.listing.specs.declared.tabbed.Arrivals.{Arrivals}
 

@@ -4,4 +4,3 @@ pub mod Operand
 pub mod Lines
 pub mod Walk
 pub mod Puts
-pub mod Sound

@@ -3,7 +3,7 @@ ghost use mathlib.Core.Path.{_≡_};
 ghost use lib.ListN.{length, take};
 ghost use Rattle.views.specs.Labels.{labelsOf};
 ghost use Rattle.views.specs.Mask.{maskOf};
-ghost use Rattle.listing.specs.Sound.{Sound};
+ghost use Rattle.views.specs.View.{Sound};
 use ways::Image;
 
 // Room for every image.

@@ -1,2 +1,4 @@
 pub mod ClaimsLinesListed
 pub mod ClaimsShownTraced
+pub mod LineWidths
+pub mod ClaimsRoomBound

@@ -1,2 +1,3 @@
 pub mod ClaimsLines
 pub mod ClaimsShown
+pub mod ClaimsRoom

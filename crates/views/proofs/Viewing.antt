@@ -12,16 +12,12 @@ use borrow.Author.Tests.{ltb-true, ltb-false}
 use Rattle.operand.specs.Answer.{Answer, accepted, refused, judge}
 use Rattle.operand.proofs.Judging.{accepts}
 use Rattle.operand.proofs.Sign.{never}
-use Rattle.views.specs.View.{isWritten, viewedOf, viewRefusals, viewAnswer, viewRoom}
+use Rattle.views.specs.View.{Sound, isWritten, viewedOf, viewRefusals, viewAnswer, viewRoom}
 use Rattle.views.specs.declared.view.Viewed.{Viewed}
 use Rattle.views.specs.declared.view.Viewed.the-variants.{Written, LongImage, ShortMarks, Damaged, NoRoom}
 use Rattle.views.proofs.Refusing.{long, short}
 use Rattle.views.proofs.Rooming.{said}
 use Rattle.views.proofs.Rooming as rooming
-
--- none of the refusals that all views share holds
-abbrev pub Sound : List ℕ → List ℕ → Type 0
-Sound image m = _≡_ {A = Answer ℕ} (judge (viewRefusals image m) 0) (accepted 0)
 
 abbrev pub Is : List ℕ → List ℕ → List ℕ → List ℕ → Answer ℕ → List ℕ → Type 0
 Is image m out room r t = (r ≡ viewAnswer image m out room) × (t ≡ viewRoom image m out room)

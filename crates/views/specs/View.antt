@@ -3,6 +3,7 @@
 use Prim.Native.Nat.{ℕ}
 use mathlib.Core.Bool.{Bool, true, false, not, _&&_, _||_}
 use mathlib.Core.List.{List, [], _∷_, _++_, map}
+use mathlib.Core.Path.{_≡_}
 use lib.Dec.{ltb, eqb}
 use lib.IntN.{pos}
 use lib.ListN.{length, getD, drop}
@@ -35,6 +36,10 @@ damageIn image m ps = map (λ (p : ℕ). refuse (damagedHere image m p) 6 (pos p
 -- 1, 2, then 6 anywhere in the image, the lowest named
 unfoldable pub viewRefusals : List ℕ → List ℕ → List Refusal
 viewRefusals image m = sizeRefusals image m ++ damageIn image m (positions image)
+
+-- none of these holds
+abbrev pub Sound : List ℕ → List ℕ → Type 0
+Sound image m = _≡_ {A = Answer ℕ} (judge (viewRefusals image m) 0) (accepted 0)
 
 abbrev pub viewedOf : Viewed → Answer ℕ
 viewedOf (Written n) = accepted n

@@ -7,7 +7,8 @@ use borrow.Author.Needs.{needs}
 use borrow.Author.Tests.{not-true, not-false}
 use lib.ListN.{drop}
 use Rattle.views.specs.Arrivals.{arrivalsOf}
-use Rattle.views.proofs.Viewing.{Sound, is-sound, small, refused-all, no-room-for, shown-as}
+use Rattle.views.specs.View.{Sound}
+use Rattle.views.proofs.Viewing.{is-sound, small, refused-all, no-room-for, shown-as}
 use Rattle.views.proofs.arrival.arrivals.Statement.{statement}
 use Rattle.views.proofs.arrival.arrivals.Tie as tie
 

@@ -8,7 +8,8 @@ use borrow.Author.Needs.{needs}
 use borrow.Author.Tests.{not-true, not-false}
 use lib.ListN.{length, drop}
 use Rattle.views.specs.Overlaps.{overlapsOf, overlapsIn}
-use Rattle.views.proofs.Viewing.{Sound, is-sound, refused-all, no-room-for, shown-as}
+use Rattle.views.specs.View.{Sound}
+use Rattle.views.proofs.Viewing.{is-sound, refused-all, no-room-for, shown-as}
 use Rattle.views.proofs.overlaps.find_overlaps.Statement.{statement}
 use Rattle.views.proofs.overlaps.find_overlaps.Tie as tie
 
