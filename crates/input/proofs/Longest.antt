@@ -79,7 +79,7 @@ pub most-held : MostHeld
 most-held text v = (omega (arith, held text v .0, length-map (fields (entryLine text)) entryOf), held text v .1)
 
 -- accepted, or refused with 13
-abbrev Thirteen : Answer Input → Input → Type 0
+abbrev pub Thirteen : Answer Input → Input → Type 0
 Thirteen r c = (r ≡ accepted c) ⊎ (refusalOf r ≡ 13)
 
 one-line : (t : Bool) (k : ℕ) (rest : Answer Input) (c : Input) → Thirteen rest c → Thirteen (cond t (refused 13 (pos k ∷ [])) rest) c
@@ -91,7 +91,7 @@ unfolding imageRefusals judge
 image-13 k n [] c = inl refl
 image-13 k n (l ∷ ls) c = one-line (not (isBytes l) || ltb 16384 (n + length (bytesOf l))) k _ c (image-13 (suc k) (n + length (bytesOf l)) ls c)
 
-lines-13 : (text : List ℕ) → Thirteen (judge (lineRefusals text) (countsOf text)) (countsOf text)
+pub lines-13 : (text : List ℕ) → Thirteen (judge (lineRefusals text) (countsOf text)) (countsOf text)
 unfolding lineRefusals judge
 lines-13 text = one-line (not (isEntries (entryLine text))) 1 _ (countsOf text) (image-13 2 0 (imageLines text) (countsOf text))
 

@@ -44,11 +44,11 @@ module _ (image entries : List ℕ) where
       sym (ap (λ (r : Answer Said). shown (orElse r (judge (viewRefusals image marks) out))) h)
 
   module _ (small : length image ≤ 16384) (s : Said) (a : answer ≡ accepted s) where
-    covered : length image ≤ length lent
+    pub covered : length image ≤ length lent
     covered = let e : length lent ≡ 16384 = ap length (sym lent-is) ∙ length-replicate {A = ℕ} 16384 0 in omega arith
 
     -- its marks are sound
-    marks-sound : length marks ≡ length lent → Sound image marks
+    pub marks-sound : length marks ≡ length lent → Sound image marks
     marks-sound l =
         sound image marks (omega arith) (let c = covered in omega arith)
         (subst (Undamaged image) (sym (marks-are image lent lent entries (length image) s a)) (run-undamaged image lent entries (length image) covered))

@@ -7,7 +7,7 @@ use Rattle.list.proofs.output.Statement.{statement}
 use Rattle.list.proofs.output.Tie as tie
 
 returns : tie.Need-returns
-returns c = sym (length-replicate {A = ℕ} 1000000 0)
+returns c = sym (length-replicate {A = ℕ} 983040 0)
 
 pub output-spec : {M : Type 1} → statement M
 output-spec = tie.close (tie.spec returns)
