@@ -3,14 +3,14 @@
 use mathlib.Core.Path.{_≡_, refl, sym, ap, _∙_}
 use mathlib.Core.Bool.{Bool, true, false, cond}
 use mathlib.Core.List.{List, [], _∷_, _++_}
-use Prim.Native.Nat.{ℕ, zero, suc, _+_, _*_, _-_, _/_, _%_, _≤_, _<_}
+use Prim.Native.Nat.{ℕ, zero, suc, _+_, _-_, _/_, _%_, _≤_, _<_}
 use native.Mathlib.Omega.{arith}
 use lib.Dec.{leb, ltb}
 use lib.ListN.{length, getD}
 use borrow.Author.Tests.{leb-true}
 use Rattle.operand.specs.Answer.{Answer, accepted, refused, judge}
 use Rattle.operand.proofs.Judging.{accepts}
-use Rattle.ways.proofs.Ands.{first-part, second-part}
+use Rattle.ways.proofs.Ands.{second-part}
 use Rattle.trace.specs.Run.{runAnswer, runMarks}
 use Rattle.trace_laws.specs.ClaimsImages.{Bytes}
 use Rattle.views.specs.View.{viewRefusals}
@@ -23,7 +23,7 @@ use Rattle.listing.specs.Walk.{listingOf}
 use Rattle.listing.specs.declared.tabbed.Arrivals.the-variants.{Declined}
 use Rattle.listing_laws.proofs.ClaimsRoomBound.{listing-bound}
 use Rattle.lister.specs.ClaimsOutput.{OutputFits}
-use Rattle.lister.specs.Output.{lent, decimal, refusalLine, tracedText, textListed, shown, outputOf}
+use Rattle.lister.specs.Output.{lent, refusalLine, tracedText, textListed, shown, outputOf}
 use Rattle.lister.proofs.Parts.{or-accepted}
 
 -- ---- the bytes of an image

@@ -1,7 +1,7 @@
 -- The program refuses nothing but 13 and 5: its rooms are long enough, and the marks of a run are sound.
 -- Assumes nothing.
 use mathlib.Core.Path.{_≡_, refl, sym, ap, _∙_}
-use mathlib.Core.List.{List, []}
+use mathlib.Core.List.{List}
 use mathlib.Core.Logic.{_⊎_, inl, inr}
 use Prim.Native.Nat.{ℕ, _≤_}
 use native.Mathlib.Omega.{arith}
@@ -11,7 +11,6 @@ use borrow.Author.Tests.{le-ltb}
 use Rattle.operand.specs.Answer.{Answer, accepted, refused, judge}
 use Rattle.operand.proofs.Judging.{pass, done, accepts}
 use Rattle.reach.specs.Mark.{cleared}
-use Rattle.reach.specs.Note.{note}
 use Rattle.reach.specs.Run.{End, finished, stopped, cutOff, steps, noted}
 use Rattle.reach.specs.Takes.{Takes, stay, up}
 use Rattle.reach.specs.Tracer.{Tracer}

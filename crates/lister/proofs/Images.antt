@@ -1,13 +1,13 @@
 -- What is printed of an image and entries: the listing of a run's marks, or the line of the run's refusal.
 -- Assumes nothing.
 use mathlib.Core.Path.{_≡_, refl, sym, ap, ap₂, subst, _∙_}
-use mathlib.Core.List.{List, [], _∷_}
+use mathlib.Core.List.{List, []}
 use Prim.Native.Nat.{ℕ, _≤_}
 use native.Mathlib.Omega.{arith}
 use lib.IntN.{ℤ}
 use lib.ListN.{length, replicate, length-replicate}
 use Rattle.operand.specs.Answer.{Answer, accepted, refused, judge}
-use Rattle.trace.specs.Run.{Said, orElse, outcomeOf, runAnswer, runMarks}
+use Rattle.trace.specs.Run.{Said, orElse, runAnswer, runMarks}
 use Rattle.views.specs.View.{Sound, viewRefusals, viewAnswer, viewRoom, roomAnswer, roomAfter}
 use Rattle.views_laws.specs.ClaimsSound.{Undamaged}
 use Rattle.views_laws.proofs.ClaimsSoundRun.{run-undamaged}

@@ -1,13 +1,9 @@
 -- A line of a refusal laid over the beginning of a room.
 -- Assumes nothing.
-use mathlib.Core.Path.{_≡_, refl, sym, ap, _∙_}
-use mathlib.Core.List.{List, [], _∷_, _++_}
+use mathlib.Core.Path.{_≡_}
+use mathlib.Core.List.{[], _∷_}
 use Prim.Native.Nat.{ℕ, _+_, _/_, _%_, _<_, _≤_}
-use lib.ListN.{length, drop}
-use lib.Seq.{sets, sets-eq}
 use borrow.Author.Tests.{lt-ltb, le-ltb}
-use Rattle.operand.proofs.Judging.{done}
-use Rattle.views.proofs.Rooming.{Is, no-room-for, shown-as}
 use Rattle.lister.specs.Output.{refusalLine}
 
 -- one digit

@@ -1,17 +1,16 @@
 -- The walk as its stops: what is passed over is data, and no data is traced.
 -- Assumes nothing.
 use mathlib.Core.Path.{_≡_, refl, sym, ap, _∙_}
-use mathlib.Core.Bool.{Bool, true, false, cond, _&&_}
-use mathlib.Core.List.{List, [], _∷_, _++_, map}
-use Prim.Native.Nat.{ℕ, zero, suc, _+_, _-_, _<_, _≤_}
+use mathlib.Core.Bool.{Bool, true, false, cond}
+use mathlib.Core.List.{List, _∷_, _++_, map}
+use Prim.Native.Nat.{ℕ, zero, suc, _+_, _-_, _<_}
 use native.Mathlib.Nat.{zero-add}
 use native.Mathlib.Omega.{arith}
 use lib.Dec.{eqb, ltb, leb}
 use lib.ListN.{length, getD, drop, length-take}
 use borrow.Author.Tests.{eqb-true, le-leb, lt-ltb}
-use Rattle.operand.proofs.Sign.{never}
 use Rattle.ways.specs.At.{sizeHere}
-use Rattle.ways.proofs.Ands.{both, second-part}
+use Rattle.ways.proofs.Ands.{both}
 use Rattle.ways.proofs.Within.{size-short}
 use Rattle.reach.specs.Mark.{tracedMark}
 use Rattle.trace_laws.specs.ClaimsImages.{Bytes}
@@ -24,7 +23,7 @@ use Rattle.views.proofs.TracedAt.{traced-inside}
 use Rattle.views.proofs.Ups.{up-at}
 use Rattle.views_laws.proofs.Somes.{passing}
 use Rattle.listing.specs.Walk.{printed, passed, walk, listingOf}
-use Rattle.listing_laws.specs.ClaimsLines.{joined, stopsFrom, Stopped, TracedListed}
+use Rattle.listing_laws.specs.ClaimsLines.{joined, stopsFrom, TracedListed}
 
 -- each of the positions that pass a test one after another passes it
 leading-each : (f : ℕ → Bool) (k p i : ℕ) → i < leading f (upFrom k p) → f (p + i) ≡ true

@@ -1,18 +1,18 @@
 -- Each stop of the walk prints at most 60 bytes.
 -- Assumes nothing.
-use mathlib.Core.Path.{_≡_, refl, sym, ap, _∙_}
+use mathlib.Core.Path.{_≡_, refl, ap, _∙_}
 use mathlib.Core.Bool.{Bool, true, false, cond, _&&_}
 use mathlib.Core.List.{List, [], _∷_, _++_, map}
-use Prim.Native.Nat.{ℕ, zero, suc, _+_, _*_, _-_, _<_, _≤_}
+use Prim.Native.Nat.{ℕ, zero, suc, _+_, _*_, _-_, _≤_}
 use Prim.Native.Char.{code}
 use native.Mathlib.Omega.{arith}
 use lib.Dec.{eqb, leb}
-use lib.ListN.{length, getD, drop, length-append, length-take, length-map}
+use lib.ListN.{length, getD, drop, length-append, length-take}
 use Rattle.instruction.specs.Decode.{fieldsIn}
 use Rattle.instruction.specs.Parts.{partsOf}
 use Rattle.instruction.specs.declared.instr.Parts.{Parts}
 use Rattle.instruction_laws.proofs.PartsMade.{parted}
-use Rattle.ways.specs.At.{formHere, sizeHere, fitsHere, instrHere}
+use Rattle.ways.specs.At.{formHere, sizeHere, instrHere}
 use Rattle.ways.specs.Here.{hereOf}
 use Rattle.ways.specs.declared.here.Here.{Here}
 use Rattle.ways.specs.declared.here.Here.the-variants.{Whole, Cut, Outside}

@@ -1,10 +1,10 @@
 -- At a traced position of undamaged marks the instruction is not cut off, so decode and targets answer there.
 -- Assumes nothing.
-use mathlib.Core.Path.{_≡_, refl, sym, ap, subst, _∙_}
+use mathlib.Core.Path.{_≡_, refl, sym, ap, _∙_}
 use mathlib.Core.Bool.{Bool, true, false, not, _&&_, _||_}
 use mathlib.Core.List.{List, _∷_}
 use Prim.Native.Char.{code}
-use Prim.Native.Nat.{ℕ, _+_, _<_, _≤_}
+use Prim.Native.Nat.{ℕ, _<_}
 use native.Mathlib.Omega.{arith}
 use lib.Dec.{ltb}
 use lib.IntN.{ℤ}
@@ -19,9 +19,7 @@ use Rattle.instruction.specs.Mnemonic.{mnemonicOf}
 use Rattle.instruction.specs.Parts.{partsOf}
 use Rattle.instruction.specs.declared.instr.Instr.{Instr}
 use Rattle.ways.specs.At.{fitsHere, instrHere, waysHere}
-use Rattle.ways.specs.Here.{hereOf}
 use Rattle.ways.specs.Targets.{nextOf, targetsIn, targetsAnswer}
-use Rattle.ways.specs.declared.here.Here.the-variants.{Whole}
 use Rattle.ways.proofs.Ands.{both, second-part}
 use Rattle.ways.proofs.AskedAlone.{found}
 use Rattle.ways.proofs.HereIs.{answer, whole-here}
@@ -36,7 +34,6 @@ use Rattle.views.specs.Positions.{tracedAt}
 use Rattle.views.specs.View.{offJmpf, misplaced, damagedHere}
 use Rattle.views.proofs.TracedAt.{traced-inside}
 use Rattle.views_laws.specs.ClaimsCode.{Reachable}
-use Rattle.views_laws.specs.ClaimsSound.{Undamaged}
 use Rattle.views_laws.proofs.ClaimsCodeBytes.{traced-reached, reached-traced}
 use Rattle.views_laws.proofs.Finished.{sized, covered, marks-are, ended}
 use Rattle.views_laws.proofs.Reached.{plainly, over, reached-inside}
@@ -44,7 +41,7 @@ use Rattle.listing.specs.Hex.{hex4, hexes}
 use Rattle.listing.specs.Line.{line}
 use Rattle.listing.specs.Lines.{hereLine, instrLine}
 use Rattle.listing.specs.Operand.{firstOf, operandsBy}
-use Rattle.listing_laws.specs.ClaimsShown.{Shown, TracedShown, TracedReachable}
+use Rattle.listing_laws.specs.ClaimsShown.{TracedShown, TracedReachable}
 
 -- a traced instruction that is cut off would be damage
 uncut : (image m : List ℕ) (p : ℕ) → tracedMark (getD m p 0) ≡ true → damagedHere image m p ≡ false → fitsHere image p ≡ true

@@ -1,6 +1,6 @@
 -- How wide the line of an instruction can be: each kind of operand has a width, and antt computes the sum for each of the 70 forms.
 -- Assumes nothing.
-use mathlib.Core.Path.{_≡_, refl, ap, _∙_}
+use mathlib.Core.Path.{_≡_, refl}
 use mathlib.Core.Bool.{Bool, true, false, cond}
 use mathlib.Core.List.{List, [], _∷_, _++_}
 use Prim.Native.Nat.{ℕ, _+_, _*_, _<_, _≤_}
@@ -19,7 +19,7 @@ use Rattle.instruction.specs.Mnemonic.{mnemonicOf, lettersOf}
 use Rattle.instruction.specs.Parts.{partsOf}
 use Rattle.instruction.specs.declared.instr.Instr.{Instr}
 use Rattle.instruction.proofs.Shapes.{at-each}
-use Rattle.listing.specs.Hex.{hex2, hex3, hex4, hexes}
+use Rattle.listing.specs.Hex.{hex4, hexes}
 use Rattle.listing.specs.Line.{fields}
 use Rattle.listing.specs.Lines.{instrLine}
 use Rattle.listing.specs.Operand.{target, shown, shownAll, operandsBy, operands}

@@ -1,7 +1,7 @@
 -- What an `I` line shows: the processor's instruction as far as the patterns are the processor's. Document 01, 'The listing', 'Targets'
 -- and 'Marks and steps'.
 -- Assumes nothing.
-use Prim.Native.Nat.{ℕ, _+_, _≤_}
+use Prim.Native.Nat.{ℕ, _≤_}
 use Prim.Native.Char.{code}
 use mathlib.Core.Bool.{true}
 use mathlib.Core.List.{List, _∷_}

@@ -6,7 +6,7 @@ use Prim.Native.Nat.{ℕ}
 use native.Mathlib.Omega.{arith}
 use lib.IntN.{ℤ}
 use mathlib.Core.List.{List, [], _∷_, _++_}
-use Rattle.operand.specs.Answer.{Answer, accepted, refused, Refusal, judge}
+use Rattle.operand.specs.Answer.{accepted, refused, Refusal, judge}
 
 module _ {A : Type 0} where
   pub pass : (r : Refusal) (rs : List Refusal) (a : A) → r .holds ≡ false → judge (r ∷ rs) a ≡ judge rs a

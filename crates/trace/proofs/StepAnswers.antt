@@ -8,7 +8,7 @@ use native.Mathlib.Omega.{arith}
 use lib.Dec.{eqb, leb}
 use lib.IntN.{pos}
 use lib.ListN.{length, getD}
-use borrow.Author.Tests.{lt-ltb, le-ltb, le-leb, lt-leb, eqb-false, ne-eqb}
+use borrow.Author.Tests.{lt-ltb, le-leb, lt-leb, eqb-false, ne-eqb}
 use Rattle.operand.specs.Answer.{Answer, refused, Refusal, judge, after, refuse}
 use Rattle.operand.specs.declared.answer.CutOff.{CutOff}
 use Rattle.operand.proofs.Judging.{pass, stop}

@@ -1,27 +1,18 @@
 -- The one answer of step and the one content of its marks, from the tests of the code.
 -- Assumes nothing.
 use mathlib.Core.Path.{_≡_, refl, sym, ap, ap₂, subst, _∙_}
-use mathlib.Core.Bool.{Bool, true, false, cond}
 use mathlib.Core.List.{List, [], _∷_, append-nil}
-use Prim.Native.Nat.{ℕ, _<_}
-use native.Mathlib.Omega.{arith}
+use Prim.Native.Nat.{ℕ}
 use lib.IntN.{ℤ, pos}
-use lib.ListN.{length, getD}
-use borrow.Author.Tests.{lt-ltb}
+use lib.ListN.{length}
 use Rattle.operand.specs.Answer.{Answer, accepted, refused, Refusal, judge, after}
 use Rattle.operand.proofs.Judging.{done, first-of, past-all}
-use Rattle.instruction.specs.Decode.{cutValues}
-use Rattle.instruction.specs.declared.instr.Instr.{Instr}
-use Rattle.operand.specs.declared.answer.CutOff.{CutOff}
 use Rattle.reach.specs.Tracer.{took}
-use Rattle.ways.specs.Here.{hereOf}
 use Rattle.trace.specs.Step.{damageRefusals, Said, saidOf, steppedOf}
 use Rattle.trace.specs.Taken.{TakenUp}
 use Rattle.ways.specs.Ways.{placesIn}
 use Rattle.trace.specs.Tracer.{tracerOf}
-use Rattle.ways.specs.At.{fitsHere, instrHere}
 use Rattle.ways.specs.declared.here.Here.{Here}
-use Rattle.ways.specs.declared.here.Here.the-variants.{Whole, Cut, Outside}
 use Rattle.trace.specs.declared.step.Advance.{Advance}
 use Rattle.trace.specs.declared.step.Stepped.the-variants.{Traced}
 use Rattle.trace.specs.declared.take.Taken.{Taken}

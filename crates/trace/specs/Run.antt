@@ -16,7 +16,6 @@ use Rattle.reach.specs.Run.{End, finished, stopped, cutOff, Outcome, steps, not
 use Rattle.trace.specs.Start.{sizeRefusals}
 use Rattle.trace.specs.Tracer.{tracerOf}
 use Rattle.ways.specs.At.{fitsHere}
-use Rattle.trace.specs.declared.run.Counts.{Counts}
 use Rattle.trace.specs.declared.run.Turn.{Turn}
 use Rattle.trace.specs.declared.run.Turn.the-variants.{On, Off}
 use Rattle.trace.specs.declared.run.Ran.{Ran}

@@ -15,7 +15,6 @@ use Rattle.trace.specs.Tracer.{tracerOf}
 use Rattle.ways.specs.At.{fitsHere, flashHere}
 use Rattle.trace.specs.declared.damage.Hurt.{Hurt}
 use Rattle.trace.specs.declared.damage.Hurt.the-variants.{Sound, At}
-use Rattle.trace.specs.declared.step.Advance.{Advance}
 use Rattle.trace.specs.declared.step.Stepped.{Stepped}
 use Rattle.trace.specs.declared.step.Stepped.the-variants.{Traced, LongImage, ShortMarks, NotWaiting, Cut, Damaged}
 

@@ -6,7 +6,6 @@ ghost use Rattle.reach.specs.Note.{note, fresh};
 ghost use mathlib.Core.List.{[], _∷_};
 ghost use Rattle.ways.specs.Ways.{placesIn};
 ghost use Rattle.trace.specs.Taken.{TakenUp};
-ghost use Rattle.trace.specs.Tracer.{tracerOf};
 ghost use Rattle.ways.specs.At.{waysHere};
 use crate::exempt;
 use crate::mark::Mark;

@@ -1,15 +1,14 @@
 -- Damage at a position: each test of the code is one of the definition.
 -- Assumes nothing.
 use mathlib.Core.Path.{_≡_, refl, sym, ap, _∙_}
-use mathlib.Core.Bool.{Bool, true, false, not, _&&_, _||_}
+use mathlib.Core.Bool.{Bool, true, false, not, _&&_}
 use mathlib.Core.List.{List}
 use Prim.Native.Nat.{ℕ, _+_, _<_, _≤_}
 use native.Mathlib.Omega.{arith}
 use lib.Dec.{leb, ltb, eqb}
 use lib.ListN.{length, getD}
 use borrow.Author.Tests.{leb-true, leb-false, lt-ltb, le-ltb, le-leb, eq-eqb, ne-eqb}
-use Rattle.instruction.specs.Forms.{numberOf}
-use Rattle.ways.specs.At.{formHere, sizeHere, fitsHere}
+use Rattle.ways.specs.At.{sizeHere, fitsHere}
 use Rattle.ways.proofs.Ands.{not-first}
 use Rattle.ways.proofs.Jmpf.{jmpf-by-byte}
 use Rattle.ways.proofs.Within.{Small, size-short}

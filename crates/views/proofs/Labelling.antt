@@ -2,14 +2,14 @@
 -- Assumes nothing.
 use mathlib.Core.Path.{_≡_, refl, sym, ap, ap₂, _∙_}
 use mathlib.Core.Bool.{Bool, true, false, cond, _||_}
-use mathlib.Core.List.{List, [], _++_}
-use Prim.Native.Nat.{ℕ, _+_, _-_, _<_, _≤_}
+use mathlib.Core.List.{List, _++_}
+use Prim.Native.Nat.{ℕ, _+_, _<_, _≤_}
 use native.Mathlib.Omega.{arith}
 use native.Mathlib.Nat.{zero-add, le-antisymm}
 use lib.Dec.{ltb, eqb}
-use lib.ListN.{length, getD, set, take, drop, replicate, length-map, length-replicate, getD-replicate, length-set, take-append-drop, List·getD-append}
+use lib.ListN.{length, getD, set, take, drop, replicate, length-map, length-replicate, getD-replicate, take-append-drop, List·getD-append}
 use lib.Seq.{getD-set-same, getD-set-other, getD-take, ext-getD, length-take-le, drop-set-lt, drop-at}
-use borrow.Author.Tests.{lt-ltb, le-ltb, ltb-true, ltb-false, eqb-true, eqb-false}
+use borrow.Author.Tests.{le-ltb, ltb-true, ltb-false, eqb-true, eqb-false}
 use Rattle.reach.specs.Mark.{cleared, tracedMark}
 use Rattle.trace.specs.Clear.{wiped}
 use Rattle.trace.specs.Tracer.{exemptHere}

@@ -1,12 +1,12 @@
 -- The refusals that all views share, in the order of the code.
 -- Assumes nothing.
-use mathlib.Core.Path.{_≡_, refl, sym, ap, _∙_}
+use mathlib.Core.Path.{_≡_, sym, ap, _∙_}
 use mathlib.Core.Bool.{true, false}
-use mathlib.Core.List.{List, [], _∷_, _++_}
+use mathlib.Core.List.{List, [], _∷_}
 use Prim.Native.Nat.{ℕ, _+_, _-_, _<_, _≤_}
 use lib.IntN.{pos}
 use lib.ListN.{length}
-use Rattle.operand.specs.Answer.{Answer, accepted, refused, Refusal, judge}
+use Rattle.operand.specs.Answer.{Answer, accepted, refused, judge}
 use Rattle.operand.proofs.Judging.{pass, stop, done}
 use Rattle.trace.proofs.Sizing.{long-image, short-marks, right-sizes}
 use Rattle.views.specs.Positions.{upFrom, positions}

@@ -1,15 +1,15 @@
 -- Which bytes are code: the mask of a finished run's marks.
 -- Assumes nothing.
 use mathlib.Core.Path.{_≡_, refl, sym, ap, subst, _∙_}
-use mathlib.Core.Bool.{Bool, true, false, _&&_, _||_}
-use mathlib.Core.List.{List, []}
+use mathlib.Core.Bool.{Bool, true, false, _||_}
+use mathlib.Core.List.{List}
 use mathlib.Core.Logic.{_⊎_, inl, inr}
-use Prim.Native.Nat.{ℕ, _+_, _<_, _≤_}
+use Prim.Native.Nat.{ℕ, _+_, _<_}
 use native.Mathlib.Omega.{arith}
 use native.Mathlib.Nat.{zero-add}
 use lib.Dec.{ltb, leb, eqb}
 use lib.ListN.{length, getD}
-use borrow.Author.Tests.{lt-ltb, ltb-true, le-leb, leb-true, eqb-true, eq-eqb}
+use borrow.Author.Tests.{lt-ltb, ltb-true, le-leb, leb-true, eqb-true}
 use Rattle.operand.proofs.Sign.{never}
 use Rattle.ways.specs.At.{sizeHere, fitsHere, waysHere}
 use Rattle.ways.proofs.Ands.{both, first-part, second-part}
@@ -20,12 +20,12 @@ use Rattle.reach.proofs.Cleared.{cleared-at}
 use Rattle.trace.specs.Tracer.{tracerOf}
 use Rattle.trace_laws.proofs.ClaimsImagesOrder.{image-run-final}
 use Rattle.views.specs.Mask.{under, covers, masked, maskOf}
-use Rattle.views.specs.Positions.{upFrom, positions, some, bit, tracedAt}
+use Rattle.views.specs.Positions.{bit, tracedAt}
 use Rattle.views.proofs.Ups.{up-at}
 use Rattle.views_laws.specs.ClaimsCode.{Code, CodeBytes}
 use Rattle.views_laws.proofs.Finished.{sized, covered, marks-are, ended}
 use Rattle.views_laws.proofs.Reached.{plainly, over, reached-inside}
-use Rattle.views_laws.proofs.Somes.{Passes, which, passing}
+use Rattle.views_laws.proofs.Somes.{which, passing}
 
 -- marks that are final
 module _ (image marks entries m : List ℕ) (F : Final (tracerOf image) (cleared (length image) marks) entries m) where

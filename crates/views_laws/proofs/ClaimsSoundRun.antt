@@ -1,9 +1,9 @@
 -- No taking up damages a mark: a 2 or 3 comes where the instruction fits, and a 3 on a Jmpf.
 -- Assumes nothing.
 use mathlib.Core.Path.{_≡_, refl, sym, ap, subst, _∙_}
-use mathlib.Core.Bool.{Bool, true, false, not, cond, _&&_, _||_}
+use mathlib.Core.Bool.{Bool, true, false, cond, _||_}
 use mathlib.Core.List.{List}
-use Prim.Native.Nat.{ℕ, _-_, _<_, _≤_}
+use Prim.Native.Nat.{ℕ, _<_, _≤_}
 use native.Mathlib.Omega.{arith}
 use lib.Dec.{eqb, leb}
 use lib.ListN.{length, getD}
@@ -24,7 +24,7 @@ use Rattle.trace.specs.Run.{outcomeOf}
 use Rattle.trace.specs.Step.{damaged}
 use Rattle.trace.specs.Tracer.{tracerOf, exemptHere}
 use Rattle.views.specs.View.{offJmpf, misplaced, damagedHere}
-use Rattle.views_laws.specs.ClaimsSound.{Undamaged, RunUndamaged}
+use Rattle.views_laws.specs.ClaimsSound.{RunUndamaged}
 
 module _ (image : List ℕ) where
   abbrev n : ℕ

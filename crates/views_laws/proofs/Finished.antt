@@ -2,14 +2,14 @@
 -- Assumes nothing.
 use mathlib.Core.Path.{_≡_, refl, sym, ap, _∙_}
 use mathlib.Core.Bool.{Bool, true, false}
-use mathlib.Core.List.{List, [], _∷_}
-use Prim.Native.Nat.{ℕ, _<_, _≤_}
+use mathlib.Core.List.{List}
+use Prim.Native.Nat.{ℕ, _≤_}
 use native.Mathlib.Omega.{arith}
 use lib.Dec.{ltb}
-use lib.IntN.{ℤ, pos}
+use lib.IntN.{ℤ}
 use lib.ListN.{length}
-use borrow.Author.Tests.{ltb-true, ltb-false, le-ltb, lt-ltb}
-use Rattle.operand.specs.Answer.{Answer, accepted, refused, judge, after}
+use borrow.Author.Tests.{ltb-false}
+use Rattle.operand.specs.Answer.{Answer, accepted, refused, after}
 use Rattle.operand.proofs.Judging.{pass, stop}
 use Rattle.operand.proofs.Sign.{never}
 use Rattle.reach.specs.Run.{End, finished, stopped, cutOff, Outcome, steps, noted}

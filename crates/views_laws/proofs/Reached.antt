@@ -1,9 +1,8 @@
 -- Reachable over a cleared table is reachable: no mark is in the way.
 -- Assumes nothing.
-use mathlib.Core.Path.{_≡_, refl}
+use mathlib.Core.Path.{refl}
 use mathlib.Core.List.{List, []}
 use Prim.Native.Nat.{ℕ}
-use lib.ListN.{length, getD}
 use Rattle.reach.specs.Mark.{cleared}
 use Rattle.reach.specs.Note.{Open}
 use Rattle.reach.specs.Reach.{Reach, entry, target}

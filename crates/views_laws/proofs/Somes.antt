@@ -6,7 +6,6 @@ use Prim.Native.Nat.{ℕ, zero, suc, _+_, _<_, _≤_}
 use native.Mathlib.Omega.{arith}
 use Rattle.operand.proofs.Sign.{never}
 use Rattle.views.specs.Positions.{upFrom, some}
-use Rattle.views.proofs.Ors.{or-first, or-second}
 
 -- the one that passes
 pub record Passes (f : ℕ → Bool) (k q : ℕ) : Type 0 where

@@ -20,7 +20,7 @@ use Rattle.ways.specs.Here.{hereOf}
 use Rattle.ways.specs.At.{formHere, sizeHere, fitsHere, instrHere}
 use Rattle.ways.specs.declared.here.Here.the-variants.{Whole, Cut, Outside}
 
-made : {d : CutOff} {a b : ℕ} → d .position ≡ a → d .first ≡ b → d ≡ record { position = a; first = b }
+pub made : {d : CutOff} {a b : ℕ} → d .position ≡ a → d .first ≡ b → d ≡ record { position = a; first = b }
 made {d} x y = ap₂ (λ (p : ℕ) (f : ℕ). record { position = p; first = f }) x y
 
 -- a part to the end is the rest

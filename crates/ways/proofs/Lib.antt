@@ -1,4 +1,5 @@
 pub mod Ands
+pub mod FirstByte
 pub mod ReadBack
 pub mod InRange
 pub mod ShortSum
@@ -9,3 +10,4 @@ pub mod Jmpf
 pub mod Within
 pub mod WaysAre
 pub mod Naming
+pub mod Openings

@@ -1,14 +1,14 @@
 -- Where control goes from a position: what each answer says, and where each is the answer.
 -- Assumes nothing.
 use mathlib.Core.Path.{_≡_, refl, sym, ap, _∙_}
-use mathlib.Core.Bool.{Bool, true, false, cond, _&&_}
+use mathlib.Core.Bool.{Bool, true, false, cond}
 use mathlib.Core.List.{List, [], _∷_, map}
 use Prim.Native.Nat.{ℕ, _+_, _<_, _≤_}
 use native.Mathlib.Omega.{arith}
-use lib.Dec.{ltb, leb}
+use lib.Dec.{ltb}
 use lib.IntN.{ℤ, pos}
 use lib.ListN.{length, getD}
-use borrow.Author.Tests.{lt-ltb, le-ltb, ltb-true, ltb-false, le-leb, lt-leb}
+use borrow.Author.Tests.{lt-ltb, ltb-true, le-leb}
 use Rattle.operand.specs.declared.answer.CutOff.{CutOff}
 use Rattle.instruction.specs.Decode.{cutValues}
 use Rattle.instruction.specs.Flow.{flowOf}
@@ -44,19 +44,7 @@ pub two-at-most : (image : List ℕ) (p : ℕ) → placesIn (placesNamed (waysHe
 unfolding waysHere targetsIn
 two-at-most image p = by-flow (flowOf (partsOf (instrHere image p) .form)) (addressIn (p + sizeHere image p) (instrHere image p)) (pos (p + sizeHere image p))
 
-never : (b : Bool) (w : Ways) → way.Outside ≡ cond (b && false) w way.Outside
-never true w = refl
-never false w = refl
-
 module _ (image : List ℕ) (p : ℕ) where
-  pub past-limit : 65536 < length image → way.Outside ≡ waysOf image p
-  unfolding waysOf
-  past-limit h = rw (lt-leb (length image) 65536 h) (never (ltb p (length image)) _)
-
-  pub not-inside : length image ≤ p → way.Outside ≡ waysOf image p
-  unfolding waysOf
-  not-inside h = rw (le-ltb p (length image) h)
-
   module _ (inside : p < length image) where
     here-is : (h : Here) → h ≡ hereOf image p → (t : Bool) → fitsHere image p ≡ t → h ≡ cond t (Whole (instrHere image p)) (Cut (record { position = p; first = getD image p 0 }))
     unfolding hereOf
@@ -95,18 +83,12 @@ module _ (image : List ℕ) (p : ℕ) where
   pub whole-inside : (i : Instr) → Whole i ≡ hereOf image p → p < length image
   whole-inside i e = stands-inside (Whole i) e (λ f. let z : _≡_ {A = ℕ} 0 1 = cc in omega arith)
 
-  pub cut-inside : (c : CutOff) → Cut c ≡ hereOf image p → p < length image
-  cut-inside c e = stands-inside (Cut c) e (λ f. let z : _≡_ {A = ℕ} 0 1 = cc in omega arith)
-
   pub here-outside : Outside ≡ hereOf image p → ltb p (length image) ≡ false
   here-outside e = by (ltb p (length image)) refl
     where
       by : (b : Bool) → ltb p (length image) ≡ b → ltb p (length image) ≡ false
       by true f = absurd (here-inside (ltb-true p (length image) f) e)
       by false f = f
-
-  pub outside-goes : Outside ≡ hereOf image p → way.Outside ≡ waysOf image p
-  outside-goes e = not-inside (ltb-false p (length image) (here-outside e))
 
   module _ (inside : p < length image) where
     module _ (small : length image ≤ 65536) where
@@ -116,9 +98,6 @@ module _ (image : List ℕ) (p : ℕ) where
 
       pub whole-goes : fitsHere image p ≡ true → (ps : Places) → placesIn ps ≡ waysHere image p → way.Goes ps ≡ waysOf image p
       whole-goes f ps e = ap way.Goes (named-back ps ∙ ap placesNamed e) ∙ sym (ways-is (waysOf image p) refl true f)
-
-      pub cut-goes : fitsHere image p ≡ false → (c : CutOff) → c ≡ record { position = p; first = getD image p 0 } → way.Cut c ≡ waysOf image p
-      cut-goes f c e = ap way.Cut e ∙ sym (ways-is (waysOf image p) refl false f)
 
       pub goes-whole : (ps : Places) → way.Goes ps ≡ waysOf image p → (fitsHere image p ≡ true) × (placesIn ps ≡ waysHere image p)
       goes-whole ps e = by (fitsHere image p) refl

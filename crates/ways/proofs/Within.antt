@@ -1,11 +1,9 @@
 -- The instruction at a position fits its fields and its place, and where control goes from it are the places of its targets.
 -- Assumes nothing.
-use mathlib.Core.Path.{_≡_, ap, _∙_}
+use mathlib.Core.Path.{_≡_, ap}
 use mathlib.Core.Bool.{true}
-use mathlib.Core.List.{List, [], _∷_, map}
+use mathlib.Core.List.{List}
 use Prim.Native.Nat.{ℕ, _+_, _<_, _≤_}
-use native.Mathlib.Omega.{arith}
-use lib.IntN.{ℤ}
 use lib.ListN.{length, getD, drop}
 use lib.Seq.{getD-drop}
 use borrow.Author.Tests.{leb-true}
@@ -19,11 +17,7 @@ use Rattle.instruction.proofs.Shapes.{size-range}
 use Rattle.instruction_laws.proofs.EncodeDecoded.{encode-decoded}
 use Rattle.instruction_laws.proofs.Matching.{one-pattern}
 use Rattle.instruction_laws.proofs.PartsMade.{parted}
-use Rattle.ways.specs.Ways.{placesOf}
-use Rattle.ways.specs.Targets.{targetsIn, targetsOf}
-use Rattle.ways.specs.At.{formHere, sizeHere, fitsHere, instrHere, waysHere, placeOf}
-use Rattle.ways.specs.declared.target.Targets.{Targets}
-use Rattle.ways.specs.declared.target.Targets.the-variants.{Nowhere, One, Two, PastEnd, Unfit}
+use Rattle.ways.specs.At.{formHere, sizeHere, fitsHere, instrHere}
 use Rattle.ways.proofs.HereIs.{answer}
 
 -- every element of an image is a byte
@@ -60,16 +54,3 @@ within image p b h f =
       least = size-short image p b .0;
       most = leb-true (p + sizeHere image p) (length image) f;
     }
-
--- the positions that targets name are the places of the targets
-pub places-are : (w : Targets) (ts : List ℤ) → targetsOf w ≡ accepted ts → placesOf w ≡ map placeOf ts
-places-are Nowhere ts e = let f : [] ≡ ts = cc in ap (map placeOf) f
-places-are (One a) ts e = let f : a ∷ [] ≡ ts = cc in ap (map placeOf) f
-places-are (Two a b) ts e = let f : a ∷ b ∷ [] ≡ ts = cc in ap (map placeOf) f
-places-are (PastEnd n) ts e = let z : _≡_ {A = ℕ} 0 1 = cc in absurd (omega arith)
-places-are (Unfit m) ts e = let z : _≡_ {A = ℕ} 0 1 = cc in absurd (omega arith)
-
--- and the targets at the instruction's end are those of the position
-pub ways-are : (image : List ℕ) (p : ℕ) (i : Instr) → i ≡ instrHere image p → (n : ℕ) → n ≡ p + sizeHere image p → (w : Targets) → targetsOf w ≡ accepted (targetsIn n i) → placesOf w ≡ waysHere image p
-unfolding waysHere
-ways-are image p i f n g w t = rw (← f, ← g) (places-are w (targetsIn n i) t)

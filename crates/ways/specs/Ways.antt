@@ -5,27 +5,17 @@ use mathlib.Core.Bool.{Bool, cond, _&&_}
 use mathlib.Core.List.{List, [], _∷_}
 use lib.Dec.{ltb, leb}
 use lib.ListN.{length, getD}
-use Rattle.ways.specs.At.{fitsHere, placeOf, waysHere, nameHere}
+use Rattle.ways.specs.At.{fitsHere, waysHere, nameHere}
 use Rattle.ways.specs.declared.place.Places.{Places}
 use Rattle.ways.specs.declared.place.Places.the-variants.{Nothing, First, Both}
 use Rattle.ways.specs.declared.place.Ways.{Ways}
 use Rattle.ways.specs.declared.place.Ways.the-variants.{Goes, Cut, Outside}
-use Rattle.ways.specs.declared.target.Targets.{Targets}
-use Rattle.ways.specs.declared.target.Targets.the-variants.{Nowhere, One, Two, PastEnd, Unfit}
 
 -- these positions, in their order
 abbrev pub placesIn : Places → List ℕ
 placesIn Nothing = []
 placesIn (First a) = a ∷ []
 placesIn (Both a b) = a ∷ b ∷ []
-
--- the positions that targets name, in their order
-abbrev pub placesOf : Targets → List ℕ
-placesOf Nowhere = []
-placesOf (One a) = placeOf a ∷ []
-placesOf (Two a b) = placeOf a ∷ placeOf b ∷ []
-placesOf (PastEnd n) = []
-placesOf (Unfit m) = []
 
 -- the first two of these positions
 abbrev pub placesNamed : List ℕ → Places

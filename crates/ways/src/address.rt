@@ -11,8 +11,12 @@ ghost use Rattle.operand.specs.Range.{unfit};
 ghost use Rattle.operand.specs.declared.kind.Kind.the-variants.{Page, Short, Long};
 ghost use Rattle.instruction.specs.Encode.{fitAnswer};
 ghost use lib.ListN.{length};
-ghost use Rattle.ways.specs.At.{sizeHere, fitsHere, instrHere};
+ghost use Rattle.ways.specs.At.{sizeHere, fitsHere, instrHere, placeOf};
 ghost use Rattle.ways.specs.Targets.{addressOf, addressIn, isGiven, targetsIn, targetsOf};
+use crate::here;
+use crate::here::Here;
+use crate::image::Image;
+use crate::place;
 use crate::target::Targets;
 use instruction::Flow;
 use instruction::Instr;
@@ -111,13 +115,17 @@ pub fn address_in(next: u32, instr: Instr) -> i32
     address_of(next, ka, v.a)
 }
 
-// Where the instruction that stands at p ends: within memory, and its fields are in range.
-pub fn next_of(image: &[u8], p: u32, instr: Instr) -> u32
+// The position that the address of the instruction at p names.
+pub fn place_at(image: &[u8], p: u32, next: u32) -> u32
     requires { ⌜ (p < length (now image)) × (length (now image) ≤ 65536) ⌝ }
-    requires { ⌜ (fitsHere (now image) p ≡ true) × (instr ≡ instrHere (now image) p) ⌝ }
-    ensures { λ r. ⌜ (r ≡ p + sizeHere (now (image .entry)) p) × (1 ≤ r) × (r ≤ 65536) × (fitAnswer instr ≡ accepted tt) ⌝ }
+    requires { ⌜ (fitsHere (now image) p ≡ true) × (next ≡ p + sizeHere (now image) p) ⌝ }
+    ensures { λ r. ⌜ r ≡ placeOf (addressIn (p + sizeHere (now (image .entry)) p) (instrHere (now (image .entry)) p)) ⌝ }
 {
-    p + instr.size() as u32
+    match here::instr_at(image, p) {
+        Here::Whole(i) => place::place(address_in(next, i)),
+        Here::Cut(_) => Image::NOWHERE,
+        Here::Outside => Image::NOWHERE,
+    }
 }
 
 // The targets of an instruction whose fields are in range and that ends within memory.

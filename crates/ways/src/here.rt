@@ -2,6 +2,7 @@
 ghost use mathlib.Core.Path.{_≡_};
 ghost use Rattle.ways.specs.At.{sizeHere};
 ghost use Rattle.ways.specs.Here.{hereOf};
+use crate::first;
 use instruction::Decoded;
 use instruction::Instr;
 use operand::CutOff;
@@ -22,7 +23,7 @@ pub fn size_at(image: &[u8], p: u32) -> u32
     if image.len() <= at {
         return 1;
     }
-    Instr::with_first(image[at], 0, 0, 0).size() as u32
+    first::size_by(image[at])
 }
 
 pub fn instr_at(image: &[u8], p: u32) -> Here

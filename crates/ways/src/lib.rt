@@ -2,10 +2,12 @@
 // Ported from src/disasm.rs of wtetzner/waterbear (Apache-2.0, see NOTICE), and changed: targets are signed numbers.
 mod address;
 pub mod alone;
+mod first;
 pub mod flash;
 pub mod here;
 pub mod image;
 pub mod name;
+mod opening;
 pub mod place;
 pub mod target;
 

@@ -1,16 +1,16 @@
 // Where control goes from a position of an image.
 ghost use mathlib.Core.Path.{_≡_};
 ghost use mathlib.Core.Bool.{true};
-ghost use Prim.Native.Nat.{_≤_, _<_};
+ghost use Prim.Native.Nat.{_+_, _≤_, _<_};
+ghost use Rattle.instruction.specs.Flow.{flowOf};
 ghost use lib.ListN.{length};
-ghost use Rattle.ways.specs.At.{fitsHere, instrHere, placeOf, waysHere};
-ghost use Rattle.ways.specs.Ways.{placesIn, placesOf, waysOf};
+ghost use Rattle.ways.specs.At.{formHere, sizeHere, fitsHere, placeOf, waysHere};
+ghost use Rattle.ways.specs.Ways.{placesIn, waysOf};
 use crate::address;
-use crate::here;
-use crate::here::Here;
 use crate::image::Image;
-use crate::target::Targets;
-use instruction::Instr;
+use crate::opening;
+use crate::opening::Opening;
+use instruction::Flow;
 use operand::CutOff;
 
 // At most two positions, in their order.
@@ -39,37 +39,26 @@ pub fn place(t: i32) -> u32
     t as u32
 }
 
-// The positions that targets name.
-fn named(ways: Targets) -> Places
-    ensures { λ r. ⌜ placesIn r ≡ placesOf ways ⌝ }
-{
-    match ways {
-        Targets::Nowhere => Places::Nothing,
-        Targets::One(a) => Places::First(place(a)),
-        Targets::Two(a, b) => Places::Both(place(a), place(b)),
-        Targets::PastEnd(_) => Places::Nothing,
-        Targets::Unfit(_) => Places::Nothing,
-    }
-}
-
-// The positions that the targets of the instruction at p name.
-fn places_at(image: &[u8], p: u32, instr: Instr) -> Places
+// The positions that the targets of the instruction at p name, by where it ends and where control goes.
+fn places_by(image: &[u8], p: u32, next: u32, flow: Flow) -> Places
     requires { ⌜ (p < length (now image)) × (length (now image) ≤ 65536) ⌝ }
-    requires { ⌜ (fitsHere (now image) p ≡ true) × (instr ≡ instrHere (now image) p) ⌝ }
+    requires { ⌜ (fitsHere (now image) p ≡ true) × (next ≡ p + sizeHere (now image) p) × (flow ≡ flowOf (formHere (now image) p)) ⌝ }
     ensures { λ r. ⌜ placesIn r ≡ waysHere (now (image .entry)) p ⌝ }
 {
-    named(address::ways(address::next_of(image, p, instr), instr))
+    match flow {
+        Flow::Stop => Places::Nothing,
+        Flow::Next => Places::First(next),
+        Flow::Jump => Places::First(address::place_at(image, p, next)),
+        Flow::Branch => Places::Both(address::place_at(image, p, next), next),
+    }
 }
 
 pub fn ways_at(image: &[u8], p: u32) -> Ways
     ensures { λ r. ⌜ r ≡ waysOf (now (image .entry)) p ⌝ }
 {
-    if Image::LIMIT < image.len() {
-        return Ways::Outside;
-    }
-    match here::instr_at(image, p) {
-        Here::Whole(i) => Ways::Goes(places_at(image, p, i)),
-        Here::Cut(c) => Ways::Cut(c),
-        Here::Outside => Ways::Outside,
+    match opening::opening_at(image, p) {
+        Opening::Whole(next, flow) => Ways::Goes(places_by(image, p, next, flow)),
+        Opening::Cut(c) => Ways::Cut(c),
+        Opening::Outside => Ways::Outside,
     }
 }

@@ -1,10 +1,8 @@
 -- `form::lookup` meets its contract: antt computes document 01's rule at each first byte and compares the list with the table.
 -- Assumes nothing.
 use mathlib.Core.Path.{_≡_, subst, sym}
-use mathlib.Core.List.{List}
 use Prim.Native.Nat.{ℕ, _<_}
 use lib.Dec.{ltb, ltb→lt}
-use lib.ListN.{getD}
 use borrow.Author.Needs.{needs}
 use Rattle.instruction.specs.Forms.{forms, numberOf}
 use Rattle.instruction.specs.Grid.{grid, ruleOf}

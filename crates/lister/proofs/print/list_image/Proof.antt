@@ -5,7 +5,6 @@ use mathlib.Core.List.{List}
 use Prim.Native.Nat.{ℕ}
 use borrow.Author.Needs.{needs}
 use Rattle.trace.specs.Run.{ranOf}
-use Rattle.views.specs.View.{viewedOf}
 use Rattle.lister.specs.Output.{refusalLine}
 use Rattle.lister.specs.Output as output
 use Rattle.lister.proofs.Images.{lent-is, refused-text, listed-run, said}

@@ -1,14 +1,10 @@
 -- `mask::end_with` meets its contract.
 -- Assumes nothing.
-use mathlib.Core.Path.{_≡_, sym, ap, _∙_}
-use mathlib.Core.Bool.{true, false, cond, _&&_}
-use mathlib.Core.List.{List}
-use Prim.Native.Nat.{ℕ, _+_, _<_, _≤_}
+use mathlib.Core.Path.{sym, _∙_}
+use Prim.Native.Nat.{_<_, _≤_}
 use native.Mathlib.Omega.{arith}
 use borrow.Author.Needs.{needs}
-use borrow.Author.Tests.{lt-ltb, le-ltb}
-use lib.ListN.{length, getD}
-use Rattle.ways.specs.At.{sizeHere}
+use lib.ListN.{length}
 use Rattle.ways.proofs.Within.{size-short}
 use Rattle.views.proofs.Masking.{ends-further, ends-nearer, ends-untraced}
 use Rattle.views.proofs.mask.end_with.Statement.{statement}

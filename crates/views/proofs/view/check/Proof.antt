@@ -5,7 +5,6 @@ use mathlib.Core.List.{List}
 use Prim.Native.Nat.{ℕ, _≤_, _-_}
 use native.Mathlib.Omega.{arith}
 use borrow.Author.Needs.{needs}
-use lib.ListN.{length}
 use Rattle.views.proofs.Refusing.{long, short, Left, left-start, left-next, hurt, sound}
 use Rattle.views.proofs.view.check.Statement.{statement}
 use Rattle.views.proofs.view.check.Tie as tie

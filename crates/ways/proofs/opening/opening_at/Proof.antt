@@ -1,0 +1,50 @@
+-- `opening::opening_at` meets its contract.
+-- Assumes nothing.
+use mathlib.Core.Path.{_≡_, ap}
+use mathlib.Core.List.{List}
+use Prim.Native.Nat.{ℕ, _+_}
+use native.Mathlib.Omega.{arith}
+use borrow.Author.Needs.{needs}
+use Rattle.ways.specs.At.{sizeHere}
+use Rattle.ways.proofs.Openings.{past-limit, past-end, is-cut, is-whole}
+use Rattle.ways.proofs.Within.{size-short}
+use Rattle.ways.proofs.opening.opening_at.Statement.{statement}
+use Rattle.ways.proofs.opening.opening_at.Tie as tie
+
+abbrev start : tie.After-size-by → tie.Start
+start c = c .before .before .before .before .before
+
+abbrev image : tie.After-size-by → List ℕ
+image c = start c .args .image .now
+
+abbrev p : tie.After-size-by → ℕ
+p c = start c .args .p
+
+-- where the instruction ends
+next-is : (c : tie.After-size-by) → p c + c .size-by .result ≡ p c + sizeHere (image c) (p c)
+next-is c = ap (λ (k : ℕ). p c + k) (c .size-by .ensures)
+
+add-next : tie.Need-add-next
+add-next c =
+    let s = size-short (image c) (p c) (λ n. c .before .shared-slice-known2 .given n .fits) .1 in
+    let h = c .before .before .before .if1 .left in
+    let k = c .before .before .if2 .left in
+    record { fits = omega (arith, next-is c, s, h, k) }
+
+returns-3 : tie.Need-returns-3
+returns-3 c =
+    let t = c .before in
+    let a = t .before in
+    is-cut (image a) (p a) (a .before .before .before .if1 .left) (a .before .before .if2 .left) _ (next-is a) (t .if3 .taken) (c .new .result) (c .new .ensures)
+
+returns-4 : tie.Need-returns-4
+returns-4 c =
+    let t = c .before in
+    let a = t .before in
+    is-whole (image a) (p a) (a .before .before .before .if1 .left) (a .before .before .if2 .left) _ (next-is a) (t .if3 .left) (c .flow-by .result) (c .flow-by .ensures)
+
+pub opening-at-spec : {M : Type 1} → statement M
+opening-at-spec =
+    tie.close
+    (tie.spec (λ c. past-limit _ _ (c .if1 .taken)) (λ c. past-end _ _ (c .if2 .taken)) (λ c. search needs) (λ c κs. search needs) add-next
+    (λ c. search needs) (λ c κs. search needs) returns-3 (λ c κs. search needs) returns-4)

@@ -1,0 +1,34 @@
+// What the first byte at a position says: where its instruction ends, if it is not cut off, and where control goes from it.
+ghost use mathlib.Core.Path.{_≡_};
+ghost use Rattle.ways.specs.Opening.{openingOf};
+use crate::first;
+use crate::image::Image;
+use instruction::Flow;
+use operand::CutOff;
+
+pub enum Opening {
+    // Where it ends.
+    Whole(u32, Flow),
+    Cut(CutOff),
+    // The position is not inside, or the image is past its limit.
+    Outside,
+}
+
+pub fn opening_at(image: &[u8], p: u32) -> Opening
+    ensures { λ r. ⌜ r ≡ openingOf (now (image .entry)) p ⌝ }
+{
+    let n = image.len();
+    let at = p as usize;
+    if Image::LIMIT < n {
+        return Opening::Outside;
+    }
+    if n <= at {
+        return Opening::Outside;
+    }
+    let first = image[at];
+    let next = p + first::size_by(first);
+    if n < next as usize {
+        return Opening::Cut(CutOff::new(p, first));
+    }
+    Opening::Whole(next, first::flow_by(first))
+}
