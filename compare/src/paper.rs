@@ -2,7 +2,10 @@
 //! the calls that have no counterpart in the original, and are themselves held against the original
 //! where there is one.
 
+pub mod fields;
 pub mod flow;
+pub mod input;
+pub mod listing;
 pub mod tracer;
 pub mod views;
 

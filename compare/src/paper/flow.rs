@@ -58,7 +58,7 @@ pub fn flow(first: u8) -> Flow {
 }
 
 /// The field that names an address, in the bytes of a whole instruction.
-fn field(kind: Kind, bytes: &[u8]) -> i64 {
+pub(super) fn field(kind: Kind, bytes: &[u8]) -> i64 {
     let byte = |at: usize| i64::from(bytes[at]);
     match kind {
         Whole => byte(1) * 256 + byte(2),

@@ -77,33 +77,41 @@ pub fn target_marks(image: &[u8], marks: &[u8], room: &mut [u8]) -> Answer {
     })
 }
 
+/// The overlaps at a position, of marks that are not damaged.
+pub fn overlaps_at(image: &[u8], marks: &[u8], at: usize) -> Vec<u32> {
+    let is_traced = |at: usize| at < image.len() && tracer::is_traced(marks[at]);
+    if !is_traced(at) {
+        return vec![];
+    }
+    let before = at.checked_sub(1).filter(|at| is_traced(*at));
+    let before = before.filter(|at| flow::size(image[*at]) >= 2);
+    let after = (at + 1..at + flow::size(image[at])).filter(|at| is_traced(*at));
+    before
+        .into_iter()
+        .chain(after)
+        .map(|at| at as u32)
+        .collect()
+}
+
 pub fn overlaps(image: &[u8], marks: &[u8], position: u32, room: &mut [u32]) -> Answer {
     show(image, marks, room, || {
-        let at = position as usize;
-        let is_traced = |at: usize| at < image.len() && tracer::is_traced(marks[at]);
-        if !is_traced(at) {
-            return vec![];
-        }
-        let before = at.checked_sub(1).filter(|at| is_traced(*at));
-        let before = before.filter(|at| flow::size(image[*at]) >= 2);
-        let after = (at + 1..at + flow::size(image[at])).filter(|at| is_traced(*at));
-        before
-            .into_iter()
-            .chain(after)
-            .map(|at| at as u32)
-            .collect()
+        overlaps_at(image, marks, position as usize)
     })
+}
+
+/// The arrivals at a position, of marks that are not damaged.
+pub fn arrivals_at(image: &[u8], marks: &[u8], at: usize) -> Vec<u32> {
+    if at >= image.len() {
+        return vec![];
+    }
+    let followed = traced(image, marks).filter(|at| marks[*at] != UNFOLLOWED);
+    let arriving = followed.filter(|from| flow::targets_at(image, *from).contains(&(at as i64)));
+    arriving.map(|from| from as u32).collect()
 }
 
 pub fn arrivals(image: &[u8], marks: &[u8], position: u32, room: &mut [u32]) -> Answer {
     show(image, marks, room, || {
-        if position as usize >= image.len() {
-            return vec![];
-        }
-        let followed = traced(image, marks).filter(|at| marks[*at] != UNFOLLOWED);
-        let target = i64::from(position);
-        let arriving = followed.filter(|at| flow::targets_at(image, *at).contains(&target));
-        arriving.map(|at| at as u32).collect()
+        arrivals_at(image, marks, position as usize)
     })
 }
 

@@ -1,0 +1,57 @@
+//! Prints what the listing program is given and what it must print, for a program of the repository to replay.
+//!
+//! A line is a letter and what belongs to it, to the line's end.
+//!
+//! - `#`: what the case is about. `N`: how often the next part is meant, where it is not once.
+//! - `T`: a part of the input. `B`, `M`: a part of an image and of its marks, in hex.
+//! - `X`: a part of the output, from its beginning on; all of it where it is short.
+//! - `S`: the output's checksum by POSIX `cksum`. `L`: the first bad line of the input, or 0.
+//! - `=`: the length of the listing program's output. `-`, `+`: the length of a listing of the image and the
+//!   marks, without and with arrivals. With one of these a case ends.
+//!
+//! In a part `T` stands for a tab, as in document 01, and `|` for byte 10; `stored.rs` has the few others.
+//!
+//! The outputs are those of the plain program by document 01 in `src/paper/`. What the original has of
+//! them, it must have alike: `held.rs`.
+
+#[path = "lists/assembler.rs"]
+mod assembler;
+#[path = "lists/game.rs"]
+mod game;
+#[path = "lists/held.rs"]
+mod held;
+#[path = "lists/inputs.rs"]
+mod inputs;
+#[path = "lists/large.rs"]
+mod large;
+#[path = "lists/listings.rs"]
+mod listings;
+#[path = "lists/marked.rs"]
+mod marked;
+#[path = "lists/stored.rs"]
+mod stored;
+#[path = "lists/sum.rs"]
+mod sum;
+
+use stored::Case;
+
+fn main() {
+    compare::paper::check_widths();
+    compare::paper::flow::check_table();
+    let cases: Vec<Case> = [
+        inputs::cases(),
+        listings::cases(),
+        marked::cases(),
+        vec![game::case()],
+        large::cases(),
+    ]
+    .concat();
+    for case in &cases {
+        held::case(case);
+        print!("{}", case.lines());
+    }
+    eprintln!(
+        "{} listings, made by 'compare/run --lists SRC'",
+        cases.len()
+    );
+}

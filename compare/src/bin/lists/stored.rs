@@ -1,0 +1,137 @@
+//! A case and its lines in the stored list.
+
+use super::sum;
+use compare::paper::input;
+use compare::paper::listing::{self, Arrivals};
+
+/// Outputs up to this length stand whole in the list; of longer ones some lines.
+const WHOLE: usize = 4_096;
+const SOME: usize = 12;
+
+/// Bytes that a line of the list cannot hold as they are, and what stands for them.
+const MEANT: [(char, char); 6] = [
+    ('\t', 'T'),
+    ('\n', '|'),
+    ('\0', '!'),
+    ('\r', '^'),
+    (' ', '_'),
+    ('\u{FF}', '*'),
+];
+
+/// What is asked for.
+#[derive(Clone, Copy, PartialEq)]
+pub enum Asked {
+    /// The listing program's output for a text.
+    Output,
+    /// The listing of an image and its marks.
+    Listing(Arrivals),
+}
+
+/// What is given, in parts that are repeated, each with its letter. In a text each character stands for the
+/// byte of its number; images and marks are in hex.
+#[derive(Clone)]
+pub struct Case {
+    pub about: String,
+    pub asked: Asked,
+    parts: Vec<(char, usize, String)>,
+}
+
+impl Case {
+    pub fn new(about: &str, text: &str) -> Case {
+        let about = about.to_string();
+        let lines = text.split_inclusive('\n');
+        let parts = lines.map(|line| ('T', 1, line.to_string())).collect();
+        Case {
+            about,
+            asked: Asked::Output,
+            parts,
+        }
+    }
+
+    /// Of an image and marks, in hex.
+    pub fn of_marks(about: &str, arrivals: Arrivals, image: &str, marks: &str) -> Case {
+        let mut case = Case::new(about, "");
+        case.asked = Asked::Listing(arrivals);
+        case.and_part('B', 1, image).and_part('M', 1, marks)
+    }
+
+    pub fn and(self, times: usize, part: &str) -> Case {
+        self.and_part('T', times, part)
+    }
+
+    pub fn and_part(mut self, letter: char, times: usize, part: &str) -> Case {
+        if !part.is_empty() {
+            self.parts.push((letter, times, part.to_string()));
+        }
+        self
+    }
+
+    fn given(&self, wanted: char) -> String {
+        let parts = self.parts.iter().filter(|(letter, ..)| *letter == wanted);
+        parts.map(|(_, times, part)| part.repeat(*times)).collect()
+    }
+
+    pub fn text(&self) -> Vec<u8> {
+        let byte = |c| u8::try_from(u32::from(c)).expect("a character for each byte");
+        self.given('T').chars().map(byte).collect()
+    }
+
+    pub fn image(&self) -> Vec<u8> {
+        bytes(&self.given('B'))
+    }
+
+    pub fn marks(&self) -> Vec<u8> {
+        bytes(&self.given('M'))
+    }
+
+    pub fn output(&self) -> String {
+        match self.asked {
+            Asked::Output => listing::output(&self.text()),
+            Asked::Listing(arrivals) => listing::listing(&self.image(), &self.marks(), arrivals),
+        }
+    }
+
+    pub fn lines(&self) -> String {
+        let output = self.output();
+        let mut lines = format!("#{}\n", self.about);
+        for (letter, times, part) in &self.parts {
+            if *times != 1 {
+                lines += &format!("N{times}\n");
+            }
+            lines += &format!("{letter}{}\n", stored(part));
+        }
+        let shown = if output.len() <= WHOLE { WHOLE } else { SOME };
+        for line in output.split_inclusive('\n').take(shown) {
+            lines += &format!("X{}\n", stored(line));
+        }
+        lines + &format!("S{}\n", sum::of(output.as_bytes())) + &self.last(output.len())
+    }
+
+    fn last(&self, length: usize) -> String {
+        match self.asked {
+            Asked::Output => {
+                let bad = input::parse(&self.text()).err().unwrap_or(0);
+                format!("L{bad}\n={length}\n")
+            }
+            Asked::Listing(Arrivals::Declined) => format!("-{length}\n"),
+            Asked::Listing(Arrivals::Chosen) => format!("+{length}\n"),
+        }
+    }
+}
+
+fn bytes(hex: &str) -> Vec<u8> {
+    let pairs = hex.as_bytes().chunks(2);
+    let byte = |pair| u8::from_str_radix(str::from_utf8(pair).expect("digits"), 16);
+    pairs.map(|pair| byte(pair).expect("two digits")).collect()
+}
+
+fn stored(part: &str) -> String {
+    let stands = |c| {
+        let taken = MEANT.iter().any(|(_, other)| *other == c);
+        assert!(!taken, "{c} stands for a byte");
+        let found = MEANT.iter().find(|(byte, _)| *byte == c);
+        assert!(found.is_some() || c.is_ascii_graphic(), "{c:?}");
+        found.map_or(c, |(_, other)| *other)
+    };
+    part.chars().map(stands).collect()
+}

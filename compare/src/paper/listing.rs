@@ -1,0 +1,123 @@
+//! Document 01's listing and the listing program's output, written out a second time and plainly.
+
+use super::input::{self, Input};
+use super::{Kind, fields, flow, kinds, tracer, views};
+use crate::answer::Answer;
+use crate::original;
+use std::fmt::Write;
+
+/// The whole output of the listing program.
+pub fn output(text: &[u8]) -> String {
+    match input::parse(text) {
+        Err(_) => "R\t13\n".to_string(),
+        Ok(input) => match marks(&input) {
+            Err(answer) => format!("R\t{}\n", answer.number),
+            Ok(marks) => listing(&input.image, &marks, Arrivals::Declined),
+        },
+    }
+}
+
+/// The marks of a run with the image length as limit, or its refusal.
+pub fn marks(input: &Input) -> Result<Vec<u8>, Answer> {
+    let length = input.image.len();
+    let (mut marks, mut order) = (vec![0; length], vec![0; length]);
+    let limit = length as u32;
+    let answer = tracer::run(&input.image, &mut marks, &mut order, &input.entries, limit);
+    if answer.done() {
+        Ok(marks)
+    } else {
+        Err(answer)
+    }
+}
+
+#[derive(Clone, Copy, PartialEq)]
+pub enum Arrivals {
+    Chosen,
+    Declined,
+}
+
+/// The listing of marks that are not damaged.
+pub fn listing(image: &[u8], marks: &[u8], arrivals: Arrivals) -> String {
+    let (mut mask, mut labels) = (vec![0; image.len()], vec![0; image.len()]);
+    assert!(views::mask(image, marks, &mut mask).done());
+    assert!(views::target_marks(image, marks, &mut labels).done());
+    let mut lines = Lines::default();
+    let mut at = 0;
+    while at < image.len() {
+        if tracer::is_traced(marks[at]) {
+            if labels[at] == 1 {
+                lines.line('L', at, &[]);
+            }
+            lines.places('O', at, &views::overlaps_at(image, marks, at));
+            if arrivals == Arrivals::Chosen {
+                lines.places('A', at, &views::arrivals_at(image, marks, at));
+            }
+            lines.line('I', at, &instruction(image, at));
+            at += 1;
+        } else if mask[at] == 0 {
+            let run = data_run(image, &mask, at);
+            if run.iter().any(|byte| *byte != 0) {
+                lines.line('D', at, &[hex(run)]);
+            }
+            at += run.len();
+        } else {
+            at += 1;
+        }
+    }
+    lines.0
+}
+
+fn data_run<'a>(image: &'a [u8], mask: &[u8], at: usize) -> &'a [u8] {
+    let length = views::data_run(image, mask, at as u32).values[0];
+    &image[at..at + length as usize]
+}
+
+/// The bytes, the mnemonic and the operands of the instruction at a position.
+fn instruction(image: &[u8], at: usize) -> Vec<String> {
+    let bytes = &image[at..at + flow::size(image[at])];
+    let form = original::form(bytes[0]);
+    let name = original::name(form);
+    let mnemonic = name.split('_').next().unwrap_or(name).to_lowercase();
+    let shown = fields::fields(bytes).into_iter().zip(kinds(form));
+    let operands = shown.map(|(field, kind)| match kind {
+        Kind::Immediate => format!("#{field:02X}"),
+        Kind::Cell => format!("{field:03X}"),
+        Kind::Bit => format!("{field}"),
+        Kind::Register => format!("@R{field}"),
+        _ => target(flow::targets_at(image, at)[0]),
+    });
+    [hex(bytes), mnemonic].into_iter().chain(operands).collect()
+}
+
+fn target(target: i64) -> String {
+    match target {
+        0..=65_535 => format!("{target:04X}"),
+        _ => "?".to_string(),
+    }
+}
+
+fn hex(bytes: &[u8]) -> String {
+    bytes.iter().map(|byte| format!("{byte:02X}")).collect()
+}
+
+#[derive(Default)]
+struct Lines(String);
+
+impl Lines {
+    /// A line of positions, if there are any.
+    fn places(&mut self, letter: char, at: usize, places: &[u32]) {
+        if !places.is_empty() {
+            let places: Vec<String> = places.iter().map(|at| format!("{at:04X}")).collect();
+            self.line(letter, at, &places);
+        }
+    }
+
+    fn line(&mut self, letter: char, at: usize, fields: &[String]) {
+        write!(self.0, "{letter}\t{at:04X}").expect("a string takes any text");
+        for field in fields {
+            self.0.push('\t');
+            self.0 += field;
+        }
+        self.0.push('\n');
+    }
+}

@@ -1,0 +1,88 @@
+// The calls, in a room that holds no output before.
+use input::Parsed;
+use listing::Arrivals;
+use views::Viewed;
+
+// What stands in the room before.
+const OLD: u8 = b'~';
+
+// So much of the room is left over.
+const REST: usize = 8;
+
+fn fill(room: &mut [u8]) {
+    let mut i: usize = 0;
+    while i < room.len() {
+        room[i] = OLD;
+        i += 1;
+    }
+}
+
+fn is_old(room: &[u8]) -> bool {
+    let mut i: usize = 0;
+    while i < room.len() {
+        if room[i] != OLD {
+            return false;
+        }
+        i += 1;
+    }
+    true
+}
+
+fn call(letter: u8, input: &[u8], marks: &[u8], room: &mut [u8]) -> Viewed {
+    match letter {
+        b'=' => lister::list_text(input, room),
+        b'-' => listing::listing(input, marks, room),
+        _ => listing::listing_with(input, marks, Arrivals::Chosen, room),
+    }
+}
+
+// The first bad line of an input, or 0. It is told before any room is looked at.
+pub fn bad_line(letter: u8, text: &[u8]) -> usize {
+    if letter != b'=' {
+        return 0;
+    }
+    let mut entries = [0u32; 1];
+    let mut image = [0u8; 1];
+    let Parsed::Malformed(n) = input::parse(text, &mut entries, &mut image) else {
+        return 0;
+    };
+    n
+}
+
+// A room that is one byte too short is refused with all that is needed, and stays as it is.
+pub fn is_refused(letter: u8, input: &[u8], marks: &[u8], need: usize, room: &mut [u8]) -> bool {
+    if need == 0 {
+        return true;
+    }
+    if room.len() < need {
+        return false;
+    }
+    let n = need - 1;
+    fill(&mut room[0..n]);
+    let Viewed::NoRoom(k) = call(letter, input, marks, &mut room[0..n]) else {
+        return false;
+    };
+    if k != need {
+        return false;
+    }
+    is_old(&room[0..n])
+}
+
+// The output is written, and the rest of the room stays.
+pub fn is_written(letter: u8, input: &[u8], marks: &[u8], need: usize, room: &mut [u8]) -> bool {
+    if room.len() < REST {
+        return false;
+    }
+    if room.len() - REST < need {
+        return false;
+    }
+    let all = need + REST;
+    fill(&mut room[0..all]);
+    let Viewed::Written(k) = call(letter, input, marks, &mut room[0..all]) else {
+        return false;
+    };
+    if k != need {
+        return false;
+    }
+    is_old(&room[need..all])
+}
