@@ -13,7 +13,7 @@ use Rattle.views.specs.Labels.{labelsOf}
 use Rattle.views.specs.Mask.{maskOf}
 use Rattle.views.specs.View.{Sound, viewRoom}
 use Rattle.views.proofs.Viewing.{Is, small, shown-as, no-room-for}
-use Rattle.listing.specs.Puts.{Puts}
+use Rattle.listing.specs.Puts.{Puts, Needed}
 use Rattle.listing.specs.Walk.{isChosen, walk, listingOf}
 use Rattle.listing.specs.declared.tabbed.Arrivals.{Arrivals}
 
@@ -39,12 +39,12 @@ unfolding listingOf
 is-listing image m choice mask labels chosen e f g = rw (e, f, g)
 
 module _ (image m : List ℕ) (text room : List ℕ) (s : Sound image m) where
-  pub too-small : {o new : List ℕ} {r : ℕ} → Puts text 0 o new r → length room < r → Is image m text room (refused 11 (pos r ∷ [])) room
-  too-small {o} {new} {r} p h = let e : length text ≡ r = omega (arith, p .next) in no-room-for image m text room s r e h
+  pub too-small : {r : ℕ} → Needed text (length room) r → length room < r → Is image m text room (refused 11 (pos r ∷ [])) room
+  too-small {r} n h = no-room-for image m text room s r (n .exact h) h
 
-  pub all-written : {new : List ℕ} {r n : ℕ} → Puts text 0 room new r → n ≡ 0 + length text → n ≤ length room → Is image m text room (accepted r) new
-  all-written {new} {r} {n} p f h =
+  pub all-written : {new : List ℕ} {r k : ℕ} → Puts text 0 room new r → Needed text (length room) k → k ≤ length room → Is image m text room (accepted r) new
+  all-written {new} {r} {k} p n h =
       let e : length text ≡ r = omega (arith, p .next) in
-      let l : 0 + length text ≤ length room = omega (arith, f, h) in
-      let z : sets room 0 text ≡ text ++ drop r room = sets-eq text room 0 l ∙ ap (λ (k : ℕ). text ++ drop k room) (sym (p .next)) in
-      shown-as image m text room s r e (omega (arith, e, f, h)) new (p .wrote ∙ z)
+      let l : 0 + length text ≤ length room = omega (arith, n .covers, h) in
+      let z : sets room 0 text ≡ text ++ drop r room = sets-eq text room 0 l ∙ ap (λ (j : ℕ). text ++ drop j room) (sym (p .next)) in
+      shown-as image m text room s r e (omega (arith, e, l)) new (p .wrote ∙ z)

@@ -7,3 +7,5 @@ pub mod Lining
 pub mod Walking
 pub mod Answering
 pub mod Example
+pub mod LineWidths
+pub mod Widths

@@ -7,7 +7,7 @@ use native.Mathlib.Nat.{add-zero, add-suc, suc-add}
 use native.Mathlib.Omega.{arith}
 use lib.ListN.{length, set, length-append}
 use lib.Seq.{sets, length-sets, set-out}
-use Rattle.listing.specs.Puts.{Puts}
+use Rattle.listing.specs.Puts.{Puts, Needed}
 
 sets-append : (s t l : List ℕ) (i : ℕ) → sets l i (s ++ t) ≡ sets (sets l i s) (i + length s) t
 sets-append [] t l i = rw add-zero
@@ -65,3 +65,7 @@ going-done {w} {o₀} {o} {from} {at} g = record { next = omega (arith, g .size)
 
 pub going-over : {w o₀ o l : List ℕ} {from at : ℕ} → Going w o₀ from o at l → l ≡ [] → Puts w from o₀ o at
 going-over {w} {o₀} {o} {l} {from} {at} g e = going-done (subst (λ (x : List ℕ). Going w o₀ from o at x) e g)
+
+-- what was put from the start on is exactly what is needed
+pub puts-needed : {text o m : List ℕ} {r room : ℕ} → Puts text 0 o m r → Needed text room r
+puts-needed {text} {r = r} p = let e : length text ≡ r = omega (arith, p .next) in record { covers = omega (arith, e); exact = λ h. e }

@@ -1,6 +1,6 @@
 -- What every inner function that writes says.
 -- Assumes nothing.
-use Prim.Native.Nat.{ℕ, zero, suc, _+_, _/_, _%_}
+use Prim.Native.Nat.{ℕ, zero, suc, _+_, _/_, _%_, _<_, _≤_}
 use mathlib.Core.Path.{_≡_}
 use mathlib.Core.List.{List, [], _∷_}
 use lib.ListN.{length}
@@ -10,6 +10,11 @@ use lib.Seq.{sets}
 pub record Puts (text : List ℕ) (at : ℕ) (old new : List ℕ) (r : ℕ) : Type 0 where
   pub next : r ≡ at + length text
   pub wrote : new ≡ sets old at text
+
+-- r is the length of the text, or it is at least that and the room is no shorter
+pub record Needed (text : List ℕ) (room r : ℕ) : Type 0 where
+  pub covers : length text ≤ r
+  pub exact : room < r → length text ≡ r
 
 -- at most k letters of a number, the lowest byte first
 unfoldable pub letters : ℕ → ℕ → List ℕ

@@ -38,8 +38,7 @@ pub fn listing_with(image: &[u8], marks: &[u8], arrivals: Arrivals, room: &mut [
     let chosen = arrivals.is_chosen();
     let mask = rooms::mask_of(image, marks);
     let labels = rooms::labels_of(image, marks);
-    let mut none = [0u8; 1];
-    let need = walk::put_walk(image, marks, &mask[0..n], &labels[0..n], chosen, &mut none);
+    let need = walk::needed(image, marks, &mask[0..n], &labels[0..n], chosen, room.len());
     if room.len() < need {
         return Viewed::NoRoom(need);
     }

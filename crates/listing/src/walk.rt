@@ -2,10 +2,13 @@
 ghost use mathlib.Core.Path.{_≡_};
 ghost use Prim.Native.Nat.{_+_, _^_, _≤_, _<_};
 ghost use lib.ListN.{length};
-ghost use Rattle.listing.specs.Puts.{Puts};
+ghost use Rattle.listing.specs.Puts.{Puts, Needed};
 ghost use Rattle.listing.specs.Walk.{codeLines, printed, passed, walk};
 use crate::lines;
 use trace::Mark;
+
+// The bytes that a position has at most, without arrivals.
+const MOST: usize = 60;
 
 // The lines of a traced position.
 fn put_code(
@@ -84,4 +87,26 @@ pub fn put_walk(
         p += step_at(image, marks, mask, p as u32);
     }
     at
+}
+
+// How many bytes the walk puts. Where the room holds every text of so many positions, that many: then nothing is to be measured.
+pub fn needed(
+    image: &[u8],
+    marks: &[u8],
+    mask: &[u8],
+    labels: &[u8],
+    chosen: bool,
+    room: usize,
+) -> usize
+    requires { ⌜ (length (now image) ≤ 65536) × (length (now image) ≤ length (now marks)) × (length (now mask) ≡ length (now image)) × (length (now labels) ≡ length (now image)) ⌝ }
+    ensures { λ r. ⌜ Needed (walk (now (image .entry)) (now (marks .entry)) (now (mask .entry)) (now (labels .entry)) chosen (length (now (image .entry))) 0 0) room r ⌝ }
+{
+    if !chosen {
+        let most = MOST * image.len();
+        if most <= room {
+            return most;
+        }
+    }
+    let mut none = [0u8; 1];
+    put_walk(image, marks, mask, labels, chosen, &mut none)
 }

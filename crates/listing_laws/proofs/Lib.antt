@@ -1,4 +1,3 @@
 pub mod ClaimsLinesListed
 pub mod ClaimsShownTraced
-pub mod LineWidths
 pub mod ClaimsRoomBound

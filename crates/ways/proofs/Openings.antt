@@ -7,15 +7,13 @@ use Prim.Native.Nat.{ℕ, _+_, _<_, _≤_}
 use native.Mathlib.Omega.{arith}
 use lib.Dec.{ltb, leb}
 use lib.IntN.{pos}
-use lib.ListN.{length, getD, drop}
+use lib.ListN.{length, getD}
 use borrow.Author.Tests.{lt-ltb, le-ltb, ltb-true, le-leb, leb-true, lt-leb}
 use Rattle.operand.specs.declared.answer.CutOff.{CutOff}
-use Rattle.instruction.specs.Decode.{fieldsIn}
 use Rattle.instruction.specs.Flow.{flowOf}
 use Rattle.instruction.specs.Parts.{partsOf}
 use Rattle.instruction.specs.declared.flow.Flow.{Flow}
 use Rattle.instruction.specs.declared.instr.Parts.{Parts}
-use Rattle.instruction_laws.proofs.PartsMade.{parted}
 use Rattle.ways.specs.At.{formHere, sizeHere, fitsHere, instrHere, waysHere, nameHere, namedBy, placeOf}
 use Rattle.ways.specs.Opening.{openingOf}
 use Rattle.ways.specs.Targets.{byFlow, addressIn, targetsIn}
@@ -25,7 +23,7 @@ use Rattle.ways.specs.declared.opening.Opening.the-variants.{Whole, Cut,
 use Rattle.ways.specs.declared.place.Ways.the-variants as way
 use Rattle.ways.proofs.Ands.{both, first-part, second-part, not-first, not-second}
 use Rattle.ways.proofs.HereIs.{made}
-use Rattle.ways.proofs.Within.{Small, form-here}
+use Rattle.ways.proofs.Within.{Small, form-is}
 
 -- a position inside an image of at most 65,536 bytes
 abbrev inMemory : List ℕ → ℕ → Bool
@@ -108,9 +106,7 @@ module _ (image : List ℕ) (p : ℕ) where
 
   module _ (bytes : Small image) (f : Flow) (e : f ≡ flowOf (formHere image p)) where
     flow-is : f ≡ flowOf (partsOf (instrHere image p) .form)
-    unfolding instrHere fieldsIn
-    flow-is =
-        e ∙ ap flowOf (sym (ap (λ (v : Parts). v .form) (parted (fieldsIn (formHere image p) (drop p image)) (form-here image p bytes))))
+    flow-is = e ∙ ap flowOf (sym (form-is image p bytes))
 
     pub goes : map placeOf (byFlow f (addressIn (p + sizeHere image p) (instrHere image p)) (pos (p + sizeHere image p))) ≡ waysHere image p
     unfolding waysHere targetsIn

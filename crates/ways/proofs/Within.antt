@@ -11,6 +11,7 @@ use Rattle.operand.specs.Answer.{accepted}
 use Rattle.instruction.specs.Decode.{decodeAnswer, fieldsIn}
 use Rattle.instruction.specs.Encode.{formIn, fitAnswer}
 use Rattle.instruction.specs.Forms.{formAt, sizeOf}
+use Rattle.instruction.specs.Parts.{partsOf}
 use Rattle.instruction.specs.declared.instr.Instr.{Instr}
 use Rattle.instruction.specs.declared.instr.Parts.{Parts}
 use Rattle.instruction.proofs.Shapes.{size-range}
@@ -34,10 +35,12 @@ pub record Within (image : List ℕ) (p : ℕ) (i : Instr) : Type 0 where
 pub form-here : (image : List ℕ) (p : ℕ) → Small image → formHere image p < 70
 form-here image p b = one-pattern (getD image p 0) (b p) .form
 
-pub size-here : (image : List ℕ) (p : ℕ) → Small image → sizeOf (formIn (instrHere image p)) ≡ sizeHere image p
+pub form-is : (image : List ℕ) (p : ℕ) → Small image → partsOf (instrHere image p) .form ≡ formHere image p
 unfolding instrHere fieldsIn
-size-here image p b =
-    ap (λ (v : Parts). sizeOf (formAt (v .form))) (parted (fieldsIn (formHere image p) (drop p image)) (form-here image p b))
+form-is image p b = ap (λ (v : Parts). v .form) (parted (fieldsIn (formHere image p) (drop p image)) (form-here image p b))
+
+pub size-here : (image : List ℕ) (p : ℕ) → Small image → sizeOf (formIn (instrHere image p)) ≡ sizeHere image p
+size-here image p b = ap (λ (k : ℕ). sizeOf (formAt k)) (form-is image p b)
 
 -- one to three bytes
 pub size-short : (image : List ℕ) (p : ℕ) → Small image → (0 < sizeHere image p) × (sizeHere image p < 4)

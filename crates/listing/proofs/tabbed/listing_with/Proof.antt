@@ -1,8 +1,8 @@
 -- `tabbed::listing_with` meets its contract.
 -- Assumes nothing.
-use mathlib.Core.Path.{_≡_, sym, ap, _∙_}
+use mathlib.Core.Path.{_≡_, sym, ap, subst, _∙_}
 use mathlib.Core.List.{List}
-use Prim.Native.Nat.{ℕ, _+_, _-_, _≤_}
+use Prim.Native.Nat.{ℕ, _-_, _≤_}
 use borrow.Author.Needs.{needs}
 use borrow.Author.Tests.{not-true, not-false}
 use lib.ListN.{length, take, drop}
@@ -12,6 +12,7 @@ use Rattle.views.specs.Mask.{maskOf}
 use Rattle.views.proofs.Labelling.{labels-length}
 use Rattle.views.proofs.Masking.{mask-length}
 use Rattle.views.proofs.Viewing.{is-sound, small, covered, refused-all}
+use Rattle.listing.specs.Puts.{Needed}
 use Rattle.listing.specs.Walk.{walk, listingOf}
 use Rattle.listing.proofs.Answering.{long-enough, part-is, is-listing, too-small, all-written}
 use Rattle.listing.proofs.Putting.{puts-as}
@@ -86,30 +87,35 @@ asked l =
       labelled = ap length (labels-part l) ∙ labels-length (image w) (marks w);
     }
 
-abbrev before-walk : tie.After-put-walk → tie.After-labels-of
-before-walk k = k .before .before .before .before .before .before
+-- before what is needed is known
+abbrev before-need : tie.After-needed → tie.After-labels-of
+before-need k = k .before .before .before .before .before
 
-put-walk-requires : tie.Need-put-walk-requires
-put-walk-requires c κs = let a = asked (c .before .before .before .before .before) in (a .fits, a .marked, a .masked, a .labelled)
+needed-requires : tie.Need-needed-requires
+needed-requires c κs = let a = asked (c .before .before .before .before) in (a .fits, a .marked, a .masked, a .labelled)
+
+-- what is needed of the text
+need : (k : tie.After-needed) → let w = written (before-need k) in Needed (text w) (length (room w)) (k .needed .result)
+need k = let l = before-need k in subst (λ (t : List ℕ). Needed t (length (room (written l))) (k .needed .result)) (shown l) (k .needed .ensures)
 
 returns-2 : tie.Need-returns-2
 returns-2 c =
-    let k = c .before .before in
-    let l = before-walk k in
+    let k = c .before in
+    let l = before-need k in
     let w = written l in
-    too-small (image w) (marks w) (text w) (room w) (sound (l .before .before .before)) (puts-as (shown l) (k .put-walk .ensures)) (c .if2 .taken)
+    too-small (image w) (marks w) (text w) (room w) (sound (l .before .before .before)) (need k) (c .if2 .taken)
 
-put-walk-requires-2 : tie.Need-put-walk-requires-2
-put-walk-requires-2 c κs = let e = c .before .before .before .before .before in let a = asked (before-walk (e .before .before)) in (a .fits, a .marked, a .masked, a .labelled)
+put-walk-requires : tie.Need-put-walk-requires
+put-walk-requires c κs = let e = c .before .before .before .before .before in let a = asked (before-need (e .before)) in (a .fits, a .marked, a .masked, a .labelled)
 
 returns-3 : tie.Need-returns-3
 returns-3 c =
     let j = c .before .before in
     let e = j .before .before .before .before .before .before in
-    let k = e .before .before in
-    let l = before-walk k in
+    let k = e .before in
+    let l = before-need k in
     let w = written l in
-    all-written (image w) (marks w) (text w) (room w) (sound (l .before .before .before)) (puts-as (shown l) (j .put-walk2 .ensures)) (k .put-walk .ensures .next ∙ ap (λ (t : List ℕ). 0 + length t) (shown l)) (e .if2 .left)
+    all-written (image w) (marks w) (text w) (room w) (sound (l .before .before .before)) (puts-as (shown l) (j .put-walk .ensures)) (need k) (e .if2 .left)
 
 pub listing-with-spec : {M : Type 1} → statement M
 listing-with-spec =
@@ -127,15 +133,14 @@ listing-with-spec =
     (λ c. search needs)
     (λ c. search needs)
     (λ c. labels-long (c .before .before .before))
-    (λ c. search needs)
-    put-walk-requires
+    needed-requires
     returns-2
     (λ c. search needs)
     (λ c. search needs)
-    (λ c. mask-long (before-walk (c .before .before .before)))
+    (λ c. mask-long (before-need (c .before .before)))
     (λ c. search needs)
     (λ c. search needs)
-    (λ c. labels-long (before-walk (c .before .before .before .before .before)))
-    put-walk-requires-2
+    (λ c. labels-long (before-need (c .before .before .before .before)))
+    put-walk-requires
     (λ c. search needs)
     returns-3)

@@ -1,18 +1,15 @@
 -- `first::size_by` meets its contract.
 -- Assumes nothing.
 use mathlib.Core.Path.{ap, _∙_}
-use Prim.Native.Nat.{ℕ, _/_}
+use Prim.Native.Nat.{ℕ, _%_}
 use borrow.Author.Needs.{needs}
-use Rattle.ways.specs.First.{pairAt}
 use Rattle.ways.proofs.FirstByte.{sized}
 use Rattle.ways.proofs.first.size_by.Statement.{statement}
 use Rattle.ways.proofs.first.size_by.Tie as tie
 
 returns : tie.Need-returns
 returns c =
-    let w = c .before in
-    let x = w .before .args .first in
-    c .pair .ensures ∙ ap (λ (k : ℕ). pairAt k (x / 16)) (w .word .ensures) ∙ sized x (w .before .fits .first .fits)
+    let s = c .before in ap (λ (k : ℕ). k % 4) (c .bits .ensures) ∙ sized (s .args .first) (s .fits .first .fits)
 
 pub size-by-spec : {M : Type 1} → statement M
-size-by-spec = tie.close (tie.spec (λ c κs. search needs) (λ c κs. search needs) returns)
+size-by-spec = tie.close (tie.spec (λ c κs. search needs) returns)

@@ -1,12 +1,33 @@
--- `first::word` meets its contract.
+-- `first::word` meets its contract: the arm of each number is the word of its column.
 -- Assumes nothing.
-use Rattle.ways.proofs.FirstByte.{col0, col1, col2, col4, col8}
+use mathlib.Core.Path.{_≡_, ap, sym}
+use Prim.Native.Nat.{ℕ}
+use Rattle.instruction.proofs.Rest.{only}
+use Rattle.ways.specs.First.{wordAt}
 use Rattle.ways.proofs.first.word.Statement.{statement}
 use Rattle.ways.proofs.first.word.Tie as tie
 
+arm : (c : tie.Start) (k : ℕ) → c .args .low ≡ k → wordAt k ≡ wordAt (c .args .low)
+arm c k e = ap wordAt (sym e)
+
 pub word-spec : {M : Type 1} → statement M
+unfolding wordAt
 word-spec =
     tie.close
-    (tie.spec (λ c. col0 _ _ _ _ _ _ (c .if1 .taken)) (λ c. col1 _ _ _ _ _ _ (c .before .if1 .left) (c .if2 .taken))
-    (λ c. col2 _ _ _ _ _ _ (c .before .if2 .left) (c .if3 .taken)) (λ c. col4 _ _ _ _ _ _ (c .before .if3 .left) (c .if4 .taken))
-    (λ c. col8 _ _ _ _ _ _ (c .if4 .left)))
+    (tie.spec
+    (λ c. arm (c .before) 0 (c .match .keys1))
+    (λ c. arm (c .before) 1 (c .match .keys2))
+    (λ c. arm (c .before) 2 (c .match .keys3))
+    (λ c. arm (c .before) 3 (c .match .keys4))
+    (λ c. arm (c .before) 4 (c .match .keys5))
+    (λ c. arm (c .before) 5 (c .match .keys6))
+    (λ c. arm (c .before) 6 (c .match .keys7))
+    (λ c. arm (c .before) 7 (c .match .keys8))
+    (λ c. arm (c .before) 8 (c .match .keys9))
+    (λ c. arm (c .before) 9 (c .match .keys10))
+    (λ c. arm (c .before) 10 (c .match .keys11))
+    (λ c. arm (c .before) 11 (c .match .keys12))
+    (λ c. arm (c .before) 12 (c .match .keys13))
+    (λ c. arm (c .before) 13 (c .match .keys14))
+    (λ c. arm (c .before) 14 (c .match .keys15))
+    (λ c. arm (c .before) 15 (only 15 (c .before .args .low) (c .match .rest) (c .before .pre))))

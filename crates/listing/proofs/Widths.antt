@@ -1,0 +1,109 @@
+-- Each stop of the walk prints at most 60 bytes.
+-- Assumes nothing.
+use mathlib.Core.Path.{_≡_, refl, ap, _∙_}
+use mathlib.Core.Bool.{Bool, true, false, cond, _&&_}
+use mathlib.Core.List.{List, [], _∷_, _++_, map}
+use Prim.Native.Nat.{ℕ, zero, suc, _+_, _*_, _-_, _≤_}
+use Prim.Native.Char.{code}
+use native.Mathlib.Omega.{arith}
+use lib.Dec.{eqb, leb}
+use lib.ListN.{length, getD, drop, length-append, length-take}
+use Rattle.instruction.specs.Parts.{partsOf}
+use Rattle.instruction.specs.declared.instr.Parts.{Parts}
+use Rattle.ways.specs.At.{formHere, sizeHere}
+use Rattle.ways.specs.Here.{hereOf}
+use Rattle.ways.specs.declared.here.Here.{Here}
+use Rattle.ways.specs.declared.here.Here.the-variants.{Whole, Cut, Outside}
+use Rattle.ways.proofs.WaysAre.{whole-inside, here-whole}
+use Rattle.ways.proofs.Within.{Small, form-here, form-is, size-short}
+use Rattle.reach.specs.Mark.{tracedMark}
+use Rattle.views.specs.DataRun.{leading, isData, runLength, dataRun}
+use Rattle.views.specs.Overlaps.{fromBefore, overlapsOf}
+use Rattle.views.specs.Positions.{upFrom, kept, tracedAt}
+use Rattle.views.proofs.Kept.{kept-few}
+use Rattle.listing.specs.Hex.{hex4, hexes}
+use Rattle.listing.specs.Line.{fields}
+use Rattle.listing.specs.Lines.{labelLine, foundLine, overlapLine, hereLine, dataLine, zeros}
+use Rattle.listing.specs.Walk.{codeLines, printed, passed, walk}
+use Rattle.listing.proofs.Hexing.{hex4-length, hexes-length}
+use Rattle.listing.proofs.Lining.{label-length}
+use Rattle.listing.proofs.LineWidths.{instr-width}
+
+-- positions as fields, and the end of the line
+places-width : (qs : List ℕ) → length (fields (map hex4 qs)) ≤ 5 * length qs + 1
+unfolding fields
+places-width [] = omega arith
+places-width (q ∷ qs) = omega (arith, hex4-length q, places-width qs, length-append (hex4 q) (fields (map hex4 qs)))
+
+found-width : (letter p : ℕ) (qs : List ℕ) → length qs ≤ 3 → length (foundLine letter p qs) ≤ 22
+unfolding fields
+found-width letter p [] h = omega arith
+found-width letter p (q ∷ qs) h = omega (arith, hex4-length p, places-width (q ∷ qs), length-append (hex4 p) (fields (map hex4 (q ∷ qs))))
+
+-- positions that pass a test one after another are no more than there are
+leading-few : (f : ℕ → Bool) (k p : ℕ) → leading f (upFrom k p) ≤ k
+unfolding leading upFrom
+leading-few f zero p = omega arith
+leading-few f (suc k) p = by (f p) (leading-few f k (suc p))
+  where
+    by : (t : Bool) → leading f (upFrom k (suc p)) ≤ k → cond t (suc (leading f (upFrom k (suc p)))) 0 ≤ suc k
+    by true h = omega arith
+    by false h = omega arith
+
+module _ (image m : List ℕ) (B : Small image) where
+  overlaps-few : (p : ℕ) → length (overlapsOf image m p) ≤ 3
+  unfolding overlapsOf
+  overlaps-few p = by (leb (length image) 65536 && tracedAt image m p) (fromBefore image m p) (kept-few (tracedAt image m) (sizeHere image p - 1) (p + 1))
+    where
+      ahead : List ℕ
+      ahead = kept (tracedAt image m) (upFrom (sizeHere image p - 1) (p + 1))
+
+      by : (t b : Bool) → length ahead ≤ sizeHere image p - 1 → length (cond t (cond b ((p - 1) ∷ []) [] ++ ahead) []) ≤ 3
+      by true true h = omega (arith, size-short image p B .1)
+      by true false h = omega (arith, size-short image p B .1)
+      by false b h = omega arith
+
+  here-width : (p : ℕ) → length (hereLine image p (hereOf image p)) ≤ 31
+  here-width p = by (hereOf image p) refl
+    where
+      by : (h : Here) → h ≡ hereOf image p → length (hereLine image p h) ≤ 31
+      by (Whole i) e =
+          let w = here-whole image p (whole-inside image p i e) i e in
+          let f : partsOf i .form ≡ formHere image p = ap (λ j. partsOf j .form) (w .1) ∙ form-is image p B in
+          instr-width image p i (omega (arith, f, form-here image p B))
+      by (Cut c) e = omega arith
+      by Outside e = omega arith
+
+  code-width : (labels : List ℕ) (p : ℕ) → length (codeLines image m labels false p) ≤ 60
+  unfolding codeLines overlapLine
+  code-width labels p =
+      omega (arith, label-length (getD labels p 0) p, found-width (code "O") p (overlapsOf image m p) (overlaps-few p), here-width p, length-append (cond (eqb (getD labels p 0) 0) [] (labelLine p)) (overlapLine p (overlapsOf image m p) ++ hereLine image p (hereOf image p)), length-append (overlapLine p (overlapsOf image m p)) (hereLine image p (hereOf image p)))
+
+  run-short : (mask : List ℕ) (p : ℕ) → length (dataRun image mask p) ≤ 16
+  unfolding dataRun runLength
+  run-short mask p = omega (arith, length-take (leading (isData image mask) (upFrom 16 p)) (drop p image), leading-few (isData image mask) 16 p)
+
+  data-width : (p : ℕ) (bytes : List ℕ) → length bytes ≤ 16 → length (dataLine p bytes) ≤ 60
+  unfolding dataLine fields
+  data-width p bytes h = by (zeros bytes)
+    where
+      by : (t : Bool) → length (cond t [] (code "D" ∷ 9 ∷ hex4 p ++ (9 ∷ hexes bytes ++ (10 ∷ [])))) ≤ 60
+      by true = omega arith
+      by false = omega (arith, hex4-length p, hexes-length bytes, length-append (hex4 p) (9 ∷ hexes bytes ++ (10 ∷ [])), length-append (hexes bytes) (10 ∷ []))
+
+  printed-width : (mask labels : List ℕ) (p : ℕ) → length (printed image m mask labels false p) ≤ 60
+  unfolding printed
+  printed-width mask labels p = by (tracedMark (getD m p 0)) (eqb (getD mask p 0) 0)
+    where
+      by : (t b : Bool) → length (cond t (codeLines image m labels false p) (cond b (dataLine p (dataRun image mask p)) [])) ≤ 60
+      by true b = code-width labels p
+      by false true = data-width p (dataRun image mask p) (run-short mask p)
+      by false false = omega arith
+
+  pub walk-width : (mask labels : List ℕ) (k p s : ℕ) → length (walk image m mask labels false k p s) ≤ 60 * k
+  unfolding walk
+  walk-width mask labels zero p s = omega arith
+  walk-width mask labels (suc k) p (suc s) = let h = walk-width mask labels k (suc p) s in omega arith
+  walk-width mask labels (suc k) p zero =
+      let rest = walk image m mask labels false k (suc p) (passed image m mask p) in
+      omega (arith, printed-width mask labels p, walk-width mask labels k (suc p) (passed image m mask p), length-append (printed image m mask labels false p) rest)
