@@ -28,6 +28,8 @@ mod large;
 mod listings;
 #[path = "lists/marked.rs"]
 mod marked;
+#[path = "lists/routines.rs"]
+mod routines;
 #[path = "lists/stored.rs"]
 mod stored;
 #[path = "lists/sum.rs"]

@@ -6,9 +6,6 @@ use views::Viewed;
 // What stands in the room before.
 const OLD: u8 = b'~';
 
-// So much of the room is left over.
-const REST: usize = 8;
-
 fn fill(room: &mut [u8]) {
     let mut i: usize = 0;
     while i < room.len() {
@@ -68,15 +65,16 @@ pub fn is_refused(letter: u8, input: &[u8], marks: &[u8], need: usize, room: &mu
     is_old(&room[0..n])
 }
 
-// The output is written, and the rest of the room stays.
+// The output is written, into a room of its length or with one or two bytes to spare, which stay.
 pub fn is_written(letter: u8, input: &[u8], marks: &[u8], need: usize, room: &mut [u8]) -> bool {
-    if room.len() < REST {
+    if room.len() < need {
         return false;
     }
-    if room.len() - REST < need {
+    let spare = need % 3;
+    if room.len() - need < spare {
         return false;
     }
-    let all = need + REST;
+    let all = need + spare;
     fill(&mut room[0..all]);
     let Viewed::Written(k) = call(letter, input, marks, &mut room[0..all]) else {
         return false;
