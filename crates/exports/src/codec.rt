@@ -3,17 +3,16 @@ ghost use mathlib.Core.Path.{_≡_};
 ghost use Rattle.instruction.specs.Decode.{decodeAnswer};
 ghost use Rattle.instruction.specs.Encode.{encodeAnswer, encodeRoom};
 ghost use Rattle.instruction.specs.Resolve.{resolveAnswer};
-ghost use Rattle.exports.specs.Reply.{numberOf, valuesOf};
-ghost use Rattle.exports.specs.Codec.{instrValues, countValues, named};
-use crate::answer;
-use instruction::Instr;
+ghost use Rattle.ways.specs.Targets.{targetsAnswer};
+ghost use Rattle.reply.specs.Reply.{numberOf, valuesOf, countValues};
+ghost use Rattle.reply_codec.specs.Codec.{instrValues, named, targetsValues};
 
 // Accepted: form, size, three operands.
 #[no_mangle]
 pub extern "C" fn pw_decode(bytes: &[u8], answer: &mut [i64; 5]) -> u32
     ensures { λ r. ⌜ (r ≡ numberOf (decodeAnswer (now (bytes .entry)))) × (now (answer .exit) ≡ valuesOf instrValues (decodeAnswer (now (bytes .entry)))) ⌝ }
 {
-    answer::decoded(Instr::decode(bytes)).give(answer)
+    reply_codec::decode(bytes).give(answer)
 }
 
 // Accepted: the number of bytes written.
@@ -28,7 +27,7 @@ pub extern "C" fn pw_encode(
 ) -> u32
     ensures { λ r. ⌜ (r ≡ numberOf (encodeAnswer (named first a b c) (now (out .entry)))) × (now (answer .exit) ≡ valuesOf countValues (encodeAnswer (named first a b c) (now (out .entry)))) × (now (out .exit) ≡ encodeRoom (named first a b c) (now (out .entry))) ⌝ }
 {
-    answer::encoded(Instr::with_first(first, a, b, c).encode(out)).give(answer)
+    reply_codec::encode(first, a, b, c, out).give(answer)
 }
 
 // Accepted: form, size, three fields.
@@ -43,5 +42,20 @@ pub extern "C" fn pw_resolve(
 ) -> u32
     ensures { λ r. ⌜ (r ≡ numberOf (resolveAnswer (named first a b c) base)) × (now (answer .exit) ≡ valuesOf instrValues (resolveAnswer (named first a b c) base)) ⌝ }
 {
-    answer::resolved(Instr::with_first(first, a, b, c).resolve(base)).give(answer)
+    reply_codec::resolve(first, a, b, c, base).give(answer)
+}
+
+// Accepted: how many targets, then the targets.
+#[no_mangle]
+pub extern "C" fn pw_targets(
+    position: u32,
+    first: u8,
+    a: i32,
+    b: i32,
+    c: i32,
+    answer: &mut [i64; 5],
+) -> u32
+    ensures { λ r. ⌜ (r ≡ numberOf (targetsAnswer position (named first a b c))) × (now (answer .exit) ≡ valuesOf targetsValues (targetsAnswer position (named first a b c))) ⌝ }
+{
+    reply_codec::targets(position, first, a, b, c).give(answer)
 }

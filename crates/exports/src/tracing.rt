@@ -1,32 +1,10 @@
 // The exported calls of the tracer.
 ghost use mathlib.Core.Path.{_≡_};
-ghost use Rattle.ways.specs.Targets.{targetsAnswer};
 ghost use Rattle.trace.specs.Start.{startAnswer, startMarks};
 ghost use Rattle.trace.specs.Step.{stepAnswer, stepMarks};
 ghost use Rattle.trace.specs.Run.{runAnswer, runMarks, runOrder};
-ghost use Rattle.exports.specs.Reply.{numberOf, valuesOf};
-ghost use Rattle.exports.specs.Codec.{countValues, named};
-ghost use Rattle.exports.specs.Tracing.{targetsValues, stepValues, runValues};
-use crate::outcome;
-use instruction::Instr;
-use trace::run;
-use trace::start;
-use trace::step;
-
-// Accepted: how many targets, then the targets.
-#[no_mangle]
-pub extern "C" fn pw_targets(
-    position: u32,
-    first: u8,
-    a: i32,
-    b: i32,
-    c: i32,
-    answer: &mut [i64; 5],
-) -> u32
-    ensures { λ r. ⌜ (r ≡ numberOf (targetsAnswer position (named first a b c))) × (now (answer .exit) ≡ valuesOf targetsValues (targetsAnswer position (named first a b c))) ⌝ }
-{
-    outcome::targets(ways::targets(position, Instr::with_first(first, a, b, c))).give(answer)
-}
+ghost use Rattle.reply.specs.Reply.{numberOf, valuesOf, countValues};
+ghost use Rattle.reply_trace.specs.Tracing.{stepValues, runValues};
 
 // Accepted: the number of positions set.
 #[no_mangle]
@@ -38,7 +16,7 @@ pub extern "C" fn pw_start(
 ) -> u32
     ensures { λ r. ⌜ (r ≡ numberOf (startAnswer (now (image .entry)) (now (marks .entry)) (now (entries .entry)))) × (now (answer .exit) ≡ valuesOf countValues (startAnswer (now (image .entry)) (now (marks .entry)) (now (entries .entry)))) × (now (marks .exit) ≡ startMarks (now (image .entry)) (now (marks .entry)) (now (entries .entry))) ⌝ }
 {
-    outcome::started(start::start(image, marks, entries)).give(answer)
+    reply_trace::start(image, marks, entries).give(answer)
 }
 
 // Accepted: the new mark, and how many positions became waiting.
@@ -46,7 +24,7 @@ pub extern "C" fn pw_start(
 pub extern "C" fn pw_step(image: &[u8], marks: &mut [u8], p: u32, answer: &mut [i64; 5]) -> u32
     ensures { λ r. ⌜ (r ≡ numberOf (stepAnswer (now (image .entry)) (now (marks .entry)) p)) × (now (answer .exit) ≡ valuesOf stepValues (stepAnswer (now (image .entry)) (now (marks .entry)) p)) × (now (marks .exit) ≡ stepMarks (now (image .entry)) (now (marks .entry)) p) ⌝ }
 {
-    outcome::stepped(step::step(image, marks, p)).give(answer)
+    reply_trace::step(image, marks, p).give(answer)
 }
 
 // Accepted: 1 where it finished or 0 where the limit stopped it, the steps, and the positions noted.
@@ -61,5 +39,5 @@ pub extern "C" fn pw_run(
 ) -> u32
     ensures { λ r. ⌜ (r ≡ numberOf (runAnswer (now (image .entry)) (now (marks .entry)) (now (order .entry)) (now (entries .entry)) limit)) × (now (answer .exit) ≡ valuesOf runValues (runAnswer (now (image .entry)) (now (marks .entry)) (now (order .entry)) (now (entries .entry)) limit)) × (now (marks .exit) ≡ runMarks (now (image .entry)) (now (marks .entry)) (now (order .entry)) (now (entries .entry)) limit) × (now (order .exit) ≡ runOrder (now (image .entry)) (now (marks .entry)) (now (order .entry)) (now (entries .entry)) limit) ⌝ }
 {
-    outcome::ran(run::run(image, marks, order, entries, limit)).give(answer)
+    reply_trace::run(image, marks, order, entries, limit).give(answer)
 }

@@ -7,18 +7,14 @@ ghost use Rattle.views.specs.Labels.{labelsOf};
 ghost use Rattle.views.specs.Overlaps.{overlapsOf};
 ghost use Rattle.views.specs.Arrivals.{arrivalsOf};
 ghost use Rattle.views.specs.DataRun.{dataRun};
-ghost use Rattle.exports.specs.Reply.{five, numberOf, valuesOf};
-ghost use Rattle.exports.specs.Codec.{countValues};
-use crate::outcome;
-use crate::reply::Reply;
-use crate::wide;
+ghost use Rattle.reply.specs.Reply.{five, numberOf, valuesOf, countValues};
 
 // Accepted: the number of bytes written.
 #[no_mangle]
 pub extern "C" fn pw_mask(image: &[u8], marks: &[u8], mask: &mut [u8], answer: &mut [i64; 5]) -> u32
     ensures { λ r. ⌜ (r ≡ numberOf (viewAnswer (now (image .entry)) (now (marks .entry)) (maskOf (now (image .entry)) (now (marks .entry))) (now (mask .entry)))) × (now (answer .exit) ≡ valuesOf countValues (viewAnswer (now (image .entry)) (now (marks .entry)) (maskOf (now (image .entry)) (now (marks .entry))) (now (mask .entry)))) × (now (mask .exit) ≡ viewRoom (now (image .entry)) (now (marks .entry)) (maskOf (now (image .entry)) (now (marks .entry))) (now (mask .entry))) ⌝ }
 {
-    outcome::viewed(views::build_byte_mask(image, marks, mask)).give(answer)
+    reply_views::mask(image, marks, mask).give(answer)
 }
 
 // Accepted: the number of bytes written.
@@ -31,7 +27,7 @@ pub extern "C" fn pw_target_marks(
 ) -> u32
     ensures { λ r. ⌜ (r ≡ numberOf (viewAnswer (now (image .entry)) (now (marks .entry)) (labelsOf (now (image .entry)) (now (marks .entry))) (now (room .entry)))) × (now (answer .exit) ≡ valuesOf countValues (viewAnswer (now (image .entry)) (now (marks .entry)) (labelsOf (now (image .entry)) (now (marks .entry))) (now (room .entry)))) × (now (room .exit) ≡ viewRoom (now (image .entry)) (now (marks .entry)) (labelsOf (now (image .entry)) (now (marks .entry))) (now (room .entry))) ⌝ }
 {
-    outcome::viewed(views::target_marks(image, marks, room)).give(answer)
+    reply_views::target_marks(image, marks, room).give(answer)
 }
 
 // Accepted: the number of positions written.
@@ -45,7 +41,7 @@ pub extern "C" fn pw_overlaps(
 ) -> u32
     ensures { λ r. ⌜ (r ≡ numberOf (viewAnswer (now (image .entry)) (now (marks .entry)) (overlapsOf (now (image .entry)) (now (marks .entry)) p) (now (room .entry)))) × (now (answer .exit) ≡ valuesOf countValues (viewAnswer (now (image .entry)) (now (marks .entry)) (overlapsOf (now (image .entry)) (now (marks .entry)) p) (now (room .entry)))) × (now (room .exit) ≡ viewRoom (now (image .entry)) (now (marks .entry)) (overlapsOf (now (image .entry)) (now (marks .entry)) p) (now (room .entry))) ⌝ }
 {
-    outcome::viewed(views::find_overlaps(image, marks, p, room)).give(answer)
+    reply_views::overlaps(image, marks, p, room).give(answer)
 }
 
 // Accepted: the number of positions written.
@@ -59,7 +55,7 @@ pub extern "C" fn pw_arrivals(
 ) -> u32
     ensures { λ r. ⌜ (r ≡ numberOf (viewAnswer (now (image .entry)) (now (marks .entry)) (arrivalsOf (now (image .entry)) (now (marks .entry)) p) (now (room .entry)))) × (now (answer .exit) ≡ valuesOf countValues (viewAnswer (now (image .entry)) (now (marks .entry)) (arrivalsOf (now (image .entry)) (now (marks .entry)) p) (now (room .entry)))) × (now (room .exit) ≡ viewRoom (now (image .entry)) (now (marks .entry)) (arrivalsOf (now (image .entry)) (now (marks .entry)) p) (now (room .entry))) ⌝ }
 {
-    outcome::viewed(views::arrivals(image, marks, p, room)).give(answer)
+    reply_views::arrivals(image, marks, p, room).give(answer)
 }
 
 // Never refused: the length of the run, which begins at p.
@@ -67,6 +63,5 @@ pub extern "C" fn pw_arrivals(
 pub extern "C" fn pw_data_run(image: &[u8], mask: &[u8], p: u32, answer: &mut [i64; 5]) -> u32
     ensures { λ r. ⌜ (r ≡ 0) × (now (answer .exit) ≡ five (countValues (length (dataRun (now (image .entry)) (now (mask .entry)) p)))) ⌝ }
 {
-    let n = views::data_run(image, mask, p).len();
-    Reply::one(0, wide::count(n)).give(answer)
+    reply_views::data_run(image, mask, p).give(answer)
 }

@@ -1,0 +1,3 @@
+pub mod Wider
+pub mod Told
+pub mod Carried
