@@ -1,0 +1,148 @@
+//! Traces a small image from its entry and prints its listing.
+
+use std::error::Error;
+use std::io::{self, Write};
+use std::process::ExitCode;
+
+mod pottagewing {
+    //! The two calls that are used, as `include/pottagewing.h` declares them, each in a safe function: a slice is never null, and what it
+    //! lends for writing overlaps nothing.
+
+    use std::fmt;
+
+    #[link(name = "exports", kind = "static")]
+    unsafe extern "C" {
+        fn pw_run(
+            image: *const u8,
+            image_length: usize,
+            marks: *mut u8,
+            marks_length: usize,
+            order: *mut u32,
+            order_length: usize,
+            entries: *const u32,
+            entries_length: usize,
+            limit: u32,
+            answer: *mut [i64; 5],
+        ) -> u32;
+        fn pw_listing(
+            image: *const u8,
+            image_length: usize,
+            marks: *const u8,
+            marks_length: usize,
+            arrivals: u32,
+            room: *mut u8,
+            room_length: usize,
+            answer: *mut [i64; 5],
+        ) -> u32;
+    }
+
+    /// The number of a refusal, and the values that go with it.
+    #[derive(Debug)]
+    pub struct Refusal {
+        pub number: u32,
+        pub values: [i64; 5],
+    }
+
+    impl fmt::Display for Refusal {
+        fn fmt(&self, f: &mut fmt::Formatter) -> fmt::Result {
+            write!(
+                f,
+                "refusal {}, {}, {}",
+                self.number, self.values[0], self.values[1]
+            )
+        }
+    }
+
+    impl std::error::Error for Refusal {}
+
+    fn told(number: u32, values: [i64; 5]) -> Result<[i64; 5], Refusal> {
+        match number {
+            0 => Ok(values),
+            _ => Err(Refusal { number, values }),
+        }
+    }
+
+    /// Accepted: 1 if it finished, the steps, the positions noted.
+    pub fn run(
+        image: &[u8],
+        marks: &mut [u8],
+        order: &mut [u32],
+        entries: &[u32],
+        limit: u32,
+    ) -> Result<[i64; 5], Refusal> {
+        let mut answer = [0; 5];
+        let number = unsafe {
+            pw_run(
+                image.as_ptr(),
+                image.len(),
+                marks.as_mut_ptr(),
+                marks.len(),
+                order.as_mut_ptr(),
+                order.len(),
+                entries.as_ptr(),
+                entries.len(),
+                limit,
+                &mut answer,
+            )
+        };
+        told(number, answer)
+    }
+
+    /// Accepted: the number of bytes written.
+    pub fn listing_into(
+        image: &[u8],
+        marks: &[u8],
+        arrivals: bool,
+        room: &mut [u8],
+    ) -> Result<usize, Refusal> {
+        let mut answer = [0; 5];
+        let number = unsafe {
+            pw_listing(
+                image.as_ptr(),
+                image.len(),
+                marks.as_ptr(),
+                marks.len(),
+                arrivals.into(),
+                room.as_mut_ptr(),
+                room.len(),
+                &mut answer,
+            )
+        };
+        told(number, answer).map(|values| values[0] as usize)
+    }
+
+    /// The whole listing: an empty room asks how many bytes it has, which refusal 11 answers. A thread that calls this needs a stack of
+    /// 512 KiB, which is less than `std::thread` gives it.
+    pub fn listing(image: &[u8], marks: &[u8], arrivals: bool) -> Result<Vec<u8>, Refusal> {
+        let mut room = Vec::new();
+        match listing_into(image, marks, arrivals, &mut room) {
+            Err(Refusal { number: 11, values }) => room.resize(values[0] as usize, 0),
+            answer => return answer.map(|_| room),
+        }
+        listing_into(image, marks, arrivals, &mut room).map(|_| room)
+    }
+}
+
+const IMAGE: [u8; 8] = [0x01, 0x02, 0x00, 0x41, 0x64, 0x80, 0xF9, 0xA0];
+const ENTRIES: [u32; 1] = [0x0000];
+
+fn print() -> Result<(), Box<dyn Error>> {
+    let mut marks = [0; IMAGE.len()];
+    let mut order = [0; IMAGE.len()];
+    // No position is taken up twice, so that the image's length is limit enough for every run to finish.
+    let limit = IMAGE.len() as u32;
+    pottagewing::run(&IMAGE, &mut marks, &mut order, &ENTRIES, limit)?;
+    let text = pottagewing::listing(&IMAGE, &marks, false)?;
+    io::stdout().write_all(&text)?;
+    Ok(())
+}
+
+fn main() -> ExitCode {
+    match print() {
+        Ok(()) => ExitCode::SUCCESS,
+        Err(why) => {
+            eprintln!("{why}");
+            ExitCode::FAILURE
+        }
+    }
+}
