@@ -1,4 +1,5 @@
-/* Pottagewing: the instructions of the LC86K and tracing through them, for C.
+/* Pottagewing: the instructions of the LC86K, tracing through them, and the
+ * listing of what was traced, for C.
  *
  * Every call answers a number: 0 where it did what was asked, otherwise the
  * number of the refusal. The values that belong to the answer stand in
@@ -30,6 +31,11 @@
  * lowest is named. They refuse in the order 1, 2, 6, 11, and then their room
  * stays as it was. What they show stands at the beginning of the room; the
  * rest of it stays as it was.
+ *
+ * Stack: pw_listing and pw_list_text hold tables for the longest image on the
+ * stack, however short the image. A thread that calls either needs a stack of
+ * 512 KiB; with too small a stack the program is ended by a fault, and there is
+ * no refusal. All other calls need less than 1 KiB. No call allocates memory.
  *
  * The numbers of the refusals, with the values in answer[0], answer[1]:
  *
@@ -178,6 +184,32 @@ uint32_t pw_arrivals(const uint8_t *image, size_t image_length,
 uint32_t pw_data_run(const uint8_t *image, size_t image_length,
                      const uint8_t *mask, size_t mask_length,
                      uint32_t position, int64_t answer[5]);
+
+/* The listing, as text: upward by position, fields parted by tabs, each line
+ * ended by byte 10. At a traced position: `L` if a traced jump, branch or call
+ * names it, `O` with its overlaps, `A` with its arrivals, then `I` with its
+ * bytes, mnemonic and operands. Bytes that no traced instruction has stand in
+ * `D` lines of up to 16, left out where all are 0.
+ * arrivals: 0 leaves the `A` lines out, any other number shows them.
+ * 0: the number of bytes written. No byte 0 follows them.
+ * 1, 2, 6, 11. A room of 0 bytes serves to ask how many are needed.
+ */
+uint32_t pw_listing(const uint8_t *image, size_t image_length,
+                    const uint8_t *marks, size_t marks_length,
+                    uint32_t arrivals, uint8_t *room, size_t room_length,
+                    int64_t answer[5]);
+
+/* What the listing program prints for an input text. Its first line has up to
+ * 256 entries, four hex digits each, parted by tabs; each further line has 1 to
+ * 32 bytes of the image, two hex digits each, and all of them up to 16,384.
+ * Digits are upper case. Each line ends with byte 10, which the last may lack.
+ * Printed is the listing without arrivals; or one line of `R`, a tab and 13
+ * where the text is not of this kind, or 5 where an instruction is cut off.
+ * 0: the number of bytes written, also where they are an `R` line.
+ * 11, and no other.
+ */
+uint32_t pw_list_text(const uint8_t *text, size_t text_length,
+                      uint8_t *room, size_t room_length, int64_t answer[5]);
 
 #ifdef __cplusplus
 }

@@ -5,3 +5,5 @@ pub mod Carried
 pub mod Sizes
 pub mod Lengths
 pub mod Shown
+pub mod Longest
+pub mod Printed

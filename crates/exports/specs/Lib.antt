@@ -2,3 +2,4 @@ pub mod Reply
 pub mod Codec
 pub mod Tracing
 pub mod Counts
+pub mod Listing

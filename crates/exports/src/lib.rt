@@ -2,6 +2,7 @@
 // include/pottagewing.h declares the calls for C.
 mod answer;
 pub mod codec;
+pub mod listed;
 mod outcome;
 mod reply;
 pub mod tracing;
@@ -11,6 +12,8 @@ mod wide;
 pub use codec::pw_decode;
 pub use codec::pw_encode;
 pub use codec::pw_resolve;
+pub use listed::pw_list_text;
+pub use listed::pw_listing;
 pub use tracing::pw_run;
 pub use tracing::pw_start;
 pub use tracing::pw_step;

@@ -1,21 +1,23 @@
-// The answers of the tracer as replies: one function for each enum. A length that does not fit a value cannot come from the tracer, but the
-// enums alone do not say so.
+// The answers of the tracer and of the views as replies: one function for each enum. A length that does not fit a value cannot come from
+// them, but the enums alone do not say so.
 ghost use mathlib.Core.Path.{_≡_};
 ghost use Prim.Native.Nat.{_<_, _^_};
 ghost use Rattle.ways.specs.Targets.{targetsOf};
 ghost use Rattle.trace.specs.Start.{startedOf};
 ghost use Rattle.trace.specs.Step.{steppedOf};
 ghost use Rattle.trace.specs.Run.{ranOf};
+ghost use Rattle.views.specs.View.{viewedOf};
 ghost use Rattle.exports.specs.Reply.{replyOf};
 ghost use Rattle.exports.specs.Codec.{countValues};
 ghost use Rattle.exports.specs.Tracing.{targetsValues, stepValues, runValues};
-ghost use Rattle.exports.specs.Counts.{nextIn, lengthInStarted, lengthInStepped, lengthInRan};
+ghost use Rattle.exports.specs.Counts.{nextIn, lengthInStarted, lengthInStepped, lengthInRan, lengthInViewed};
 use crate::answer;
 use crate::reply::Reply;
 use crate::wide;
 use trace::Ran;
 use trace::Started;
 use trace::Stepped;
+use views::Viewed;
 use ways::Targets;
 
 pub fn targets(t: Targets) -> Reply
@@ -67,5 +69,18 @@ pub fn ran(d: Ran) -> Reply
         Ran::ShortMarks(n) => Reply::one(2, wide::count(n)),
         Ran::ShortOrder(n) => Reply::one(3, wide::count(n)),
         Ran::Cut(c) => Reply::two(5, wide::number(c.position), wide::byte(c.first)),
+    }
+}
+
+pub fn viewed(v: Viewed) -> Reply
+    requires { ⌜ lengthInViewed v < 2 ^ 63 ⌝ }
+    ensures { λ r. ⌜ r ≡ replyOf countValues (viewedOf v) ⌝ }
+{
+    match v {
+        Viewed::Written(n) => Reply::one(0, wide::count(n)),
+        Viewed::LongImage(n) => Reply::one(1, wide::count(n)),
+        Viewed::ShortMarks(n) => Reply::one(2, wide::count(n)),
+        Viewed::Damaged(p) => Reply::one(6, wide::number(p)),
+        Viewed::NoRoom(n) => Reply::one(11, wide::count(n)),
     }
 }

@@ -1,40 +1,24 @@
 // The exported calls of the views.
 ghost use mathlib.Core.Path.{_≡_};
-ghost use Prim.Native.Nat.{_<_, _^_};
 ghost use lib.ListN.{length};
-ghost use Rattle.views.specs.View.{viewedOf, viewAnswer, viewRoom};
+ghost use Rattle.views.specs.View.{viewAnswer, viewRoom};
 ghost use Rattle.views.specs.Mask.{maskOf};
 ghost use Rattle.views.specs.Labels.{labelsOf};
 ghost use Rattle.views.specs.Overlaps.{overlapsOf};
 ghost use Rattle.views.specs.Arrivals.{arrivalsOf};
 ghost use Rattle.views.specs.DataRun.{dataRun};
-ghost use Rattle.exports.specs.Reply.{five, numberOf, valuesOf, replyOf};
+ghost use Rattle.exports.specs.Reply.{five, numberOf, valuesOf};
 ghost use Rattle.exports.specs.Codec.{countValues};
-ghost use Rattle.exports.specs.Counts.{lengthInViewed};
+use crate::outcome;
 use crate::reply::Reply;
 use crate::wide;
-use views::Viewed;
-
-// A length that does not fit a value cannot come from a view, but the enum alone does not say so.
-fn viewed(v: Viewed) -> Reply
-    requires { ⌜ lengthInViewed v < 2 ^ 63 ⌝ }
-    ensures { λ r. ⌜ r ≡ replyOf countValues (viewedOf v) ⌝ }
-{
-    match v {
-        Viewed::Written(n) => Reply::one(0, wide::count(n)),
-        Viewed::LongImage(n) => Reply::one(1, wide::count(n)),
-        Viewed::ShortMarks(n) => Reply::one(2, wide::count(n)),
-        Viewed::Damaged(p) => Reply::one(6, wide::number(p)),
-        Viewed::NoRoom(n) => Reply::one(11, wide::count(n)),
-    }
-}
 
 // Accepted: the number of bytes written.
 #[no_mangle]
 pub extern "C" fn pw_mask(image: &[u8], marks: &[u8], mask: &mut [u8], answer: &mut [i64; 5]) -> u32
     ensures { λ r. ⌜ (r ≡ numberOf (viewAnswer (now (image .entry)) (now (marks .entry)) (maskOf (now (image .entry)) (now (marks .entry))) (now (mask .entry)))) × (now (answer .exit) ≡ valuesOf countValues (viewAnswer (now (image .entry)) (now (marks .entry)) (maskOf (now (image .entry)) (now (marks .entry))) (now (mask .entry)))) × (now (mask .exit) ≡ viewRoom (now (image .entry)) (now (marks .entry)) (maskOf (now (image .entry)) (now (marks .entry))) (now (mask .entry))) ⌝ }
 {
-    viewed(views::build_byte_mask(image, marks, mask)).give(answer)
+    outcome::viewed(views::build_byte_mask(image, marks, mask)).give(answer)
 }
 
 // Accepted: the number of bytes written.
@@ -47,7 +31,7 @@ pub extern "C" fn pw_target_marks(
 ) -> u32
     ensures { λ r. ⌜ (r ≡ numberOf (viewAnswer (now (image .entry)) (now (marks .entry)) (labelsOf (now (image .entry)) (now (marks .entry))) (now (room .entry)))) × (now (answer .exit) ≡ valuesOf countValues (viewAnswer (now (image .entry)) (now (marks .entry)) (labelsOf (now (image .entry)) (now (marks .entry))) (now (room .entry)))) × (now (room .exit) ≡ viewRoom (now (image .entry)) (now (marks .entry)) (labelsOf (now (image .entry)) (now (marks .entry))) (now (room .entry))) ⌝ }
 {
-    viewed(views::target_marks(image, marks, room)).give(answer)
+    outcome::viewed(views::target_marks(image, marks, room)).give(answer)
 }
 
 // Accepted: the number of positions written.
@@ -61,7 +45,7 @@ pub extern "C" fn pw_overlaps(
 ) -> u32
     ensures { λ r. ⌜ (r ≡ numberOf (viewAnswer (now (image .entry)) (now (marks .entry)) (overlapsOf (now (image .entry)) (now (marks .entry)) p) (now (room .entry)))) × (now (answer .exit) ≡ valuesOf countValues (viewAnswer (now (image .entry)) (now (marks .entry)) (overlapsOf (now (image .entry)) (now (marks .entry)) p) (now (room .entry)))) × (now (room .exit) ≡ viewRoom (now (image .entry)) (now (marks .entry)) (overlapsOf (now (image .entry)) (now (marks .entry)) p) (now (room .entry))) ⌝ }
 {
-    viewed(views::find_overlaps(image, marks, p, room)).give(answer)
+    outcome::viewed(views::find_overlaps(image, marks, p, room)).give(answer)
 }
 
 // Accepted: the number of positions written.
@@ -75,7 +59,7 @@ pub extern "C" fn pw_arrivals(
 ) -> u32
     ensures { λ r. ⌜ (r ≡ numberOf (viewAnswer (now (image .entry)) (now (marks .entry)) (arrivalsOf (now (image .entry)) (now (marks .entry)) p) (now (room .entry)))) × (now (answer .exit) ≡ valuesOf countValues (viewAnswer (now (image .entry)) (now (marks .entry)) (arrivalsOf (now (image .entry)) (now (marks .entry)) p) (now (room .entry)))) × (now (room .exit) ≡ viewRoom (now (image .entry)) (now (marks .entry)) (arrivalsOf (now (image .entry)) (now (marks .entry)) p) (now (room .entry))) ⌝ }
 {
-    viewed(views::arrivals(image, marks, p, room)).give(answer)
+    outcome::viewed(views::arrivals(image, marks, p, room)).give(answer)
 }
 
 // Never refused: the length of the run, which begins at p.

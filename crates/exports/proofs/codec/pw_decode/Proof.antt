@@ -1,6 +1,5 @@
 -- `codec::pw_decode` meets its contract.
 -- Assumes nothing.
-use mathlib.Core.Path.{_∙_, ap}
 use borrow.Author.Needs.{needs}
 use Rattle.exports.proofs.Told.{given}
 use Rattle.exports.specs.Codec.{instrValues}

@@ -1,6 +1,6 @@
 -- `codec::pw_resolve` meets its contract.
 -- Assumes nothing.
-use mathlib.Core.Path.{_≡_, _∙_, ap}
+use mathlib.Core.Path.{_∙_, ap}
 use borrow.Author.Needs.{needs}
 use Rattle.instruction.specs.Resolve.{resolveAnswer}
 use Rattle.instruction.specs.declared.instr.Instr.{Instr}

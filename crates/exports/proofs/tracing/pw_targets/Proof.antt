@@ -1,6 +1,6 @@
 -- `tracing::pw_targets` meets its contract.
 -- Assumes nothing.
-use mathlib.Core.Path.{_≡_, _∙_, ap}
+use mathlib.Core.Path.{_∙_, ap}
 use borrow.Author.Needs.{needs}
 use Rattle.ways.specs.Targets.{targetsAnswer}
 use Rattle.instruction.specs.declared.instr.Instr.{Instr}

@@ -1,6 +1,5 @@
 -- `viewing::pw_mask` meets its contract.
 -- Assumes nothing.
-use mathlib.Core.Path.{_≡_}
 use Prim.Native.Nat.{_<_, _^_}
 use native.Mathlib.Omega.{arith}
 use borrow.Author.Needs.{needs}
@@ -21,7 +20,7 @@ viewed-requires c κs =
     let i : length (s .args .image .now) < 2 ^ 63 = omega (arith, s .good .0 .1) in
     let m : length (s .args .marks .now) < 2 ^ 63 = omega (arith, s .good .1 .0 .1) in
     let o : length (maskOf (s .args .image .now) (s .args .marks .now)) < 2 ^ 63 = omega (arith, i, mask-length (s .args .image .now) (s .args .marks .now)) in
-    viewed-small (s .args .image .now) (s .args .marks .now) _ (s .args .mask .now) i m o (t .build-byte-mask .result) (t .build-byte-mask .ensures .0)
+    viewed-small (s .args .image .now) (s .args .marks .now) i m _ (s .args .mask .now) o (t .build-byte-mask .result) (t .build-byte-mask .ensures .0)
 
 returns : tie.Need-returns
 returns c =

@@ -1,6 +1,5 @@
 -- `viewing::pw_overlaps` meets its contract.
 -- Assumes nothing.
-use mathlib.Core.Path.{_≡_}
 use Prim.Native.Nat.{_<_, _^_}
 use native.Mathlib.Omega.{arith}
 use borrow.Author.Needs.{needs}
@@ -8,7 +7,7 @@ use lib.ListN.{length}
 use Rattle.views.specs.Overlaps.{overlapsOf}
 use Rattle.views.specs.View.{viewAnswer}
 use Rattle.exports.specs.Codec.{countValues}
-use Rattle.exports.proofs.Shown.{viewed-small, overlaps-few}
+use Rattle.exports.proofs.Shown.{viewed-small, overlaps-most}
 use Rattle.exports.proofs.Told.{given}
 use Rattle.exports.proofs.viewing.pw_overlaps.Statement.{statement}
 use Rattle.exports.proofs.viewing.pw_overlaps.Tie as tie
@@ -19,8 +18,8 @@ viewed-requires c κs =
     let s = t .before .before .before .before .before in
     let i : length (s .args .image .now) < 2 ^ 63 = omega (arith, s .good .0 .1) in
     let m : length (s .args .marks .now) < 2 ^ 63 = omega (arith, s .good .1 .0 .1) in
-    let o : length (overlapsOf (s .args .image .now) (s .args .marks .now) (s .args .p)) < 2 ^ 63 = overlaps-few (s .args .image .now) (s .args .marks .now) (s .args .p) (λ k. t .before .before .before .before .shared-slice-known .given k .fits) in
-    viewed-small (s .args .image .now) (s .args .marks .now) _ (s .args .room .now) i m o (t .find-overlaps .result) (t .find-overlaps .ensures .0)
+    let o : length (overlapsOf (s .args .image .now) (s .args .marks .now) (s .args .p)) < 2 ^ 63 = omega (arith, overlaps-most (s .args .image .now) (s .args .marks .now) (s .args .p)) in
+    viewed-small (s .args .image .now) (s .args .marks .now) i m _ (s .args .room .now) o (t .find-overlaps .result) (t .find-overlaps .ensures .0)
 
 returns : tie.Need-returns
 returns c =

@@ -1,6 +1,5 @@
 -- `viewing::pw_target_marks` meets its contract.
 -- Assumes nothing.
-use mathlib.Core.Path.{_≡_}
 use Prim.Native.Nat.{_<_, _^_}
 use native.Mathlib.Omega.{arith}
 use borrow.Author.Needs.{needs}
@@ -21,7 +20,7 @@ viewed-requires c κs =
     let i : length (s .args .image .now) < 2 ^ 63 = omega (arith, s .good .0 .1) in
     let m : length (s .args .marks .now) < 2 ^ 63 = omega (arith, s .good .1 .0 .1) in
     let o : length (labelsOf (s .args .image .now) (s .args .marks .now)) < 2 ^ 63 = omega (arith, i, labels-length (s .args .image .now) (s .args .marks .now)) in
-    viewed-small (s .args .image .now) (s .args .marks .now) _ (s .args .room .now) i m o (t .target-marks .result) (t .target-marks .ensures .0)
+    viewed-small (s .args .image .now) (s .args .marks .now) i m _ (s .args .room .now) o (t .target-marks .result) (t .target-marks .ensures .0)
 
 returns : tie.Need-returns
 returns c =

@@ -1,4 +1,4 @@
--- `viewing::viewed` meets its contract, case by case.
+-- `outcome::viewed` meets its contract, case by case.
 -- Assumes nothing.
 use mathlib.Core.Path.{_≡_, _∙_}
 use Prim.Native.Nat.{_<_, _^_}
@@ -8,8 +8,8 @@ use Rattle.views.specs.declared.view.Viewed.{Viewed}
 use Rattle.exports.specs.Codec.{countValues}
 use Rattle.exports.specs.Counts.{lengthInViewed}
 use Rattle.exports.proofs.Told.{by-case, ReadValue, told1}
-use Rattle.exports.proofs.viewing.viewed.Statement.{statement}
-use Rattle.exports.proofs.viewing.viewed.Tie as tie
+use Rattle.exports.proofs.outcome.viewed.Statement.{statement}
+use Rattle.exports.proofs.outcome.viewed.Tie as tie
 
 small : {e k : Viewed} → e ≡ k → lengthInViewed e < 2 ^ 63 → lengthInViewed k < 2 ^ 63
 small p h = rw (← p) h
