@@ -4,6 +4,7 @@
 mod decode;
 mod encode;
 mod lent;
+mod listing;
 mod ours;
 mod resolve;
 mod room;

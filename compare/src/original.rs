@@ -1,5 +1,6 @@
 //! The original's answers, as the plain numbers of our C face.
 
+pub mod listed;
 pub mod traced;
 pub mod viewed;
 

@@ -91,6 +91,16 @@ unsafe extern "C" {
         position: u32,
         answer: *mut [i64; 5],
     ) -> u32;
+    fn pw_listing(
+        image: *const u8,
+        image_length: usize,
+        marks: *const u8,
+        marks_length: usize,
+        arrivals: u32,
+        room: *mut u8,
+        room_length: usize,
+        answer: *mut [i64; 5],
+    ) -> u32;
 }
 
 pub fn decode(bytes: &[u8]) -> Answer {
@@ -197,6 +207,24 @@ pub fn arrivals(image: &[u8], marks: &[u8], position: u32, room: &mut [u32]) -> 
 pub fn data_run(image: &[u8], mask: &[u8], position: u32) -> Answer {
     let (at, n) = (mask.as_ptr(), mask.len());
     answered(|values| unsafe { pw_data_run(image.as_ptr(), image.len(), at, n, position, values) })
+}
+
+/// `arrivals` is 0 where they are declined.
+pub fn listing(image: &[u8], marks: &[u8], arrivals: u32, room: &mut [u8]) -> Answer {
+    let (at, n) = (room.as_mut_ptr(), room.len());
+    let (table, count) = (marks.as_ptr(), marks.len());
+    answered(|values| unsafe {
+        pw_listing(
+            image.as_ptr(),
+            image.len(),
+            table,
+            count,
+            arrivals,
+            at,
+            n,
+            values,
+        )
+    })
 }
 
 /// The values begin as numbers that no answer has, so that one left unwritten is seen.

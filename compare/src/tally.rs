@@ -17,9 +17,10 @@ pub enum Call {
     Overlaps,
     Arrivals,
     DataRun,
+    Listing,
 }
 
-const CALLS: [(Call, &str); 12] = [
+const CALLS: [(Call, &str); 13] = [
     (Call::Decode, "decode"),
     (Call::Encode, "encode"),
     (Call::Resolve, "resolve"),
@@ -32,6 +33,7 @@ const CALLS: [(Call, &str); 12] = [
     (Call::Overlaps, "overlaps"),
     (Call::Arrivals, "arrivals"),
     (Call::DataRun, "data run"),
+    (Call::Listing, "listing"),
 ];
 
 /// Who says what the answer is to be.
@@ -71,11 +73,23 @@ pub struct Traces {
     pub capped: u64,
 }
 
+/// The lines of the listings, by their letters, and the listings that were left out.
+#[derive(Default)]
+struct Listings {
+    lines: [u64; LETTERS.len()],
+    left_out: u64,
+}
+
+/// The letters of lines.
+const LETTERS: [u8; 5] = *b"LOAID";
+
 pub struct Tally {
     by_number: [[Counts; NUMBERS]; CALLS.len()],
     by_form: [[Counts; CALLS.len()]; FORMS],
     pub traces: Traces,
     taken: [u64; FORMS],
+    listed: [u64; FORMS],
+    listings: Listings,
     all: Counts,
 }
 
@@ -86,6 +100,8 @@ impl Tally {
             by_form: [[Counts::default(); CALLS.len()]; FORMS],
             traces: Traces::default(),
             taken: [0; FORMS],
+            listed: [0; FORMS],
+            listings: Listings::default(),
             all: Counts::default(),
         }
     }
@@ -95,6 +111,20 @@ impl Tally {
         for first in firsts {
             self.taken[original::form(first)] += 1;
         }
+    }
+
+    /// Counts the line of a listing: its letter, and of an instruction the first byte.
+    pub fn line(&mut self, letter: u8, first: Option<u8>) {
+        let place = LETTERS.iter().position(|known| *known == letter);
+        self.listings.lines[place.expect("one of five letters")] += 1;
+        if let Some(first) = first {
+            self.listed[original::form(first)] += 1;
+        }
+    }
+
+    /// Counts a listing with arrivals that is not asked for, since it takes too long.
+    pub fn left_out(&mut self) {
+        self.listings.left_out += 1;
     }
 
     /// Counts one call of ours, under the number that is expected of it. `first` is the byte that
@@ -140,6 +170,7 @@ impl Tally {
         self.report_forms();
         self.report_numbers();
         self.traces.report();
+        self.listings.report();
         let all = &self.all;
         let (alone, alone_differ) = (all.alone, all.alone_differ);
         println!(
@@ -151,16 +182,19 @@ impl Tally {
 
     fn report_forms(&self) {
         println!(
-            "calls with the original, and ours alone; 'taken' are instructions taken up in runs"
+            "calls with the original, and ours alone; 'taken' are instructions taken up in runs, 'listed' those in listings"
         );
-        println!("form      decode    encode   resolve   targets      step     taken  differ");
+        println!(
+            "form      decode    encode   resolve   targets      step     taken    listed  differ"
+        );
         for (form, calls) in self.by_form.iter().enumerate() {
             let counts = calls.map(|counts| counts.compared + counts.alone);
             let [decode, encode, resolve, targets, _, step, ..] = counts;
             let differ: u64 = calls.iter().map(|counts| counts.differ).sum();
-            let (name, taken) = (original::name(form), self.taken[form]);
+            let name = original::name(form);
+            let (taken, listed) = (self.taken[form], self.listed[form]);
             println!(
-                "{name:<7} {decode:>8}  {encode:>8}  {resolve:>8}  {targets:>8}  {step:>8}  {taken:>8}  {differ:>6}"
+                "{name:<7} {decode:>8}  {encode:>8}  {resolve:>8}  {targets:>8}  {step:>8}  {taken:>8}  {listed:>8}  {differ:>6}"
             );
         }
     }
@@ -192,6 +226,17 @@ impl Traces {
         let (unfollowed, followed, capped) = (self.unfollowed, self.followed, self.capped);
         println!("runs with a Jmpf after B8 0D: not followed {unfollowed}, followed {followed}");
         println!("runs given up in the original (document 01 judges): {capped}");
+    }
+}
+
+impl Listings {
+    fn report(&self) {
+        let [labels, overlaps, arrivals, instructions, data] = self.lines;
+        println!(
+            "lines of listings: L {labels}, O {overlaps}, A {arrivals}, I {instructions}, D {data}"
+        );
+        let left_out = self.left_out;
+        println!("listings with arrivals left out, for the time that they take: {left_out}");
     }
 }
 

@@ -3,6 +3,7 @@
 //! judges alone.
 
 use crate::lent::Lent;
+use crate::listing;
 use crate::ours;
 use crate::steps::{self, shown};
 use crate::tally::{Call, Judge, Tally};
@@ -33,7 +34,7 @@ struct Views<'a> {
 
 /// What a view answers and leaves.
 #[derive(PartialEq, Debug)]
-struct Outcome<T: Copy + UpperHex>(Answer, Lent<T>);
+pub struct Outcome<T: Copy + UpperHex>(pub Answer, pub Lent<T>);
 
 /// The marks are those of our own run.
 pub fn of_trace(
@@ -68,6 +69,7 @@ pub fn of_trace(
         views.arrivals(position);
         data_run(views.tally, image, &mask, position);
     }
+    listing::of_trace(tally, random, image, &marks, entries);
 }
 
 /// A position that was noted, one beside it, any inside, or one outside.
@@ -102,7 +104,10 @@ pub fn compare(tally: &mut Tally, random: &mut Random) {
 fn any_marks(tally: &mut Tally, random: &mut Random, image: &[u8]) {
     let marks = marks(random, image);
     let position = position(random, image.len(), &[]);
-    let view = random.below(6);
+    let view = random.below(8);
+    if view >= 6 {
+        return listing::of_marks(tally, random, image, &marks);
+    }
     let mut views = Views {
         tally,
         random,
@@ -188,7 +193,7 @@ impl Views<'_> {
 
     fn bytes(&mut self, call: Call, told: Option<Vec<u8>>, views: [OfBytes; 2]) {
         let (image, marks) = (self.image, self.marks);
-        let length = self.room(image.len());
+        let length = room(self.random, image.len());
         let room = Lent::filled(length, self.random, |mixed| mixed as u8);
         let [paper, ours] = views.map(|view| outcome(&room, |room| view(image, marks, room)));
         self.judge(call, 0, told.map(|list| shows(&room, &list)), paper, ours);
@@ -197,21 +202,12 @@ impl Views<'_> {
     fn places(&mut self, call: Call, position: u32, told: Option<Vec<u32>>, views: [OfPlaces; 2]) {
         let (image, marks) = (self.image, self.marks);
         let some = self.random.below(4) as usize;
-        let length = self.room(told.as_ref().map_or(some, Vec::len));
+        let length = room(self.random, told.as_ref().map_or(some, Vec::len));
         let room = Lent::filled(length, self.random, |mixed| mixed as u32);
         let view = |view: OfPlaces| outcome(&room, |room| view(image, marks, position, room));
         let [paper, ours] = views.map(view);
         let told = told.map(|list| shows(&room, &list));
         self.judge(call, position, told, paper, ours);
-    }
-
-    /// The length of the room: mostly enough, and more as often.
-    fn room(&mut self, needed: usize) -> usize {
-        match self.random.below(32) {
-            0 => needed.saturating_sub(1 + self.random.below(3) as usize),
-            1..16 => needed,
-            _ => needed + self.random.below(5) as usize,
-        }
     }
 
     /// The original has no refusals: where document 01 has one, it judges alone.
@@ -242,7 +238,16 @@ impl Views<'_> {
     }
 }
 
-fn outcome<T: Copy + UpperHex>(
+/// The length of a room: mostly enough, and more as often.
+pub fn room(random: &mut Random, needed: usize) -> usize {
+    match random.below(32) {
+        0 => needed.saturating_sub(1 + random.below(3) as usize),
+        1..16 => needed,
+        _ => needed + random.below(5) as usize,
+    }
+}
+
+pub fn outcome<T: Copy + UpperHex>(
     room: &Lent<T>,
     view: impl FnOnce(&mut [T]) -> Answer,
 ) -> Outcome<T> {
@@ -252,7 +257,7 @@ fn outcome<T: Copy + UpperHex>(
 }
 
 /// What a view is to answer and leave that shows this list, where there is room.
-fn shows<T: Copy + UpperHex>(room: &Lent<T>, list: &[T]) -> Outcome<T> {
+pub fn shows<T: Copy + UpperHex>(room: &Lent<T>, list: &[T]) -> Outcome<T> {
     let answer = Answer::new(Answer::DONE, &[list.len() as i64]);
     Outcome(answer, room.clone().with(list))
 }

@@ -36,11 +36,22 @@ pub enum Arrivals {
     Declined,
 }
 
+/// The listing in lent room, or its refusal.
+pub fn shown(image: &[u8], marks: &[u8], arrivals: Arrivals, room: &mut [u8]) -> Answer {
+    views::show(image, marks, room, || {
+        listing(image, marks, arrivals).into_bytes()
+    })
+}
+
 /// The listing of marks that are not damaged.
 pub fn listing(image: &[u8], marks: &[u8], arrivals: Arrivals) -> String {
     let (mut mask, mut labels) = (vec![0; image.len()], vec![0; image.len()]);
     assert!(views::mask(image, marks, &mut mask).done());
     assert!(views::target_marks(image, marks, &mut labels).done());
+    let arrived = match arrivals {
+        Arrivals::Chosen => arrived(image, marks),
+        Arrivals::Declined => vec![],
+    };
     let mut lines = Lines::default();
     let mut at = 0;
     while at < image.len() {
@@ -49,8 +60,8 @@ pub fn listing(image: &[u8], marks: &[u8], arrivals: Arrivals) -> String {
                 lines.line('L', at, &[]);
             }
             lines.places('O', at, &views::overlaps_at(image, marks, at));
-            if arrivals == Arrivals::Chosen {
-                lines.places('A', at, &views::arrivals_at(image, marks, at));
+            if let Some(from) = arrived.get(at) {
+                lines.places('A', at, from);
             }
             lines.line('I', at, &instruction(image, at));
             at += 1;
@@ -65,6 +76,21 @@ pub fn listing(image: &[u8], marks: &[u8], arrivals: Arrivals) -> String {
         }
     }
     lines.0
+}
+
+/// The arrivals at every position.
+fn arrived(image: &[u8], marks: &[u8]) -> Vec<Vec<u32>> {
+    let mut lists = vec![vec![]; image.len()];
+    for from in views::followed(image, marks) {
+        let mut targets = flow::targets_at(image, from);
+        targets.dedup();
+        for target in targets {
+            if (0..image.len() as i64).contains(&target) {
+                lists[target as usize].push(from as u32);
+            }
+        }
+    }
+    lists
 }
 
 fn data_run<'a>(image: &'a [u8], mask: &[u8], at: usize) -> &'a [u8] {

@@ -24,7 +24,7 @@ fn refusal(image: &[u8], marks: &[u8]) -> Option<Answer> {
 }
 
 /// Lays what is to be shown over the beginning of the room.
-fn show<T: Copy>(
+pub(super) fn show<T: Copy>(
     image: &[u8],
     marks: &[u8],
     room: &mut [T],
@@ -104,9 +104,14 @@ pub fn arrivals_at(image: &[u8], marks: &[u8], at: usize) -> Vec<u32> {
     if at >= image.len() {
         return vec![];
     }
-    let followed = traced(image, marks).filter(|at| marks[*at] != UNFOLLOWED);
-    let arriving = followed.filter(|from| flow::targets_at(image, *from).contains(&(at as i64)));
+    let arrives = |from: &usize| flow::targets_at(image, *from).contains(&(at as i64));
+    let arriving = followed(image, marks).filter(arrives);
     arriving.map(|from| from as u32).collect()
+}
+
+/// The traced positions that had the targets of their form.
+pub(super) fn followed(image: &[u8], marks: &[u8]) -> impl Iterator<Item = usize> {
+    traced(image, marks).filter(|at| marks[*at] != UNFOLLOWED)
 }
 
 pub fn arrivals(image: &[u8], marks: &[u8], position: u32, room: &mut [u32]) -> Answer {

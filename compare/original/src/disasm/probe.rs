@@ -13,11 +13,15 @@ pub struct CutOff(pub usize, pub u8);
 
 /// Traces from the entries, giving up after `visits` positions taken up, repeats counted.
 pub fn trace(entries: &[usize], image: &[u8], visits: u64) -> Ended<Result<Graph, CutOff>> {
-    budget::within(visits, || match build_instruction_graph(entries, image) {
+    budget::within(visits, || trace_without_limit(entries, image))
+}
+
+pub fn trace_without_limit(entries: &[usize], image: &[u8]) -> Result<Graph, CutOff> {
+    match build_instruction_graph(entries, image) {
         Ok(graph) => Ok(Graph(graph)),
         Err(DisasmError::NoInstruction(position, first)) => Err(CutOff(position, first)),
         Err(_) => unreachable!("the other errors are about files"),
-    })
+    }
 }
 
 /// The positions that the last trace took up, each once, in the order of their first visits. Where it
@@ -50,9 +54,18 @@ impl Graph {
 
     /// The positions that get a label, ascending, those outside the image too.
     pub fn labels(&self) -> Vec<usize> {
+        sorted(self.named().labels.keys())
+    }
+
+    /// How many positions get a label.
+    pub fn count_labels(&self) -> usize {
+        self.named().labels.len()
+    }
+
+    fn named(&self) -> Names {
         let mut names = Names::new();
         compute_labels(&self.0, &mut names);
-        sorted(names.labels.keys())
+        names
     }
 
     pub fn overlaps(&self, position: usize) -> Vec<usize> {

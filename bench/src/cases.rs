@@ -1,0 +1,73 @@
+//! The images that are measured, with what the calls need: marks, and the graph that the original made.
+
+use crate::games;
+use crate::plain::trace::{Ended, Tracer};
+use compare::random::Random;
+use waterbear::budget::{self, Ended as Original};
+use waterbear::disasm::probe::{self, Graph};
+
+/// An image on which the original takes more visits than this for each byte is left out.
+const VISITS: u64 = 16;
+/// The positions of an image at which a call is made that looks through all of it.
+const SAMPLED: usize = 64;
+
+pub struct Case {
+    pub image: Vec<u8>,
+    pub entries: Vec<u32>,
+    pub marks: Vec<u8>,
+    /// The positions taken up, in their order.
+    pub order: Vec<u32>,
+    pub graph: Graph,
+    /// How often the original took a position up, repeats counted.
+    pub visits: u64,
+    /// Some positions, most of them traced.
+    pub sampled: Vec<u32>,
+}
+
+impl Case {
+    /// Entries as the original has them.
+    pub fn wide_entries(&self) -> Vec<usize> {
+        self.entries.iter().map(|entry| *entry as usize).collect()
+    }
+
+    /// Nothing where the original is given up.
+    pub fn new(image: Vec<u8>, entries: &[u32], visits: u64, random: &mut Random) -> Option<Case> {
+        let mut tracer = Tracer::default();
+        let ended = tracer.run(&image, entries, usize::MAX);
+        assert!(ended == Ended::Finished, "a game is not cut off");
+        let wide: Vec<usize> = entries.iter().map(|entry| *entry as usize).collect();
+        let graph = match probe::trace(&wide, &image, visits) {
+            Original::Answered(Ok(graph)) => graph,
+            Original::OverLimit => return None,
+            _ => panic!("the original ends on a game"),
+        };
+        let visits = budget::spent();
+        let sampled = (0..SAMPLED).map(|turn| match turn % 4 {
+            0 => random.below(image.len() as u64) as u32,
+            _ => random.pick(&tracer.order),
+        });
+        Some(Case {
+            sampled: sampled.collect(),
+            entries: entries.to_vec(),
+            marks: tracer.marks,
+            order: tracer.order,
+            image,
+            graph,
+            visits,
+        })
+    }
+}
+
+/// So many games of a length, and how many were left out.
+pub fn games(count: usize, length: usize, random: &mut Random) -> (Vec<Case>, usize) {
+    let mut cases = vec![];
+    let mut left_out = 0;
+    while cases.len() < count {
+        let image = games::image(length, random);
+        match Case::new(image, &games::ENTRIES, VISITS * length as u64, random) {
+            Some(case) => cases.push(case),
+            None => left_out += 1,
+        }
+    }
+    (cases, left_out)
+}

@@ -1,0 +1,70 @@
+//! Measures ours, the original and a plain hand-written Rust side on the same images: `bench [SEED]`. The exit
+//! status is 1 if their results differ; then nothing is measured.
+
+mod cases;
+mod check;
+mod clock;
+mod family;
+mod games;
+#[path = "../../compare/src/ours.rs"]
+#[allow(dead_code)]
+mod ours;
+mod plain;
+mod report;
+mod rows;
+
+use cases::Case;
+use compare::random::Random;
+use rows::{ROWS, Row};
+use std::process::ExitCode;
+
+/// The lengths of images, and how many there are of each.
+const LENGTHS: [(usize, usize); 3] = [(4_096, 128), (16_384, 64), (65_536, 32)];
+
+/// With arrivals ours takes time that grows by the square: so few images are listed so, and no longest one.
+const FEW: [usize; 2] = [16, 2];
+
+fn main() -> ExitCode {
+    let seed: u64 = match std::env::args().nth(1).map(|word| word.parse()) {
+        None => 1,
+        Some(Ok(seed)) => seed,
+        Some(Err(_)) => {
+            eprintln!("bench: the seed is a number from 0 to 2^64 - 1");
+            return ExitCode::from(2);
+        }
+    };
+    println!("seed {seed}");
+    match all(&mut Random(seed)) {
+        Ok(()) => ExitCode::SUCCESS,
+        Err(call) => {
+            println!("differ: {call}");
+            ExitCode::FAILURE
+        }
+    }
+}
+
+fn all(random: &mut Random) -> Result<(), &'static str> {
+    let mut lengths = vec![];
+    for (length, count) in LENGTHS {
+        let (cases, left_out) = cases::games(count, length, random);
+        report::images(&cases, left_out);
+        check::check(&cases)?;
+        lengths.push(cases);
+    }
+    let whole: Vec<&[Case]> = lengths.iter().map(Vec::as_slice).collect();
+    let few: Vec<&[Case]> = whole
+        .iter()
+        .zip(FEW)
+        .map(|(cases, few)| &cases[..few])
+        .collect();
+    for case in few.iter().copied().flatten() {
+        check::listing(case, true)?;
+    }
+    let table = ROWS.map(|(row, _)| match row {
+        Row::ListingWithArrivals => rows::measure(row, &few),
+        _ => rows::measure(row, &whole),
+    });
+    report::table(&table, &whole);
+    report::aims(&table);
+    family::measure(random)
+}

@@ -1,0 +1,8 @@
+//! The plain side: a tracer, its views and a listing writer, written by hand as one would without proofs. It
+//! trusts its own marks and looks for no damage.
+
+pub mod decode;
+pub mod forms;
+pub mod listing;
+pub mod trace;
+pub mod views;

@@ -1,0 +1,116 @@
+//! What is printed.
+
+use crate::cases::Case;
+use crate::clock::Times;
+use crate::rows::{ROWS, Row};
+
+/// Of each row the times at the lengths that it was measured at.
+type Table = [Vec<Times>; ROWS.len()];
+
+const HEAD: &str =
+    "                                 ours     original        plain  original/ours  ours/plain";
+
+/// What the images of a length are like.
+pub fn images(cases: &[Case], left_out: usize) {
+    let count = cases.len();
+    let length = cases[0].image.len();
+    let visits: u64 = cases.iter().map(|case| case.visits).sum();
+    let masks = cases.iter().flat_map(|case| case.graph.mask(&case.image));
+    let covered = masks.filter(|masked| *masked).count();
+    println!(
+        "{} KiB: {count} images, {:.0} instructions each, {:.0} % of the bytes are code; the original takes a position up {:.2} times; left out {left_out}",
+        length / 1024,
+        taken(cases),
+        100.0 * covered as f64 / (length * count) as f64,
+        visits as f64 / count as f64 / taken(cases),
+    );
+}
+
+/// The instructions of an image.
+fn taken(cases: &[Case]) -> f64 {
+    let all: usize = cases.iter().map(|case| case.order.len()).sum();
+    all as f64 / cases.len() as f64
+}
+
+pub fn table(table: &Table, lengths: &[&[Case]]) {
+    for (index, cases) in lengths.iter().enumerate() {
+        let length = cases[0].image.len() / 1024;
+        head(&format!("microseconds for an image of {length} KiB"));
+        for ((_, name), times) in ROWS.iter().zip(table) {
+            if let Some(times) = times.get(index) {
+                line(name, *times);
+            }
+        }
+    }
+    println!("\nhow many times as long: 16 KiB to 4 KiB, and 64 KiB to 16 KiB");
+    println!("                                 ours              original             plain");
+    println!("{:<26}  {:>7.2} {:>7.2}", "bytes", 4.0, 4.0);
+    let taken: Vec<f64> = lengths.iter().map(|cases| taken(cases)).collect();
+    let steps = [taken[1] / taken[0], taken[2] / taken[1]];
+    println!(
+        "{:<26}  {:>7.2} {:>7.2}",
+        "instructions", steps[0], steps[1]
+    );
+    for ((_, name), times) in ROWS.iter().zip(table) {
+        let step = |side: usize| {
+            let at = |length: usize| times.get(length).and_then(|times| times[side]);
+            format!("{:>7} {:>7}", ratio(at(1), at(0)), ratio(at(2), at(1)))
+        };
+        println!("{name:<26}  {}     {}     {}", step(0), step(1), step(2));
+    }
+}
+
+pub fn head(words: &str) {
+    println!("\n{words}");
+    println!("{HEAD}");
+}
+
+pub fn line(name: &str, times: Times) {
+    let [ours, original, plain] = times;
+    println!(
+        "{name:<26} {:>10}   {:>10}   {:>10}   {:>12}  {:>10}",
+        micros(ours),
+        micros(original),
+        micros(plain),
+        ratio(original, ours),
+        ratio(ours, plain),
+    );
+}
+
+fn micros(time: Option<f64>) -> String {
+    time.map_or("-".to_string(), |time| format!("{:.2}", time * 1e6))
+}
+
+fn ratio(one: Option<f64>, other: Option<f64>) -> String {
+    match (one, other) {
+        (Some(one), Some(other)) => format!("{:.2}", one / other),
+        _ => "-".to_string(),
+    }
+}
+
+/// The aims, by the worst of the lengths.
+pub fn aims(table: &Table) {
+    println!("\naims, by the worst of the lengths");
+    let figures = |row: Row, one: usize, other: usize| -> Vec<f64> {
+        let index = ROWS.iter().position(|(known, _)| *known == row);
+        let times = table[index.expect("a row")].iter();
+        let ratios = times.filter_map(|times| Some(times[one]? / times[other]?));
+        ratios.collect()
+    };
+    let least = figures(Row::Run, 1, 0).into_iter().fold(f64::MAX, f64::min);
+    aim("run, original/ours, at least 20", least, least >= 20.0);
+    for (words, row, limit) in [
+        ("run, ours/plain, at most 2", Row::Run, 2.0),
+        ("mask, ours/plain, at most 2", Row::Mask, 2.0),
+        ("target marks, ours/plain, at most 2", Row::TargetMarks, 2.0),
+        ("listing, ours/plain, at most 3", Row::Listing, 3.0),
+    ] {
+        let most = figures(row, 0, 2).into_iter().fold(0.0, f64::max);
+        aim(words, most, most <= limit);
+    }
+}
+
+fn aim(words: &str, figure: f64, reached: bool) {
+    let verdict = if reached { "reached" } else { "NOT REACHED" };
+    println!("{words:<38} {figure:>7.2}  {verdict}");
+}

@@ -1,0 +1,248 @@
+//! The calls that are measured, of each side.
+
+use crate::cases::Case;
+use crate::clock::{self, Sides, Times};
+use crate::ours;
+use crate::plain::decode::decode;
+use crate::plain::listing::Lister;
+use crate::plain::trace::Tracer;
+use crate::plain::views;
+use std::hint::black_box;
+use std::io::Write;
+use waterbear::disasm::{self, probe};
+use waterbear::instruction::Instr;
+
+/// More than the longest listing of an image of 65,536 bytes.
+pub const LONGEST_LISTING: usize = 1 << 23;
+
+/// What is measured, in the order of the report.
+#[derive(Clone, Copy, PartialEq, Debug)]
+pub enum Row {
+    Decode,
+    Run,
+    Mask,
+    TargetMarks,
+    /// At some positions: ours looks through the whole image for damage at each call.
+    SomeOverlaps,
+    AllOverlaps,
+    Listing,
+    ListingWithArrivals,
+    /// A run and a listing: what the original does in one call.
+    Whole,
+}
+
+pub const ROWS: [(Row, &str); 9] = [
+    (Row::Decode, "decode at every position"),
+    (Row::Run, "run"),
+    (Row::Mask, "mask"),
+    (Row::TargetMarks, "target marks"),
+    (Row::SomeOverlaps, "overlaps at 64 positions"),
+    (Row::AllOverlaps, "overlaps at all positions"),
+    (Row::Listing, "listing"),
+    (Row::ListingWithArrivals, "listing with arrivals"),
+    (Row::Whole, "run and listing"),
+];
+
+/// The times for each group of cases.
+pub fn measure(row: Row, groups: &[&[Case]]) -> Vec<Times> {
+    clock::measure(groups, sides(row))
+}
+
+pub fn sides(row: Row) -> Sides<'static, Case> {
+    match row {
+        Row::Decode => decoding(),
+        Row::Run => running(),
+        Row::Mask => masking(),
+        Row::TargetMarks => marking(),
+        Row::SomeOverlaps => overlapping(),
+        Row::AllOverlaps => overlapping_everywhere(),
+        Row::Listing => listing(false),
+        Row::ListingWithArrivals => listing(true),
+        Row::Whole => whole(),
+    }
+}
+
+fn decoding() -> Sides<'static, Case> {
+    [
+        Some(Box::new(|case| {
+            for at in 0..case.image.len() {
+                black_box(ours::decode(&case.image[at..]));
+            }
+        })),
+        Some(Box::new(|case| {
+            for at in 0..case.image.len() {
+                black_box(Instr::decode(&case.image[at..]));
+            }
+        })),
+        Some(Box::new(|case| {
+            for at in 0..case.image.len() {
+                black_box(decode(&case.image[at..]));
+            }
+        })),
+    ]
+}
+
+pub fn running() -> Sides<'static, Case> {
+    let (mut marks, mut order) = (vec![0; 65_536], vec![0; 65_536]);
+    let mut tracer = Tracer::default();
+    [
+        Some(Box::new(move |case| {
+            black_box(run(case, &mut marks, &mut order));
+        })),
+        Some(Box::new(|case| {
+            let graph = probe::trace_without_limit(&case.wide_entries(), &case.image);
+            black_box(graph.is_ok());
+        })),
+        Some(Box::new(move |case| {
+            black_box(tracer.run(&case.image, &case.entries, case.image.len()));
+        })),
+    ]
+}
+
+/// From entry 0, without the original.
+pub fn running_alone() -> Sides<'static, Vec<u8>> {
+    let (mut marks, mut order) = (vec![0; 65_536], vec![0; 65_536]);
+    let mut tracer = Tracer::default();
+    [
+        Some(Box::new(move |image| {
+            black_box(ours::run(image, &mut marks, &mut order, &[0], u32::MAX));
+        })),
+        None,
+        Some(Box::new(move |image| {
+            black_box(tracer.run(image, &[0], image.len()));
+        })),
+    ]
+}
+
+fn run(case: &Case, marks: &mut [u8], order: &mut [u32]) -> compare::answer::Answer {
+    let (image, entries) = (&case.image, &case.entries);
+    ours::run(image, marks, order, entries, image.len() as u32)
+}
+
+fn masking() -> Sides<'static, Case> {
+    let mut room = vec![0; 65_536];
+    let mut mask = vec![];
+    [
+        Some(Box::new(move |case| {
+            black_box(ours::mask(&case.image, &case.marks, &mut room));
+        })),
+        Some(Box::new(|case| {
+            black_box(case.graph.mask(&case.image));
+        })),
+        Some(Box::new(move |case| {
+            views::mask(&case.image, &case.marks, &mut mask);
+            black_box(&mask);
+        })),
+    ]
+}
+
+fn marking() -> Sides<'static, Case> {
+    let mut room = vec![0; 65_536];
+    let mut labels = vec![];
+    [
+        Some(Box::new(move |case| {
+            black_box(ours::target_marks(&case.image, &case.marks, &mut room));
+        })),
+        Some(Box::new(|case| {
+            black_box(case.graph.count_labels());
+        })),
+        Some(Box::new(move |case| {
+            views::target_marks(&case.image, &case.marks, &mut labels);
+            black_box(&labels);
+        })),
+    ]
+}
+
+fn overlapping() -> Sides<'static, Case> {
+    let mut room = [0; 3];
+    let mut found = vec![];
+    [
+        Some(Box::new(move |case| {
+            for at in &case.sampled {
+                black_box(ours::overlaps(&case.image, &case.marks, *at, &mut room));
+            }
+        })),
+        Some(Box::new(|case| {
+            for at in &case.sampled {
+                black_box(case.graph.overlaps(*at as usize));
+            }
+        })),
+        Some(Box::new(move |case| {
+            for at in &case.sampled {
+                views::overlaps(&case.image, &case.marks, *at as usize, &mut found);
+                black_box(&found);
+            }
+        })),
+    ]
+}
+
+fn overlapping_everywhere() -> Sides<'static, Case> {
+    let mut found = vec![];
+    [
+        None,
+        Some(Box::new(|case| {
+            for at in 0..case.image.len() {
+                black_box(case.graph.overlaps(at));
+            }
+        })),
+        Some(Box::new(move |case| {
+            for at in 0..case.image.len() {
+                views::overlaps(&case.image, &case.marks, at, &mut found);
+                black_box(&found);
+            }
+        })),
+    ]
+}
+
+/// The original lists only what it has traced in the same call: see `whole`.
+fn listing(arrivals: bool) -> Sides<'static, Case> {
+    let mut room = vec![0; LONGEST_LISTING];
+    let mut lister = Lister::default();
+    let choice = u32::from(arrivals);
+    [
+        Some(Box::new(move |case| {
+            black_box(ours::listing(&case.image, &case.marks, choice, &mut room));
+        })),
+        None,
+        Some(Box::new(move |case| {
+            lister.list(&case.image, &case.marks, arrivals);
+            black_box(&lister.text);
+        })),
+    ]
+}
+
+fn whole() -> Sides<'static, Case> {
+    let (mut marks, mut order) = (vec![0; 65_536], vec![0; 65_536]);
+    let mut room = vec![0; LONGEST_LISTING];
+    let (mut tracer, mut lister) = (Tracer::default(), Lister::default());
+    let mut text = vec![];
+    [
+        Some(Box::new(move |case| {
+            run(case, &mut marks, &mut order);
+            black_box(ours::listing(&case.image, &marks, 0, &mut room));
+        })),
+        Some(Box::new(move |case| {
+            text.clear();
+            original_text(case, &mut text);
+            black_box(&text);
+        })),
+        Some(Box::new(move |case| {
+            tracer.run(&case.image, &case.entries, case.image.len());
+            lister.list(&case.image, &tracer.marks, false);
+            black_box(&lister.text);
+        })),
+    ]
+}
+
+/// The original's text, written as its command for disassembling does, but into memory.
+fn original_text(case: &Case, text: &mut Vec<u8>) {
+    let made = disasm::disassemble(false, &case.wide_entries(), &case.image);
+    let statements = made.unwrap_or_else(|_| panic!("a game is not cut off"));
+    for made in statements.to_vec() {
+        write!(text, "{}", made.statement()).expect("memory takes all");
+        if let Some(comment) = made.cmt() {
+            write!(text, " ; {comment}").expect("memory takes all");
+        }
+        writeln!(text).expect("memory takes all");
+    }
+}

@@ -1,0 +1,151 @@
+//! The listing. Where the original traced an image to its end, it is held byte for byte against what the
+//! original lists, put into document 01's words. On marks of any content document 01 judges alone.
+
+use crate::lent::Lent;
+use crate::ours;
+use crate::steps::shown;
+use crate::tally::{Call, Judge, Tally};
+use crate::views::{self, Outcome};
+use compare::answer::Answer;
+use compare::original::listed;
+use compare::paper::listing::{self as paper, Arrivals};
+use compare::random::Random;
+
+/// Ours looks through the whole image for the arrivals at each traced position: so many traced positions times
+/// positions of the image are not too many.
+const ENOUGH: usize = 1 << 20;
+
+/// What a listing is asked for.
+struct Given<'a> {
+    image: &'a [u8],
+    marks: &'a [u8],
+    arrivals: Arrivals,
+}
+
+/// Of a whole trace: without arrivals and with them. The original is asked once, with them: without, it
+/// lists the same but for these.
+pub fn of_trace(
+    tally: &mut Tally,
+    random: &mut Random,
+    image: &[u8],
+    marks: &[u8],
+    entries: &[u32],
+) {
+    let told = listed::text(entries, image, true);
+    let others = told
+        .split_inclusive('\n')
+        .filter(|line| !line.starts_with('A'));
+    let both = [
+        (Arrivals::Declined, others.collect()),
+        (Arrivals::Chosen, told),
+    ];
+    for (arrivals, told) in both {
+        let given = Given {
+            image,
+            marks,
+            arrivals,
+        };
+        match given.is_too_much() {
+            true => tally.left_out(),
+            false => given.listing(tally, random, Some(told)),
+        }
+    }
+}
+
+pub fn of_marks(tally: &mut Tally, random: &mut Random, image: &[u8], marks: &[u8]) {
+    let given = Given {
+        image,
+        marks,
+        arrivals: random.pick(&[Arrivals::Declined, Arrivals::Chosen]),
+    };
+    match given.is_too_much() {
+        true => tally.left_out(),
+        false => given.listing(tally, random, None),
+    }
+}
+
+impl Given<'_> {
+    fn is_too_much(&self) -> bool {
+        let traced = self.marks.iter().filter(|mark| **mark >= 2).count();
+        self.arrivals == Arrivals::Chosen && traced * self.image.len() > ENOUGH
+    }
+
+    fn listing(&self, tally: &mut Tally, random: &mut Random, told: Option<String>) {
+        let needed = told.as_ref().map_or_else(|| self.needed(), String::len);
+        let room = views::room(random, needed);
+        let room = Lent::filled(room, random, |mixed| mixed as u8);
+        let expected = views::outcome(&room, |room| self.paper(room));
+        let choice = match self.arrivals {
+            Arrivals::Chosen => random.pick(&[1, 2, 256, u32::MAX]),
+            Arrivals::Declined => 0,
+        };
+        let (image, marks) = (self.image, self.marks);
+        let ours = views::outcome(&room, |room| ours::listing(image, marks, choice, room));
+        let told = told.map(|text| views::shows(&room, text.as_bytes()));
+        let judge = match &told {
+            Some(told) if expected.0.done() => {
+                if *told != expected {
+                    tally.table_differs(|| self.differ(told, &expected));
+                }
+                count(tally, &expected);
+                Judge::Original
+            }
+            _ => Judge::Document,
+        };
+        let number = expected.0.number;
+        let what = (Call::Listing, judge);
+        let input = || self.differ(&expected, &ours);
+        tally.judge(what, None, (number, &expected), &ours, input);
+    }
+
+    fn paper(&self, room: &mut [u8]) -> Answer {
+        paper::shown(self.image, self.marks, self.arrivals, room)
+    }
+
+    /// The bytes of the listing, 0 if there is none.
+    fn needed(&self) -> usize {
+        match self.paper(&mut []) {
+            answer if answer.number == Answer::NO_ROOM => answer.values[0] as usize,
+            _ => 0,
+        }
+    }
+
+    /// What is listed, and where the second outcome leaves the first.
+    fn differ(&self, one: &Outcome<u8>, other: &Outcome<u8>) -> String {
+        let [one, other] = [one, other].map(|outcome| outcome.1.part());
+        let same = one.iter().zip(other).take_while(|(a, b)| a == b).count();
+        let from = one[..same].iter().rposition(|byte| *byte == b'\n');
+        let end = |part: &[u8]| {
+            part[from.map_or(0, |at| at + 1)..]
+                .iter()
+                .take(80)
+                .copied()
+                .collect()
+        };
+        let [one, other]: [Vec<u8>; 2] = [one, other].map(end);
+        let (one, other) = (
+            String::from_utf8_lossy(&one),
+            String::from_utf8_lossy(&other),
+        );
+        let marks = &self.marks[..self.marks.len().min(48)];
+        let arrivals = match self.arrivals {
+            Arrivals::Chosen => "with arrivals",
+            Arrivals::Declined => "without arrivals",
+        };
+        let image = shown(self.image);
+        format!("listing {arrivals} of {image} marks {marks:?}: {one:?}, not {other:?}")
+    }
+}
+
+/// Counts the lines that a listing has. The bytes of an instruction are its third field.
+fn count(tally: &mut Tally, listed: &Outcome<u8>) {
+    let text = &listed.1.part()[..listed.0.values[0] as usize];
+    let digit = |byte: u8| (byte as char).to_digit(16).expect("a digit") as u8;
+    for line in text.split_inclusive(|byte| *byte == b'\n') {
+        let first = match line {
+            [b'I', _, _, _, _, _, _, high, low, ..] => Some(digit(*high) << 4 | digit(*low)),
+            _ => None,
+        };
+        tally.line(line[0], first);
+    }
+}
