@@ -4,6 +4,8 @@ use Prim.Native.Nat.{ℕ, _*_, _^_, _/_, _%_}
 use mathlib.Core.List.{List, [], _∷_}
 use lib.ListN.{getD}
 use Rattle.instruction.specs.Grid.{column}
+use Rattle.instruction.specs.declared.flow.Flow.{Flow}
+use Rattle.instruction.specs.declared.flow.Flow.the-variants.{Stop, Next, Jump, Branch}
 
 -- the words of the columns 0, 1, 2-3, 4-7 and 8-F
 abbrev pub words : List ℕ
@@ -14,3 +16,7 @@ wordAt low = getD words (column low) 0
 
 unfoldable pub nibble : ℕ → ℕ
 nibble x = wordAt (x % 16) / 2 ^ (4 * (x / 16)) % 16
+
+-- the flow of two bits
+unfoldable pub flowAt : ℕ → Flow
+flowAt n = getD (Stop ∷ Next ∷ Jump ∷ Branch ∷ []) n Stop

@@ -4,9 +4,8 @@
 // is not.
 ghost use mathlib.Core.Path.{_≡_};
 ghost use Prim.Native.Nat.{_<_};
-ghost use Rattle.instruction.specs.Flow.{flowOf};
 ghost use Rattle.instruction.specs.Forms.{formAt, formOf, sizeOf};
-ghost use Rattle.ways.specs.First.{wordAt, nibble};
+ghost use Rattle.ways.specs.First.{wordAt, nibble, flowAt};
 use instruction::Flow;
 
 // The word of the column of a byte's low four bits. All sixteen are written out, so that the compiler makes a load of it.
@@ -35,7 +34,7 @@ fn word(low: u8) -> u64
 }
 
 // The four bits of a first byte.
-fn bits(first: u8) -> u32
+pub fn bits(first: u8) -> u32
     ensures { λ r. ⌜ r ≡ nibble first ⌝ }
 {
     ((word(first % 16) >> (4 * (first / 16))) % 16) as u32
@@ -47,10 +46,12 @@ pub fn size_by(first: u8) -> u32
     bits(first) % 4
 }
 
-pub fn flow_by(first: u8) -> Flow
-    ensures { λ r. ⌜ r ≡ flowOf (formOf first) ⌝ }
+// Where control goes, by the upper two bits.
+pub fn flow_of(upper: u32) -> Flow
+    requires { ⌜ upper < 4 ⌝ }
+    ensures { λ r. ⌜ r ≡ flowAt upper ⌝ }
 {
-    match bits(first) / 4 {
+    match upper {
         0 => Flow::Stop,
         1 => Flow::Next,
         2 => Flow::Jump,

@@ -26,9 +26,10 @@ pub fn opening_at(image: &[u8], p: u32) -> Opening
         return Opening::Outside;
     }
     let first = image[at];
-    let next = p + first::size_by(first);
+    let bits = first::bits(first);
+    let next = p + bits % 4;
     if n < next as usize {
         return Opening::Cut(CutOff::new(p, first));
     }
-    Opening::Whole(next, first::flow_by(first))
+    Opening::Whole(next, first::flow_of(bits / 4))
 }

@@ -1,28 +1,32 @@
 -- `opening::opening_at` meets its contract.
 -- Assumes nothing.
-use mathlib.Core.Path.{_≡_, ap}
+use mathlib.Core.Path.{_≡_, ap, _∙_}
 use mathlib.Core.List.{List}
-use Prim.Native.Nat.{ℕ, _+_}
+use Prim.Native.Nat.{ℕ, _+_, _/_, _%_}
 use native.Mathlib.Omega.{arith}
 use borrow.Author.Needs.{needs}
+use lib.ListN.{getD}
 use Rattle.ways.specs.At.{sizeHere}
+use Rattle.ways.specs.First.{flowAt}
+use Rattle.ways.proofs.FirstByte.{sized, flowed, nibble-low}
 use Rattle.ways.proofs.Openings.{past-limit, past-end, is-cut, is-whole}
 use Rattle.ways.proofs.Within.{size-short}
 use Rattle.ways.proofs.opening.opening_at.Statement.{statement}
 use Rattle.ways.proofs.opening.opening_at.Tie as tie
 
-abbrev start : tie.After-size-by → tie.Start
+abbrev start : tie.After-bits → tie.Start
 start c = c .before .before .before .before .before
 
-abbrev image : tie.After-size-by → List ℕ
+abbrev image : tie.After-bits → List ℕ
 image c = start c .args .image .now
 
-abbrev p : tie.After-size-by → ℕ
+abbrev p : tie.After-bits → ℕ
 p c = start c .args .p
 
 -- where the instruction ends
-next-is : (c : tie.After-size-by) → p c + c .size-by .result ≡ p c + sizeHere (image c) (p c)
-next-is c = ap (λ (k : ℕ). p c + k) (c .size-by .ensures)
+next-is : (c : tie.After-bits) → p c + c .bits .result % 4 ≡ p c + sizeHere (image c) (p c)
+next-is c =
+    ap (λ (k : ℕ). p c + k) (ap (λ (k : ℕ). k % 4) (c .bits .ensures) ∙ sized (getD (image c) (p c) 0) (c .before .shared-slice-known2 .given (p c) .fits))
 
 add-next : tie.Need-add-next
 add-next c =
@@ -37,14 +41,19 @@ returns-3 c =
     let a = t .before in
     is-cut (image a) (p a) (a .before .before .before .if1 .left) (a .before .before .if2 .left) _ (next-is a) (t .if3 .taken) (c .new .result) (c .new .ensures)
 
+flow-of-requires : tie.Need-flow-of-requires
+flow-of-requires c κs =
+    let a = c .before in rw (a .bits .ensures) (nibble-low (getD (image a) (p a) 0))
+
 returns-4 : tie.Need-returns-4
 returns-4 c =
     let t = c .before in
     let a = t .before in
-    is-whole (image a) (p a) (a .before .before .before .if1 .left) (a .before .before .if2 .left) _ (next-is a) (t .if3 .left) (c .flow-by .result) (c .flow-by .ensures)
+    is-whole (image a) (p a) (a .before .before .before .if1 .left) (a .before .before .if2 .left) _ (next-is a) (t .if3 .left) (c .flow-of .result)
+    (c .flow-of .ensures ∙ ap flowAt (ap (λ (k : ℕ). k / 4) (a .bits .ensures)) ∙ flowed (getD (image a) (p a) 0) (a .before .shared-slice-known2 .given (p a) .fits))
 
 pub opening-at-spec : {M : Type 1} → statement M
 opening-at-spec =
     tie.close
     (tie.spec (λ c. past-limit _ _ (c .if1 .taken)) (λ c. past-end _ _ (c .if2 .taken)) (λ c. search needs) (λ c κs. search needs) add-next
-    (λ c. search needs) (λ c κs. search needs) returns-3 (λ c κs. search needs) returns-4)
+    (λ c. search needs) (λ c κs. search needs) returns-3 flow-of-requires returns-4)
