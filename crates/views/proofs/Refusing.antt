@@ -1,9 +1,10 @@
 -- The refusals that all views share, in the order of the code.
 -- Assumes nothing.
-use mathlib.Core.Path.{_≡_, sym, ap, _∙_}
+use mathlib.Core.Path.{_≡_, sym, ap, subst, _∙_}
 use mathlib.Core.Bool.{true, false}
 use mathlib.Core.List.{List, [], _∷_}
-use Prim.Native.Nat.{ℕ, _+_, _-_, _<_, _≤_}
+use Prim.Native.Nat.{ℕ, zero, suc, _+_, _-_, _<_, _≤_}
+use native.Mathlib.Omega.{arith}
 use lib.IntN.{pos}
 use lib.ListN.{length}
 use Rattle.operand.specs.Answer.{Answer, accepted, refused, judge}
@@ -39,6 +40,13 @@ module _ (image m : List ℕ) where
   pub left-next : (p : ℕ) → p < n → damagedHere image m p ≡ false → Left p → Left (p + 1)
   unfolding Left
   left-next p h d l = sym (ap said (up-next n p h) ∙ pass _ _ _ d) ∙ l
+
+  -- nothing is damaged up to p
+  pub left-from : (p : ℕ) → p ≤ n → ((q : ℕ) → q < p → damagedHere image m q ≡ false) → Left p
+  left-from zero h f = left-start
+  left-from (suc p) h f =
+      let e : p + 1 ≡ suc p = omega arith in
+      subst Left e (left-next p (omega arith) (f p (omega arith)) (left-from p (omega arith) (λ q g. f q (omega arith))))
 
   module _ (fits : n ≤ 65536) where
     pub short : length m < n → Is (refused 2 (pos (length m) ∷ []))

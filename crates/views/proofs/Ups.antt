@@ -1,11 +1,14 @@
 -- Positions upward: the next, and none left.
 -- Assumes nothing.
-use mathlib.Core.Path.{_≡_, refl, ap, _∙_}
-use mathlib.Core.Bool.{Bool, false, _||_}
+use mathlib.Core.Path.{_≡_, refl, sym, ap, _∙_}
+use mathlib.Core.Bool.{Bool, true, false, _||_}
 use mathlib.Core.List.{[], _∷_, map}
 use Prim.Native.Nat.{ℕ, zero, suc, _+_, _-_, _<_, _≤_}
 use native.Mathlib.Omega.{arith}
+use lib.Dec.{eqb}
 use lib.ListN.{length, getD}
+use borrow.Author.Tests.{eqb-true, eqb-false}
+use Rattle.operand.proofs.Sign.{never}
 use Rattle.views.specs.Positions.{upFrom, some}
 use Rattle.views.proofs.Ors.{or-start, or-assoc}
 
@@ -43,3 +46,25 @@ some-snoc f p q = ap (λ (k : ℕ). some f (upFrom k q)) (let e : p + 1 ≡ suc 
     by zero q = or-start (f q) false refl ∙ ap f (let e : q ≡ q + 0 = omega arith in e)
     by (suc p) q =
         ap (λ (b : Bool). f q || b) (by p (suc q)) ∙ or-assoc (f q) (some f (upFrom p (suc q))) (f (suc q + p)) ∙ ap (λ (k : ℕ). some f (upFrom (suc p) q) || f k) (let e : suc q + p ≡ q + suc p = omega arith in e)
+
+pub some-none : (f : ℕ → Bool) → false ≡ some f (upFrom 0 0)
+unfolding some upFrom
+some-none f = refl
+
+-- as many positions by another name
+pub some-as : (f : ℕ → Bool) {k n : ℕ} → k ≡ n → some f (upFrom k 0) ≡ some f (upFrom n 0)
+some-as f e = ap (λ (k : ℕ). some f (upFrom k 0)) e
+
+-- where none passes, each does not
+pub none-some : (f : ℕ → Bool) (k q p : ℕ) → q ≤ p → p < q + k → some f (upFrom k q) ≡ false → f p ≡ false
+unfolding some upFrom
+none-some f zero q p h j e = absurd (omega arith)
+none-some f (suc k) q p h j e = by (f q) refl e (λ i g. none-some f k (suc q) p i (omega arith) g)
+  where
+    by : (b : Bool) → f q ≡ b → (b || some f (upFrom k (suc q))) ≡ false → (suc q ≤ p → some f (upFrom k (suc q)) ≡ false → f p ≡ false) → f p ≡ false
+    by true g w rest = absurd (never w)
+    by false g w rest = at (eqb q p) refl
+      where
+        at : (t : Bool) → eqb q p ≡ t → f p ≡ false
+        at true d = ap f (sym (eqb-true q p d)) ∙ g
+        at false d = rest (let n : q ≡ p → ⊥ = eqb-false q p d in omega arith) w

@@ -29,6 +29,13 @@ misplaced image v p = (tracedMark v && not (fitsHere image p)) || offJmpf image 
 unfoldable pub damagedHere : List ℕ → List ℕ → ℕ → Bool
 damagedHere image m p = damaged (getD m p 0) || misplaced image (getD m p 0) p
 
+-- of an inner function: what of this the mark's value v and the byte x say
+abbrev pub wrong : ℕ → ℕ → Bool
+wrong v x = damaged v || (eqb v flash && not (eqb x 0x21))
+
+abbrev pub wrongAt : List ℕ → List ℕ → ℕ → Bool
+wrongAt image m p = wrong (getD m p 0) (getD image p 0)
+
 -- 6 at each of these positions, in their order
 abbrev pub damageIn : List ℕ → List ℕ → List ℕ → List Refusal
 damageIn image m ps = map (λ (p : ℕ). refuse (damagedHere image m p) 6 (pos p ∷ [])) ps

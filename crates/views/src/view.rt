@@ -43,7 +43,7 @@ pub fn check(image: &[u8], marks: &[u8]) -> Viewed
     if marks.len() < n {
         return Viewed::ShortMarks(marks.len());
     }
-    let mut p: usize = 0;
+    let mut p = damage::sound_to(image, marks);
     while p < n {
         if damage::is_damaged(image, marks, p as u32) {
             return Viewed::Damaged(p as u32);

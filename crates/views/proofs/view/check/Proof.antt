@@ -5,7 +5,7 @@ use mathlib.Core.List.{List}
 use Prim.Native.Nat.{ℕ, _≤_, _-_}
 use native.Mathlib.Omega.{arith}
 use borrow.Author.Needs.{needs}
-use Rattle.views.proofs.Refusing.{long, short, Left, left-start, left-next, hurt, sound}
+use Rattle.views.proofs.Refusing.{long, short, Left, left-from, left-next, hurt, sound}
 use Rattle.views.proofs.view.check.Statement.{statement}
 use Rattle.views.proofs.view.check.Tie as tie
 
@@ -31,31 +31,33 @@ returns-2 : tie.Need-returns-2 Inv-loop μ-loop
 returns-2 c = let e = c .before in short (image e) (marks e) (e .if1 .left) (c .if2 .taken)
 
 loop-holds : tie.Need-loop-holds Inv-loop μ-loop
-loop-holds c = (omega arith, left-start (image (c .before)) (marks (c .before)))
+loop-holds c =
+    let e = c .before .before in
+    (c .sound-to .ensures .0, left-from (image e) (marks e) (c .sound-to .result) (c .sound-to .ensures .0) (c .sound-to .ensures .1))
 
 returns-3 : tie.Need-returns-3 Inv-loop μ-loop
 returns-3 c =
     let d = c .before in
     let i = d .before in
     let l = i .before in
-    let e = l .before .before in
-    hurt (image e) (marks e) (e .if1 .left) (l .before .if2 .left) (l .loop .p) (i .loop-test .taken) (sym (d .is-damaged .ensures) ∙ c .if3 .taken) (l .loop .inv .1)
+    let e = l .before .before .before in
+    hurt (image e) (marks e) (e .if1 .left) (l .before .before .if2 .left) (l .loop .p) (i .loop-test .taken) (sym (d .is-damaged .ensures) ∙ c .if3 .taken) (l .loop .inv .1)
 
 loop-again : tie.Need-loop-again Inv-loop μ-loop
 loop-again c =
     let d = c .before in
     let i = d .before in
     let l = i .before in
-    let e = l .before .before in
+    let e = l .before .before .before in
     (omega arith, left-next (image e) (marks e) (l .loop .p) (i .loop-test .taken) (sym (d .is-damaged .ensures) ∙ c .if3 .left) (l .loop .inv .1))
 
 returns-4 : tie.Need-returns-4 Inv-loop μ-loop
 returns-4 c =
     let l = c .before in
-    let e = l .before .before in
-    sound (image e) (marks e) (e .if1 .left) (l .before .if2 .left) (l .loop .p) (c .loop-test .left) (l .loop .inv .1)
+    let e = l .before .before .before in
+    sound (image e) (marks e) (e .if1 .left) (l .before .before .if2 .left) (l .loop .p) (c .loop-test .left) (l .loop .inv .1)
 
 pub check-spec : {M : Type 1} → statement M
 check-spec =
     tie.close
-    (tie.spec Inv-loop μ-loop returns returns-2 loop-holds (λ c. search needs) (λ c κs. search needs) (λ c. search needs) returns-3 (λ c. search needs) (λ c. omega arith) loop-again returns-4)
+    (tie.spec Inv-loop μ-loop returns returns-2 (λ c κs. search needs) loop-holds (λ c. search needs) (λ c κs. search needs) (λ c. search needs) returns-3 (λ c. search needs) (λ c. omega arith) loop-again returns-4)
