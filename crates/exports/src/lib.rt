@@ -1,5 +1,6 @@
 // The C face: each call answers 0 or the number of a refusal, and puts the values into a room of five that the caller lends.
-// include/pottagewing.h declares the calls for C.
+// include/pottagewing.h declares the calls for C. They all stand here, since an archive has the functions of its own crate alone; what each
+// hands over is worked out in the crates of replies below.
 pub mod codec;
 pub mod listed;
 pub mod tracing;

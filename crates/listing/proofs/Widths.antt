@@ -1,10 +1,11 @@
--- Each stop of the walk prints at most 60 bytes.
+-- Each stop of the walk prints at most 60 bytes, and with arrivals those of one line more.
 -- Assumes nothing.
 use mathlib.Core.Path.{_≡_, refl, ap, _∙_}
 use mathlib.Core.Bool.{Bool, true, false, cond, _&&_}
 use mathlib.Core.List.{List, [], _∷_, _++_, map}
 use Prim.Native.Nat.{ℕ, zero, suc, _+_, _*_, _-_, _≤_}
 use Prim.Native.Char.{code}
+use native.Mathlib.Nat.{mul-suc}
 use native.Mathlib.Omega.{arith}
 use lib.Dec.{eqb, leb}
 use lib.ListN.{length, getD, drop, length-append, length-take}
@@ -17,13 +18,15 @@ use Rattle.ways.specs.declared.here.Here.the-variants.{Whole, Cut, Outside}
 use Rattle.ways.proofs.WaysAre.{whole-inside, here-whole}
 use Rattle.ways.proofs.Within.{Small, form-here, form-is, size-short}
 use Rattle.reach.specs.Mark.{tracedMark}
+use Rattle.views.specs.Arrivals.{arrivalsOf}
 use Rattle.views.specs.DataRun.{leading, isData, runLength, dataRun}
 use Rattle.views.specs.Overlaps.{fromBefore, overlapsOf}
 use Rattle.views.specs.Positions.{upFrom, kept, tracedAt}
+use Rattle.views.proofs.Arriving.{few}
 use Rattle.views.proofs.Kept.{kept-few}
 use Rattle.listing.specs.Hex.{hex4, hexes}
 use Rattle.listing.specs.Line.{fields}
-use Rattle.listing.specs.Lines.{labelLine, foundLine, overlapLine, hereLine, dataLine, zeros}
+use Rattle.listing.specs.Lines.{labelLine, foundLine, overlapLine, arrivalLine, hereLine, dataLine, zeros}
 use Rattle.listing.specs.Walk.{codeLines, printed, passed, walk}
 use Rattle.listing.proofs.Hexing.{hex4-length, hexes-length}
 use Rattle.listing.proofs.Lining.{label-length}
@@ -35,10 +38,10 @@ unfolding fields
 places-width [] = omega arith
 places-width (q ∷ qs) = omega (arith, hex4-length q, places-width qs, length-append (hex4 q) (fields (map hex4 qs)))
 
-found-width : (letter p : ℕ) (qs : List ℕ) → length qs ≤ 3 → length (foundLine letter p qs) ≤ 22
+found-width : (letter p : ℕ) (qs : List ℕ) → length (foundLine letter p qs) ≤ 5 * length qs + 7
 unfolding fields
-found-width letter p [] h = omega arith
-found-width letter p (q ∷ qs) h = omega (arith, hex4-length p, places-width (q ∷ qs), length-append (hex4 p) (fields (map hex4 (q ∷ qs))))
+found-width letter p [] = omega arith
+found-width letter p (q ∷ qs) = omega (arith, hex4-length p, places-width (q ∷ qs), length-append (hex4 p) (fields (map hex4 (q ∷ qs))))
 
 -- positions that pass a test one after another are no more than there are
 leading-few : (f : ℕ → Bool) (k p : ℕ) → leading f (upFrom k p) ≤ k
@@ -51,7 +54,7 @@ leading-few f (suc k) p = by (f p) (leading-few f k (suc p))
     by false h = omega arith
 
 module _ (image m : List ℕ) (B : Small image) where
-  overlaps-few : (p : ℕ) → length (overlapsOf image m p) ≤ 3
+  pub overlaps-few : (p : ℕ) → length (overlapsOf image m p) ≤ 3
   unfolding overlapsOf
   overlaps-few p = by (leb (length image) 65536 && tracedAt image m p) (fromBefore image m p) (kept-few (tracedAt image m) (sizeHere image p - 1) (p + 1))
     where
@@ -74,11 +77,6 @@ module _ (image m : List ℕ) (B : Small image) where
       by (Cut c) e = omega arith
       by Outside e = omega arith
 
-  code-width : (labels : List ℕ) (p : ℕ) → length (codeLines image m labels false p) ≤ 60
-  unfolding codeLines overlapLine
-  code-width labels p =
-      omega (arith, label-length (getD labels p 0) p, found-width (code "O") p (overlapsOf image m p) (overlaps-few p), here-width p, length-append (cond (eqb (getD labels p 0) 0) [] (labelLine p)) (overlapLine p (overlapsOf image m p) ++ hereLine image p (hereOf image p)), length-append (overlapLine p (overlapsOf image m p)) (hereLine image p (hereOf image p)))
-
   run-short : (mask : List ℕ) (p : ℕ) → length (dataRun image mask p) ≤ 16
   unfolding dataRun runLength
   run-short mask p = omega (arith, length-take (leading (isData image mask) (upFrom 16 p)) (drop p image), leading-few (isData image mask) 16 p)
@@ -91,19 +89,37 @@ module _ (image m : List ℕ) (B : Small image) where
       by true = omega arith
       by false = omega (arith, hex4-length p, hexes-length bytes, length-append (hex4 p) (9 ∷ hexes bytes ++ (10 ∷ [])), length-append (hexes bytes) (10 ∷ []))
 
-  printed-width : (mask labels : List ℕ) (p : ℕ) → length (printed image m mask labels false p) ≤ 60
-  unfolding printed
-  printed-width mask labels p = by (tracedMark (getD m p 0)) (eqb (getD mask p 0) 0)
-    where
-      by : (t b : Bool) → length (cond t (codeLines image m labels false p) (cond b (dataLine p (dataRun image mask p)) [])) ≤ 60
-      by true b = code-width labels p
-      by false true = data-width p (dataRun image mask p) (run-short mask p)
-      by false false = omega arith
+  -- the line of arrivals
+  abbrev arrived : Bool → ℕ → List ℕ
+  arrived chosen p = cond chosen (arrivalLine p (arrivalsOf image m p)) []
 
-  pub walk-width : (mask labels : List ℕ) (k p s : ℕ) → length (walk image m mask labels false k p s) ≤ 60 * k
-  unfolding walk
-  walk-width mask labels zero p s = omega arith
-  walk-width mask labels (suc k) p (suc s) = let h = walk-width mask labels k (suc p) s in omega arith
-  walk-width mask labels (suc k) p zero =
-      let rest = walk image m mask labels false k (suc p) (passed image m mask p) in
-      omega (arith, printed-width mask labels p, walk-width mask labels k (suc p) (passed image m mask p), length-append (printed image m mask labels false p) rest)
+  pub arrived-width : length image ≤ 65536 → (p : ℕ) → length (arrived true p) ≤ 327687
+  unfolding arrivalLine
+  arrived-width h p = omega (arith, found-width (code "A") p (arrivalsOf image m p), few image m p)
+
+  -- where it has at most n bytes
+  module _ (chosen : Bool) (n : ℕ) (most : (p : ℕ) → length (arrived chosen p) ≤ n) (mask labels : List ℕ) where
+    code-width : (p : ℕ) → length (codeLines image m labels chosen p) ≤ 60 + n
+    unfolding codeLines overlapLine
+    code-width p =
+        let l = cond (eqb (getD labels p 0) 0) [] (labelLine p) in
+        let o = overlapLine p (overlapsOf image m p) in
+        let h = hereLine image p (hereOf image p) in
+        omega (arith, label-length (getD labels p 0) p, found-width (code "O") p (overlapsOf image m p), overlaps-few p, most p, here-width p, length-append l (o ++ (arrived chosen p ++ h)), length-append o (arrived chosen p ++ h), length-append (arrived chosen p) h)
+
+    printed-width : (p : ℕ) → length (printed image m mask labels chosen p) ≤ 60 + n
+    unfolding printed
+    printed-width p = by (tracedMark (getD m p 0)) (eqb (getD mask p 0) 0)
+      where
+        by : (t b : Bool) → length (cond t (codeLines image m labels chosen p) (cond b (dataLine p (dataRun image mask p)) [])) ≤ 60 + n
+        by true b = code-width p
+        by false true = omega (arith, data-width p (dataRun image mask p) (run-short mask p))
+        by false false = omega arith
+
+    pub walk-width : (k p s : ℕ) → length (walk image m mask labels chosen k p s) ≤ (60 + n) * k
+    unfolding walk
+    walk-width zero p s = omega arith
+    walk-width (suc k) p (suc s) = omega (arith, walk-width k (suc p) s, mul-suc (60 + n) k)
+    walk-width (suc k) p zero =
+        let rest = walk image m mask labels chosen k (suc p) (passed image m mask p) in
+        omega (arith, printed-width p, walk-width k (suc p) (passed image m mask p), length-append (printed image m mask labels chosen p) rest, mul-suc (60 + n) k)

@@ -4,18 +4,15 @@ use mathlib.Core.Path.{_≡_, _∙_, ap}
 use mathlib.Core.List.{List, [], _∷_}
 use Prim.Native.Nat.{ℕ}
 use lib.IntN.{ℤ}
-use mir.Syntax.{w32, w64}
+use mir.Syntax.{w32}
 use mir.Val.{toZ, ofZ}
 use Rattle.operand.specs.Answer.{Answer}
 use Rattle.reply.specs.Reply.{reply, replyOf}
 use Rattle.reply.specs.declared.reply.Reply.{Reply}
 
--- a number of the machine, and a value of a reply, is read back
+-- a number of the machine is read back
 abbrev pub Read : ℤ → Type 0
 Read z = toZ w32 (ofZ w32 z) ≡ z
-
-abbrev pub ReadValue : ℤ → Type 0
-ReadValue z = toZ w64 (ofZ w64 z) ≡ z
 
 -- a reply of values that equal those of the definition
 module _ {r : Reply} {n : ℕ} where

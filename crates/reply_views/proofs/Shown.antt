@@ -1,31 +1,28 @@
 -- The lengths that the views' answers carry are those of lent slices and of what is shown: each fits a value of a reply.
 -- Assumes nothing.
 use mathlib.Core.Path.{_≡_, refl, sym, _∙_}
-use mathlib.Core.Bool.{Bool, true, false, cond, _&&_}
+use mathlib.Core.Bool.{false}
 use mathlib.Core.List.{List, [], _∷_, _++_}
 use mathlib.Core.Logic.{⊎-elim}
-use Prim.Native.Nat.{ℕ, suc, _+_, _-_, _<_, _≤_, _^_}
+use Prim.Native.Nat.{ℕ, _+_, _<_, _≤_, _^_}
 use native.Mathlib.Omega.{arith}
-use lib.Dec.{eqb, ltb, leb}
+use lib.Dec.{eqb, ltb}
 use lib.IntN.{ℤ, pos}
-use lib.ListN.{length, List·getD-eq-default}
+use lib.ListN.{length}
 use Rattle.operand.specs.Answer.{Refusal, refuse}
 use Rattle.operand.proofs.Judging.{accepts}
 use Rattle.operand.proofs.Sign.{never}
-use Rattle.operand.specs.declared.kind.Shape.the-variants.{Bare}
-use Rattle.field.specs.Pattern.{pattern, bytesOf, onto, given, next}
-use Rattle.instruction.specs.Forms.{forms, form, formAt, sizeOf}
-use Rattle.instruction.specs.declared.instr.Instr.the-variants.{Nop}
-use Rattle.instruction.proofs.Shapes.{size-range}
 use Rattle.reach.proofs.Cases.{lt-or-le}
 use Rattle.trace.proofs.Sizing.{long-image}
-use Rattle.ways.specs.At.{formHere, sizeHere}
-use Rattle.views.specs.Overlaps.{fromBefore, overlapsOf}
-use Rattle.views.specs.Positions.{upFrom, positions, kept, tracedAt}
+use Rattle.trace_laws.specs.ClaimsImages.{Bytes}
+use Rattle.views.specs.Positions.{positions}
 use Rattle.views.specs.View.{damageIn, viewRefusals, viewedOf, roomAnswer, viewAnswer}
 use Rattle.views.specs.declared.view.Viewed.{Viewed}
 use Rattle.views.specs.declared.view.Viewed.the-variants.{Written, LongImage, ShortMarks, Damaged, NoRoom}
-use Rattle.views.proofs.Kept.{kept-few}
+use Rattle.listing.specs.Walk.{listingOf}
+use Rattle.listing.specs.declared.tabbed.Arrivals.{Arrivals}
+use Rattle.listing.specs.declared.tabbed.Arrivals.the-variants.{Chosen, Declined}
+use Rattle.listing_laws.proofs.ClaimsRoomBound.{listing-bound, chosen-bound}
 use Rattle.reply_views.specs.Counts.{lengthInViewed}
 use Rattle.reply.proofs.Carried.{Each, each-append, carries}
 
@@ -71,24 +68,7 @@ module _ (image m : List ℕ) (i : length image < 2 ^ 63) (k : length m < 2 ^ 63
   limited-small out room o v e =
       ⊎-elim (λ h. viewed-small [] room (omega arith) v (e ∙ past-limit out room h)) (λ h. viewed-small out room (o h) v e) (lt-or-le 65536 (length image))
 
--- a form has at most three bytes, and so has what is none
-no-form : (k : ℕ) → 70 ≤ k → sizeOf (formAt k) < 4
-unfolding formAt forms pattern bytesOf onto given next
-no-form k h = rw (List·getD-eq-default forms (form "" Bare "" (λ a b c. Nop)) {n = k} h) (omega arith)
-
-size-most : (k : ℕ) → sizeOf (formAt k) < 4
-size-most k = ⊎-elim (λ h. size-range k h .1) (no-form k) (lt-or-le k 70)
-
--- overlaps are at most three
-few : (b t : Bool) (q n : ℕ) (l : List ℕ) → length l ≤ n → length (cond b (cond t (q ∷ []) [] ++ l) []) ≤ suc n
-few true true q n l h = omega arith
-few true false q n l h = omega arith
-few false t q n l h = omega arith
-
-pub overlaps-most : (image m : List ℕ) (p : ℕ) → length (overlapsOf image m p) ≤ 3
-unfolding overlapsOf
-overlaps-most image m p =
-    let l = kept (tracedAt image m) (upFrom (sizeHere image p - 1) (p + 1)) in
-    let h = kept-few (tracedAt image m) (sizeHere image p - 1) (p + 1) in
-    let s = few (leb (length image) 65536 && tracedAt image m p) (fromBefore image m p) (p - 1) (sizeHere image p - 1) l h in
-    let k : sizeHere image p < 4 = size-most (formHere image p) in omega (arith, s, k)
+-- of a listing
+pub listing-small : (image m : List ℕ) → Bytes image → length image ≤ 65536 → (choice : Arrivals) → length (listingOf image m choice) < 2 ^ 63
+listing-small image m B h Chosen = omega (arith, h, chosen-bound image m B h)
+listing-small image m B h Declined = omega (arith, h, listing-bound image m B)

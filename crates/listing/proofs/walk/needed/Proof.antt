@@ -1,7 +1,7 @@
 -- `walk::needed` meets its contract.
 -- Assumes nothing.
 use mathlib.Core.Path.{sym, subst}
-use mathlib.Core.Bool.{Bool}
+use mathlib.Core.Bool.{Bool, false}
 use Prim.Native.Nat.{_*_, _≤_}
 use native.Mathlib.Omega.{arith}
 use borrow.Author.Needs.{needs}
@@ -25,7 +25,7 @@ returns c =
     let t = c .before in
     let k = t .before in
     let a = start k .args in
-    let w = walk-width (a .image .now) (a .marks .now) (λ n. k .before .before .before .shared-slice-known .given n .fits) (a .mask .now) (a .labels .now) (length (a .image .now)) 0 0 in
+    let w = walk-width (a .image .now) (a .marks .now) (λ n. k .before .before .before .shared-slice-known .given n .fits) false 0 (λ p. omega arith) (a .mask .now) (a .labels .now) (length (a .image .now)) 0 0 in
     let l : length (walk (a .image .now) (a .marks .now) (a .mask .now) (a .labels .now) (a .chosen) (length (a .image .now)) 0 0) ≤ 60 * length (a .image .now) = subst (λ (b : Bool). length (walk (a .image .now) (a .marks .now) (a .mask .now) (a .labels .now) b (length (a .image .now)) 0 0) ≤ 60 * length (a .image .now)) (sym (not-true (a .chosen) (t .if1 .taken))) w in
     let h = c .if2 .taken in
     record { covers = l; exact = λ g. absurd (omega (arith, g, h)) }

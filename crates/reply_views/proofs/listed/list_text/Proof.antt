@@ -2,10 +2,11 @@
 -- Assumes nothing.
 use mathlib.Core.Path.{_∙_, ap}
 use mathlib.Core.List.{[]}
+use native.Mathlib.Omega.{arith}
 use borrow.Author.Needs.{needs}
 use Rattle.lister.specs.Output.{outputOf}
+use Rattle.lister.proofs.ClaimsOutputFits.{output-fits}
 use Rattle.reply.specs.Reply.{replyOf, countValues}
-use Rattle.reply_views.proofs.Printed.{output-length}
 use Rattle.reply_views.proofs.Shown.{room-small}
 use Rattle.reply_views.proofs.listed.list_text.Statement.{statement}
 use Rattle.reply_views.proofs.listed.list_text.Tie as tie
@@ -14,7 +15,7 @@ viewed-requires : tie.Need-viewed-requires
 viewed-requires c κs =
     let t = c .before .before in
     let a = t .before .before .before .before .args in
-    room-small [] tt (outputOf (a .text .now)) (a .room .now) (output-length (a .text .now)) (t .list-text .result) (t .list-text .ensures .0)
+    room-small [] tt (outputOf (a .text .now)) (a .room .now) (omega (arith, output-fits (a .text .now))) (t .list-text .result) (t .list-text .ensures .0)
 
 returns : tie.Need-returns
 returns c =

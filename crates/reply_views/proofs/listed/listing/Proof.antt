@@ -9,8 +9,7 @@ use Rattle.views.specs.View.{viewAnswer, viewRoom}
 use Rattle.listing.specs.Walk.{listingOf}
 use Rattle.listing.specs.declared.tabbed.Arrivals.{Arrivals}
 use Rattle.reply.specs.Reply.{replyOf, countValues}
-use Rattle.reply_views.proofs.Longest.{listing-length}
-use Rattle.reply_views.proofs.Shown.{limited-small}
+use Rattle.reply_views.proofs.Shown.{limited-small, listing-small}
 use Rattle.reply_views.proofs.listed.listing.Statement.{statement}
 use Rattle.reply_views.proofs.listed.listing.Tie as tie
 
@@ -24,7 +23,7 @@ viewed-requires c κs =
     let s = start h in
     let i : length (s .args .image .now) < 2 ^ 63 = omega (arith, s .good .0 .1) in
     let m : length (s .args .marks .now) < 2 ^ 63 = omega (arith, s .good .1 .0 .1) in
-    limited-small (s .args .image .now) (s .args .marks .now) i m _ (s .args .room .now) (λ k. listing-length (s .args .image .now) (s .args .marks .now) k (h .choice .result)) (t .listing-with .result) (t .listing-with .ensures .0)
+    limited-small (s .args .image .now) (s .args .marks .now) i m _ (s .args .room .now) (λ k. listing-small (s .args .image .now) (s .args .marks .now) (λ n. h .before .before .before .shared-slice-known .given n .fits) k (h .choice .result)) (t .listing-with .result) (t .listing-with .ensures .0)
 
 returns : tie.Need-returns
 returns c =
