@@ -4,7 +4,7 @@
 use std::ffi::{c_int, c_long};
 
 /// As many samples as there is time for, within these numbers.
-const SAMPLES: (usize, usize) = (3, 15);
+const SAMPLES: (usize, usize) = (5, 15);
 /// The seconds that a sample lasts at least, and that there is time for.
 const SHORT: f64 = 0.005;
 const LONG: f64 = 8.0;

@@ -4,6 +4,7 @@
 use compare::original::Resolver;
 use std::time::Instant;
 use waterbear::budget::{self, Ended};
+use waterbear::disasm::disassemble;
 use waterbear::disasm::probe::{self, CutOff};
 use waterbear::expression::IndirectionMode;
 use waterbear::instruction::Instr;
@@ -18,6 +19,7 @@ fn main() {
     labels_outside();
     cut_off();
     data_runs();
+    long_data();
     registers();
     bases();
 }
@@ -79,6 +81,17 @@ fn data_runs() {
             probe::data_run(&image, mask, position, 16).to_vec()
         });
         println!("data run of {image:02X?}, mask {mask:?}, at {position}: {run:02X?}");
+    }
+}
+
+/// For every sixteen bytes of data that it lists, the original looks on to the end of all data there.
+fn long_data() {
+    for length in [16_384, 32_768, 65_536] {
+        let image = vec![0x41; length];
+        let start = Instant::now();
+        let listed = disassemble(false, &[], &image).is_ok();
+        let time = start.elapsed().as_millis();
+        println!("41 {length} times, no entry: listed {listed}, {time} ms");
     }
 }
 
