@@ -6,7 +6,7 @@ use native.Mathlib.Omega.{arith}
 use borrow.Author.Needs.{needs}
 use lib.ListN.{length}
 use Rattle.views.specs.Overlaps.{overlapsOf}
-use Rattle.listing_laws.proofs.ClaimsRoomBound.{overlaps-few}
+use Rattle.listing.proofs.Widths.{overlaps-few}
 use Rattle.reply.specs.Reply.{replyOf, countValues}
 use Rattle.reply_views.proofs.Shown.{viewed-small}
 use Rattle.reply_views.proofs.viewing.overlaps.Statement.{statement}
