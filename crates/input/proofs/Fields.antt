@@ -9,15 +9,16 @@ use native.Mathlib.Omega.{arith}
 use lib.Dec.{leb, ltb, eqb}
 use lib.ListN.{length, take, drop}
 use borrow.Author.Tests.{le-leb, lt-leb, ltb-true, ltb-false}
-use Rattle.input.specs.Entries.{isEntry, allEntries, isEntries, entriesLine}
-use Rattle.input.specs.Lines.{before, cut, upTo, fields}
-use Rattle.input.specs.declared.lines.Line.{Line}
-use Rattle.input.specs.declared.lines.Line.the-variants.{Good, Bad}
-use Rattle.input.proofs.Cuts.{field-next, field-last}
+use Rattle.text.specs.Cut.{before, cut, upTo, fields}
+use Rattle.text.specs.Four.{isFour}
+use Rattle.text.proofs.Cuts.{piece-inside, field-next, field-last}
+use Rattle.input.specs.Entries.{allEntries, isEntries, entriesLine}
+use Rattle.input.specs.declared.line.Line.{Line}
+use Rattle.input.specs.declared.line.Line.the-variants.{Good, Bad}
 
--- not past the end, nor at it
-pub before-end : (e n : ℕ) → e ≤ n → (e ≡ n → ⊥) → e < n
-before-end e n h k = omega arith
+-- a field that does not end at the end of the line ends before it
+pub before-end : (l : List ℕ) (at e : ℕ) → e ≡ at + length (upTo 9 (drop at l)) → at ≤ length l → (e ≡ length l → ⊥) → e < length l
+before-end l at e p h k = let i = piece-inside 9 l at e p h in omega arith
 
 pub at-next : {e n : ℕ} → e < n → e + 1 ≤ n
 at-next h = omega arith
@@ -48,11 +49,11 @@ and-false : (t : Bool) → (t && false) ≡ false
 and-false true = refl
 and-false false = refl
 
-from-good : (n : ℕ) (f : List ℕ) (fs : List (List ℕ)) → isEntry f ≡ true → lineFrom n (f ∷ fs) ≡ lineFrom (n + 1) fs
+from-good : (n : ℕ) (f : List ℕ) (fs : List (List ℕ)) → isFour f ≡ true → lineFrom n (f ∷ fs) ≡ lineFrom (n + 1) fs
 unfolding lineFrom allEntries
 from-good n f fs e = let q : n + suc (length fs) ≡ n + 1 + length fs = omega arith in rw (e, q)
 
-from-bad : (n : ℕ) (f : List ℕ) (fs : List (List ℕ)) → isEntry f ≡ false → lineFrom n (f ∷ fs) ≡ Bad
+from-bad : (n : ℕ) (f : List ℕ) (fs : List (List ℕ)) → isFour f ≡ false → lineFrom n (f ∷ fs) ≡ Bad
 unfolding lineFrom allEntries
 from-bad n f fs e = rw e
 
@@ -89,22 +90,23 @@ module _ (l : List ℕ) where
     abbrev field : List ℕ
     field = take (e - at) (drop at l)
 
-    pub left-next : e < length l → isEntry field ≡ true → Left at n → Left (e + 1) (n + 1)
+    pub left-next : e < length l → isFour field ≡ true → Left at n → Left (e + 1) (n + 1)
     unfolding Left
     left-next h f s = sym (ap (lineFrom n) (field-next l at e p h) ∙ from-good n field _ f) ∙ s
 
-    pub left-last : e ≡ length l → n < 256 → isEntry field ≡ true → Left at n → Good (n + 1) ≡ entriesLine l
+    pub left-last : e ≡ length l → n < 256 → isFour field ≡ true → Left at n → Good (n + 1) ≡ entriesLine l
     unfolding Left
     left-last h k f s =
         sym (ap (lineFrom n) (field-last l at e p h) ∙ from-good n field [] f ∙ from-none (n + 1) (omega arith)) ∙ s
 
-    pub left-bad : e ≤ length l → isEntry field ≡ false → Left at n → Bad ≡ entriesLine l
+    pub left-bad : at ≤ length l → isFour field ≡ false → Left at n → Bad ≡ entriesLine l
     unfolding Left
     left-bad h f s = by (ltb e (length l)) refl
       where
         by : (x : Bool) → ltb e (length l) ≡ x → Bad ≡ entriesLine l
         by true g = sym (ap (lineFrom n) (field-next l at e p (ltb-true e (length l) g)) ∙ from-bad n field _ f) ∙ s
         by false g =
+            let i = piece-inside 9 l at e p h in
             let k = ltb-false e (length l) g in
             sym (ap (lineFrom n) (field-last l at e p (omega arith)) ∙ from-bad n field _ f) ∙ s
 

@@ -1,11 +1,8 @@
-pub mod Cuts
-pub mod Digits
 pub mod Examples
 pub mod FieldPuts
 pub mod Fields
 pub mod Firsts
 pub mod Longest
-pub mod PairPuts
 pub mod Pairs
 pub mod ParsedApart
 pub mod Puts

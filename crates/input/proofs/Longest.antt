@@ -2,25 +2,26 @@
 -- Assumes nothing.
 use mathlib.Core.Path.{_≡_, refl, sym, ap, _∙_}
 use mathlib.Core.Logic.{_⊎_, inl, inr}
-use mathlib.Core.Bool.{Bool, true, false, cond, not, _||_, _&&_}
+use mathlib.Core.Bool.{Bool, true, false, cond, not, _||_}
 use mathlib.Core.List.{List, [], _∷_}
 use Prim.Native.Nat.{ℕ, suc, _+_, _*_, _≤_}
 use native.Mathlib.Omega.{arith}
-use lib.Dec.{eqb, leb, ltb}
+use lib.Dec.{ltb}
 use lib.IntN.{pos}
 use lib.ListN.{length, length-map}
-use borrow.Author.Tests.{eqb-true, ltb-false, not-false}
+use borrow.Author.Tests.{ltb-false, not-false}
 use Rattle.operand.specs.Answer.{Answer, accepted, refused, Refusal, judge}
 use Rattle.operand.proofs.Judging.{pass, stop, first-of}
 use Rattle.operand.proofs.Sign.{never}
-use Rattle.input.specs.Bytes.{bytesOf, isBytes, bytesIn}
+use Rattle.text.specs.Bytes.{bytesOf, isBytes}
+use Rattle.text.specs.Cut.{lines, fields}
+use Rattle.text.specs.Four.{fourOf}
+use Rattle.text.proofs.Pairs.{bytes-parts}
+use Rattle.input.specs.Bytes.{bytesIn}
 use Rattle.input.specs.ClaimsInput.{Valid, MostHeld, refusalOf, TooLong}
-use Rattle.input.specs.Entries.{entryOf, isEntries}
-use Rattle.input.specs.Hex.{allHex}
-use Rattle.input.specs.Lines.{lines, fields}
+use Rattle.input.specs.Entries.{isEntries}
 use Rattle.input.specs.Text.{entryLine, imageLines, imageRefusals, lineRefusals, countsOf, parseAnswer}
 use Rattle.input.specs.declared.parsed.Input.{Input}
-use Rattle.input.proofs.Pairs.{and-left, not-empty}
 use Rattle.input.proofs.Totals.{total, all-there, with-first, longest-first}
 use Rattle.input.proofs.Turns.{more-bytes, no-bytes}
 
@@ -40,13 +41,6 @@ or-right : (a b : Bool) → (a || b) ≡ false → b ≡ false
 or-right true b e = absurd (never e)
 or-right false b e = e
 
-doubled : (l : List ℕ) → isBytes l ≡ true → length l ≡ length (bytesOf l) * 2
-unfolding isBytes
-doubled l e =
-    let n = length (bytesOf l) in
-    let a = eqb (length l) (n * 2) in
-    eqb-true (length l) (n * 2) (and-left a (leb 1 n) (and-left (a && leb 1 n) (leb n 32) (and-left (a && leb 1 n && leb n 32) (allHex l) e)))
-
 -- a line of n bytes takes at most 3 * n bytes
 pub image-most : (k n : ℕ) (ls : List (List ℕ)) (c d : Input) → n ≤ 16384 → judge (imageRefusals k n ls) c ≡ accepted d → (total ls + n * 3 ≤ 49152) × (n + length (bytesIn ls) ≤ 16384)
 unfolding imageRefusals
@@ -54,10 +48,11 @@ image-most k n [] c d h e = (omega arith, omega (arith, ap length no-bytes))
 image-most k n (l ∷ ls) c d h e =
     let m = length (bytesOf l) in
     let p = passed _ _ c d e in
-    let g = not-false (isBytes l) (or-left (not (isBytes l)) (ltb 16384 (n + m)) (p .0)) in
-    let o = ltb-false 16384 (n + m) (or-right (not (isBytes l)) (ltb 16384 (n + m)) (p .0)) in
+    let g = not-false (isBytes 32 l) (or-left (not (isBytes 32 l)) (ltb 16384 (n + m)) (p .0)) in
+    let o = ltb-false 16384 (n + m) (or-right (not (isBytes 32 l)) (ltb 16384 (n + m)) (p .0)) in
     let r = image-most (suc k) (n + m) ls c d o (p .1) in
-    (omega (arith, r .0, doubled l g, not-empty l g), omega (arith, r .1, more-bytes l ls))
+    let b = bytes-parts 32 l g in
+    (omega (arith, r .0, b .0, b .1), omega (arith, r .1, more-bytes l ls))
 
 module _ (text : List ℕ) (v : Valid text) where
   parts : (isEntries (entryLine text) ≡ true) × (judge (imageRefusals 2 0 (imageLines text)) (countsOf text) ≡ accepted (countsOf text))
@@ -76,7 +71,7 @@ module _ (text : List ℕ) (v : Valid text) where
   held = (longest-first (entryLine text) (parts .0) .1, omega (arith, most-image .1))
 
 pub most-held : MostHeld
-most-held text v = (omega (arith, held text v .0, length-map (fields (entryLine text)) entryOf), held text v .1)
+most-held text v = (omega (arith, held text v .0, length-map (fields (entryLine text)) fourOf), held text v .1)
 
 -- accepted, or refused with 13
 abbrev pub Thirteen : Answer Input → Input → Type 0
@@ -89,7 +84,7 @@ one-line false k rest c r = r
 image-13 : (k n : ℕ) (ls : List (List ℕ)) (c : Input) → Thirteen (judge (imageRefusals k n ls) c) c
 unfolding imageRefusals judge
 image-13 k n [] c = inl refl
-image-13 k n (l ∷ ls) c = one-line (not (isBytes l) || ltb 16384 (n + length (bytesOf l))) k _ c (image-13 (suc k) (n + length (bytesOf l)) ls c)
+image-13 k n (l ∷ ls) c = one-line (not (isBytes 32 l) || ltb 16384 (n + length (bytesOf l))) k _ c (image-13 (suc k) (n + length (bytesOf l)) ls c)
 
 pub lines-13 : (text : List ℕ) → Thirteen (judge (lineRefusals text) (countsOf text)) (countsOf text)
 unfolding lineRefusals judge

@@ -6,9 +6,10 @@ use Prim.Native.Nat.{ℕ, suc, _+_, _-_, _≤_, _<_}
 use native.Mathlib.Omega.{arith}
 use lib.ListN.{length, set, take, drop, length-append}
 use lib.Seq.{sets, length-sets}
-use Rattle.input.specs.Bytes.{bytesOf, bytesIn}
-use Rattle.input.specs.Lines.{upTo, lines}
-use Rattle.input.proofs.Cuts.{line-next, lines-end}
+use Rattle.text.specs.Bytes.{bytesOf}
+use Rattle.text.specs.Cut.{upTo, lines}
+use Rattle.text.proofs.Cuts.{line-next, lines-end}
+use Rattle.input.specs.Bytes.{bytesIn}
 use Rattle.input.proofs.Turns.{no-bytes}
 
 sets-append : (room : List ℕ) (n : ℕ) (a b : List ℕ) → sets room n (a ++ b) ≡ sets (sets room n a) (n + length a) b
@@ -29,13 +30,13 @@ module _ (text : List ℕ) (from : ℕ) (image₀ : List ℕ) where
     pub put-end : length text ≤ at → image ≡ sets image₀ 0 (bytesIn (lines (drop from text)))
     put-end h = sym (ap (sets image n) (ap bytesIn (lines-end text at h) ∙ no-bytes)) ∙ s .rest
 
-    module _ (e : ℕ) (p : e ≡ at + length (upTo 10 (drop at text))) (h : at < length text) (q : e ≤ length text) where
+    module _ (e : ℕ) (p : e ≡ at + length (upTo 10 (drop at text))) (h : at < length text) where
       abbrev bytes : List ℕ
       bytes = bytesOf (take (e - at) (drop at text))
 
       next : bytesIn (lines (drop at text)) ≡ bytes ++ bytesIn (lines (drop (e + 1) text))
       unfolding bytesIn
-      next = ap bytesIn (line-next text at e p h q)
+      next = ap bytesIn (line-next text at e p h)
 
       pub put-fits : n + length bytes ≤ length image
       put-fits = omega (arith, s .fits, ap length next, length-append bytes (bytesIn (lines (drop (e + 1) text))))

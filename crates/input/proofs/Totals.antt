@@ -7,12 +7,13 @@ use Prim.Native.Nat.{ℕ, suc, _+_, _*_, _≤_}
 use native.Mathlib.Omega.{arith}
 use lib.Dec.{eqb, leb}
 use lib.ListN.{length}
-use borrow.Author.Tests.{eqb-true, leb-true}
-use Rattle.input.specs.Entries.{isEntry, allEntries, isEntries}
-use Rattle.input.specs.Hex.{allHex}
-use Rattle.input.specs.Lines.{before, cut, fields}
+use borrow.Author.Tests.{leb-true}
+use Rattle.text.specs.Cut.{before, cut, fields}
+use Rattle.text.specs.Four.{isFour}
+use Rattle.text.proofs.Ands.{and-left, and-right}
+use Rattle.text.proofs.Fours.{four-parts}
+use Rattle.input.specs.Entries.{allEntries, isEntries}
 use Rattle.input.specs.Text.{first, others}
-use Rattle.input.proofs.Pairs.{and-left, and-right}
 
 abbrev pub total : List (List ℕ) → ℕ
 total [] = 0
@@ -37,16 +38,12 @@ pub with-first : (ls : List (List ℕ)) → total ls ≤ length (first ls) + 1 +
 with-first [] = omega arith
 with-first (l ∷ ls) = omega arith
 
-four : (f : List ℕ) → isEntry f ≡ true → length f ≡ 4
-unfolding isEntry
-four f e = eqb-true (length f) 4 (and-left (eqb (length f) 4) (allHex f) e)
-
 fives : (fs : List (List ℕ)) → allEntries fs ≡ true → total fs ≡ length fs * 5
 unfolding allEntries
 fives [] e = refl
 fives (f ∷ fs) e =
-    let h = four f (and-left (isEntry f) (allEntries fs) e) in
-    let k = fives fs (and-right (isEntry f) (allEntries fs) e) in omega arith
+    let h = four-parts f (and-left (isFour f) (allEntries fs) e) .0 in
+    let k = fives fs (and-right (isFour f) (allEntries fs) e) in omega arith
 
 -- the longest line of entries
 pub longest-first : (l : List ℕ) → isEntries l ≡ true → (length l ≤ 1279) × (length (fields l) ≤ 256)

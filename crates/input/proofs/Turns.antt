@@ -11,22 +11,24 @@ use lib.ListN.{length, take, drop, length-append}
 use borrow.Author.Tests.{lt-ltb, le-ltb}
 use Rattle.operand.specs.Answer.{Answer, accepted, refused, judge}
 use Rattle.operand.proofs.Judging.{pass, stop, done}
-use Rattle.input.specs.Bytes.{bytesOf, isBytes, bytesLine, bytesIn}
-use Rattle.input.specs.Lines.{upTo, lines}
+use Rattle.text.specs.Bytes.{bytesOf, isBytes}
+use Rattle.text.specs.Cut.{upTo, lines}
+use Rattle.text.proofs.Cuts.{line-next, lines-end}
+use Rattle.text.proofs.Pairs.{bytes-parts}
+use Rattle.input.specs.Bytes.{bytesLine, bytesIn}
 use Rattle.input.specs.Text.{counts, imageRefusals}
-use Rattle.input.specs.declared.lines.Line.{Line}
-use Rattle.input.specs.declared.lines.Line.the-variants.{Good, Bad}
+use Rattle.input.specs.declared.line.Line.{Line}
+use Rattle.input.specs.declared.line.Line.the-variants.{Good, Bad}
 use Rattle.input.specs.declared.parsed.Input.{Input}
-use Rattle.input.proofs.Cuts.{line-next, lines-end}
-use Rattle.input.proofs.Pairs.{bad-line, good-line, not-empty}
+use Rattle.input.proofs.Pairs.{bad-line, good-line}
 
 -- a line that is bad, or holds too much, and one that is good
 module _ (k n : ℕ) (l : List ℕ) (ls : List (List ℕ)) (c : Input) where
-  first-bad : isBytes l ≡ false → judge (imageRefusals k n (l ∷ ls)) c ≡ refused 13 (pos k ∷ [])
+  first-bad : isBytes 32 l ≡ false → judge (imageRefusals k n (l ∷ ls)) c ≡ refused 13 (pos k ∷ [])
   unfolding imageRefusals
   first-bad e = stop _ _ _ (rw e)
 
-  module _ (e : isBytes l ≡ true) where
+  module _ (e : isBytes 32 l ≡ true) where
     first-over : 16384 < n + length (bytesOf l) → judge (imageRefusals k n (l ∷ ls)) c ≡ refused 13 (pos k ∷ [])
     unfolding imageRefusals
     first-over h = stop _ _ _ (rw (e, lt-ltb 16384 (n + length (bytesOf l)) h))
@@ -75,12 +77,12 @@ module _ (text : List ℕ) (from entries : ℕ) where
         let s : c ≡ all = rw (← a, ← m) in
         ap accepted s ∙ sym (ap (λ (ls : List (List ℕ)). judge (imageRefusals k n ls) all) e ∙ done all) ∙ j .same
 
-    module _ (e : ℕ) (p : e ≡ at + length (upTo 10 (drop at text))) (h : at < length text) (q : e ≤ length text) where
+    module _ (e : ℕ) (p : e ≡ at + length (upTo 10 (drop at text))) (h : at < length text) where
       abbrev line : List ℕ
       line = take (e - at) (drop at text)
 
       next : lines (drop at text) ≡ line ∷ lines (drop (e + 1) text)
-      next = line-next text at e p h q
+      next = line-next text at e p h
 
       here : said at k n ≡ judge (imageRefusals k n (line ∷ lines (drop (e + 1) text))) all
       here = ap (λ (ls : List (List ℕ)). judge (imageRefusals k n ls) all) next
@@ -96,7 +98,7 @@ module _ (text : List ℕ) (from entries : ℕ) where
       pub judge-next : (r : Line) → r ≡ bytesLine line → (m : ℕ) → r ≡ Good m → n + m ≤ 16384 → Judging (e + 1) (k + 1) (n + m)
       judge-next r f m g o =
           let w = good-line line m (sym f ∙ g) in
-          let y = not-empty line (w .0) in
+          let y = bytes-parts 32 line (w .0) .1 in
           record {
             few = o;
             count = omega (arith, j .count, w .1, y);

@@ -1,11 +1,9 @@
 -- The one answer to an input and the one content of each room: a bad line, too little room, or all written.
 -- Assumes nothing.
 use mathlib.Core.Path.{_≡_, refl, sym, ap, _∙_}
-use mathlib.Core.Logic.{_⊎_, inl, inr}
 use mathlib.Core.Bool.{Bool, true, false, _||_}
 use mathlib.Core.List.{List, [], _∷_}
 use Prim.Native.Nat.{ℕ, _<_, _≤_}
-use native.Mathlib.Omega.{arith}
 use lib.Dec.{ltb}
 use lib.IntN.{ℤ, pos}
 use lib.ListN.{length}
@@ -16,11 +14,6 @@ use Rattle.input.specs.Text.{countsOf, entriesOf, imageOf, lineRefusals,
 use Rattle.input.specs.declared.parsed.Input.{Input}
 use Rattle.input.specs.declared.parsed.Parsed.{Parsed}
 use Rattle.input.specs.declared.parsed.Parsed.the-variants.{Accepted, Malformed, NoRoom}
-
--- the first case of an answer is neither of the others
-pub neither : (_≡_ {A = ℕ} 0 1) ⊎ (_≡_ {A = ℕ} 0 2) → ⊥
-neither (inl e) = omega arith
-neither (inr e) = omega arith
 
 or-true : (t : Bool) → (t || true) ≡ true
 or-true true = refl

@@ -1,27 +1,19 @@
 -- The line of entries. Document 01, 'The listing': 'line 1 entries (none to 256, four upper-case hex digits each, tab-parted)'.
 -- Assumes nothing.
-use Prim.Native.Nat.{ℕ, _+_, _*_}
+use Prim.Native.Nat.{ℕ}
 use mathlib.Core.Bool.{Bool, true, cond, _&&_}
 use mathlib.Core.List.{List, [], _∷_, map}
-use lib.Dec.{eqb, leb}
-use lib.ListN.{length, getD}
-use Rattle.input.specs.Hex.{digitOf, allHex}
-use Rattle.input.specs.Lines.{fields}
-use Rattle.input.specs.declared.lines.Line.{Line}
-use Rattle.input.specs.declared.lines.Line.the-variants.{Good, Bad}
+use lib.Dec.{leb}
+use lib.ListN.{length}
+use Rattle.text.specs.Cut.{fields}
+use Rattle.text.specs.Four.{isFour, fourOf}
+use Rattle.input.specs.declared.line.Line.{Line}
+use Rattle.input.specs.declared.line.Line.the-variants.{Good, Bad}
 
--- a field of four digits
-unfoldable pub isEntry : List ℕ → Bool
-isEntry f = eqb (length f) 4 && allHex f
-
--- the number that four digits stand for
-unfoldable pub entryOf : List ℕ → ℕ
-entryOf f = ((digitOf (getD f 0 0) * 16 + digitOf (getD f 1 0)) * 16 + digitOf (getD f 2 0)) * 16 + digitOf (getD f 3 0)
-
--- every field is an entry
+-- every field is four digits
 unfoldable pub allEntries : List (List ℕ) → Bool
 allEntries [] = true
-allEntries (f ∷ fs) = isEntry f && allEntries fs
+allEntries (f ∷ fs) = isFour f && allEntries fs
 
 -- none to 256 entries
 unfoldable pub isEntries : List ℕ → Bool
@@ -29,7 +21,7 @@ isEntries l = allEntries (fields l) && leb (length (fields l)) 256
 
 -- their numbers, in their order
 abbrev pub entriesIn : List ℕ → List ℕ
-entriesIn l = map entryOf (fields l)
+entriesIn l = map fourOf (fields l)
 
 -- a good line, with the number of its entries
 unfoldable pub entriesLine : List ℕ → Line

@@ -7,9 +7,10 @@ use lib.Dec.{ltb}
 use lib.IntN.{pos}
 use lib.ListN.{length, drop}
 use Rattle.operand.specs.Answer.{Answer, accepted, refused, Refusal, refuse, judge, after}
-use Rattle.input.specs.Bytes.{bytesOf, isBytes, bytesIn}
+use Rattle.text.specs.Bytes.{bytesOf, isBytes}
+use Rattle.text.specs.Cut.{lines}
+use Rattle.input.specs.Bytes.{bytesIn}
 use Rattle.input.specs.Entries.{isEntries, entriesIn}
-use Rattle.input.specs.Lines.{lines}
 use Rattle.input.specs.declared.parsed.Input.{Input}
 use Rattle.input.specs.declared.parsed.Parsed.{Parsed}
 use Rattle.input.specs.declared.parsed.Parsed.the-variants.{Accepted, Malformed, NoRoom}
@@ -45,7 +46,7 @@ bad b k = refuse b 13 (pos k ∷ [])
 unfoldable pub imageRefusals : ℕ → ℕ → List (List ℕ) → List Refusal
 imageRefusals k n [] = []
 imageRefusals k n (l ∷ ls) =
-    bad (not (isBytes l) || ltb 16384 (n + length (bytesOf l))) k ∷ imageRefusals (suc k) (n + length (bytesOf l)) ls
+    bad (not (isBytes 32 l) || ltb 16384 (n + length (bytesOf l))) k ∷ imageRefusals (suc k) (n + length (bytesOf l)) ls
 
 -- the lines in their order: the first bad one speaks
 unfoldable pub lineRefusals : List ℕ → List Refusal

@@ -3,29 +3,12 @@ ghost use mathlib.Core.Path.{_≡_};
 ghost use Prim.Native.Nat.{_≤_};
 ghost use lib.ListN.{length};
 ghost use lib.Seq.{sets};
-ghost use Rattle.input.specs.Entries.{isEntry, entryOf, entriesIn, entriesLine};
-ghost use Rattle.input.specs.Lines.{fields};
-use crate::hex;
-use crate::lines;
-use crate::lines::Line;
+ghost use Rattle.text.specs.Cut.{fields};
+ghost use Rattle.input.specs.Entries.{entriesIn, entriesLine};
+use crate::line::Line;
 use crate::parsed::Input;
-
-fn is_entry(field: &[u8]) -> bool
-    ensures { λ r. ⌜ r ≡ isEntry (now (field .entry)) ⌝ }
-{
-    if field.len() != 4 {
-        return false;
-    }
-    hex::is_hex(field)
-}
-
-// The number that four digits stand for.
-fn entry_of(field: &[u8]) -> u32
-    ensures { λ r. ⌜ r ≡ entryOf (now (field .entry)) ⌝ }
-{
-    let high = hex::digit_at(field, 0) * 16 + hex::digit_at(field, 1);
-    (high * 16 + hex::digit_at(field, 2)) * 16 + hex::digit_at(field, 3)
-}
+use text::cut;
+use text::four;
 
 // Whether a line is one of entries, and of how many.
 pub fn judge(line: &[u8]) -> Line
@@ -37,8 +20,8 @@ pub fn judge(line: &[u8]) -> Line
     let mut at: usize = 0;
     let mut n: usize = 0;
     while n < Input::MOST_ENTRIES {
-        let e = lines::end(line, at, lines::TAB);
-        if !is_entry(&line[at..e]) {
+        let e = cut::end(line, at, cut::TAB);
+        if !four::is_four(&line[at..e]) {
             return Line::Bad;
         }
         n += 1;
@@ -61,8 +44,8 @@ pub fn write(line: &[u8], room: &mut [u32])
     let mut at: usize = 0;
     let mut n: usize = 0;
     while n < room.len() {
-        let e = lines::end(line, at, lines::TAB);
-        room[n] = entry_of(&line[at..e]);
+        let e = cut::end(line, at, cut::TAB);
+        room[n] = four::four_of(&line[at..e]);
         n += 1;
         if e == line.len() {
             return;

@@ -1,11 +1,10 @@
 // The input of the listing program: a line of entries, then lines of image bytes, all in upper-case hex.
 mod bytes;
 mod entries;
-mod hex;
-mod lines;
+mod line;
 pub mod parsed;
-pub mod text;
+pub mod read;
 
 pub use parsed::Input;
 pub use parsed::Parsed;
-pub use text::parse;
+pub use read::parse;

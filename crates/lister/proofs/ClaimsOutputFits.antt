@@ -3,20 +3,18 @@
 use mathlib.Core.Path.{_≡_, refl, sym, ap, _∙_}
 use mathlib.Core.Bool.{Bool, true, false, cond}
 use mathlib.Core.List.{List, [], _∷_, _++_}
-use Prim.Native.Nat.{ℕ, zero, suc, _+_, _-_, _/_, _%_, _≤_, _<_}
+use Prim.Native.Nat.{ℕ, zero, suc, _+_, _/_, _%_, _≤_, _<_}
 use native.Mathlib.Omega.{arith}
-use lib.Dec.{leb, ltb}
+use lib.Dec.{ltb}
 use lib.ListN.{length, getD}
-use borrow.Author.Tests.{leb-true}
 use Rattle.operand.specs.Answer.{Answer, accepted, refused, judge}
 use Rattle.operand.proofs.Judging.{accepts}
-use Rattle.ways.proofs.Ands.{second-part}
 use Rattle.trace.specs.Run.{runAnswer, runMarks}
 use Rattle.trace_laws.specs.ClaimsImages.{Bytes}
 use Rattle.views.specs.View.{viewRefusals}
-use Rattle.input.specs.Bytes.{bytesOf, bytesIn}
+use Rattle.text.specs.Bytes.{bytesOf}
+use Rattle.input.specs.Bytes.{bytesIn}
 use Rattle.input.specs.ClaimsInput.{Valid}
-use Rattle.input.specs.Hex.{within, digitOf}
 use Rattle.input.specs.Text.{countsOf, entriesOf, imageOf, imageLines, lineRefusals}
 use Rattle.input.proofs.Longest.{most-held}
 use Rattle.listing.specs.Walk.{listingOf}
@@ -24,31 +22,16 @@ use Rattle.listing.specs.declared.tabbed.Arrivals.the-variants.{Declined}
 use Rattle.listing_laws.proofs.ClaimsRoomBound.{listing-bound}
 use Rattle.lister.specs.ClaimsOutput.{OutputFits}
 use Rattle.lister.specs.Output.{lent, refusalLine, tracedText, textListed, shown, outputOf}
+use Rattle.text.proofs.Pairs.{bytes-small}
 use Rattle.lister.proofs.Parts.{or-accepted}
 
 -- ---- the bytes of an image
-
-digit-low : (b : ℕ) → digitOf b ≤ 15
-unfolding digitOf
-digit-low b = by (within 48 57 b) (within 65 70 b) refl refl
-  where
-    by : (s t : Bool) → within 48 57 b ≡ s → within 65 70 b ≡ t → cond s (b - 48) (cond t (b - 55) 0) ≤ 15
-    by true t e f = let h : b ≤ 57 = leb-true b 57 (second-part (leb 48 b) (leb b 57) e) in omega arith
-    by false true e f = let h : b ≤ 70 = leb-true b 70 (second-part (leb 65 b) (leb b 70) f) in omega arith
-    by false false e f = omega arith
 
 abbrev Low : List ℕ → Type 0
 Low l = (p : ℕ) → getD l p 0 < 256
 
 none-low : Low []
 none-low p = omega arith
-
-line-low : (l : List ℕ) → Low (bytesOf l)
-unfolding bytesOf
-line-low [] p = omega arith
-line-low (a ∷ []) p = omega arith
-line-low (a ∷ b ∷ l) zero = let g = digit-low a in let h = digit-low b in omega arith
-line-low (a ∷ b ∷ l) (suc p) = line-low l p
 
 append-low : (k l : List ℕ) → Low k → Low l → Low (k ++ l)
 append-low [] l f g p = g p
@@ -58,7 +41,7 @@ append-low (x ∷ k) l f g (suc p) = append-low k l (λ q. f (suc q)) g p
 lines-low : (ls : List (List ℕ)) → Low (bytesIn ls)
 unfolding bytesIn
 lines-low [] p = omega arith
-lines-low (l ∷ ls) p = append-low (bytesOf l) (bytesIn ls) (line-low l) (lines-low ls) p
+lines-low (l ∷ ls) p = append-low (bytesOf l) (bytesIn ls) (bytes-small l) (lines-low ls) p
 
 -- ---- the output
 

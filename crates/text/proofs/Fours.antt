@@ -1,0 +1,16 @@
+-- What four digits are: four bytes, each a digit.
+-- Assumes nothing.
+use mathlib.Core.Path.{_≡_}
+use mathlib.Core.Bool.{true}
+use mathlib.Core.List.{List}
+use Prim.Native.Nat.{ℕ}
+use lib.Dec.{eqb}
+use lib.ListN.{length}
+use borrow.Author.Tests.{eqb-true}
+use Rattle.text.specs.Four.{isFour}
+use Rattle.text.specs.Hex.{allHex}
+use Rattle.text.proofs.Ands.{and-left, and-right}
+
+pub four-parts : (f : List ℕ) → isFour f ≡ true → (length f ≡ 4) × (allHex f ≡ true)
+unfolding isFour
+four-parts f e = (eqb-true (length f) 4 (and-left (eqb (length f) 4) (allHex f) e), and-right (eqb (length f) 4) (allHex f) e)

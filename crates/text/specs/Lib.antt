@@ -1,0 +1,5 @@
+pub mod Bytes
+pub mod Cut
+pub mod Four
+pub mod Fields
+pub mod Hex
