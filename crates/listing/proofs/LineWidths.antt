@@ -8,7 +8,7 @@ use Prim.Native.Char.{code}
 use native.Mathlib.Omega.{arith}
 use lib.Dec.{leb, ltb}
 use borrow.Author.Tests.{leb-true}
-use lib.ListN.{length, take, drop, length-append, length-take}
+use lib.ListN.{length, take, length-append, length-take}
 use Rattle.operand.specs.Kinds.{kindsOf}
 use Rattle.field.specs.Pattern.{pattern, bytesOf, onto, given, next}
 use Rattle.operand.specs.declared.kind.Kind.{Kind}
@@ -21,7 +21,7 @@ use Rattle.instruction.specs.declared.instr.Instr.{Instr}
 use Rattle.instruction.proofs.Shapes.{at-each}
 use Rattle.listing.specs.Hex.{hex4, hexes}
 use Rattle.listing.specs.Line.{fields}
-use Rattle.listing.specs.Lines.{instrLine}
+use Rattle.listing.specs.Lines.{instrText}
 use Rattle.listing.specs.Operand.{target, shown, shownAll, operandsBy, operands}
 use Rattle.listing.proofs.Hexing.{hex2-length, hex3-length, hex4-length, hexes-length}
 
@@ -76,12 +76,12 @@ narrow : (k : ℕ) → k < 70 → leb (widthIn (formAt k)) 22 ≡ true
 unfolding forms pattern bytesOf onto given next lettersOf kindsOf
 narrow = at-each (λ w. leb (widthIn w) 22) (λ w. true) refl
 
-pub instr-width : (image : List ℕ) (p : ℕ) (i : Instr) → partsOf i .form < 70 → length (instrLine image p i) ≤ 31
-unfolding instrLine fields operandsBy mnemonicOf
-instr-width image p i h =
-    let bytes : List ℕ = take (sizeOf (formIn i)) (drop p image) in
+pub instr-width : (p : ℕ) (i : Instr) (all : List ℕ) → partsOf i .form < 70 → length (instrText p i all) ≤ 31
+unfolding instrText fields operandsBy mnemonicOf
+instr-width p i all h =
+    let bytes : List ℕ = take (sizeOf (formIn i)) all in
     let name : List ℕ = lettersOf (formIn i .name) in
     let end : List ℕ = fields (operands p i) in
     let w : widthIn (formIn i) ≤ 22 = leb-true (widthIn (formIn i)) 22 (narrow (partsOf i .form) h) in
     let o : length end ≤ widths (kindsOf (formIn i .shape)) + 1 = fields-width _ (kindsOf (formIn i .shape)) _ in
-    omega (arith, w, o, hex4-length p, hexes-length bytes, length-take (sizeOf (formIn i)) (drop p image), length-append name end, length-append (hexes bytes) (9 ∷ name ++ end), length-append (hex4 p) (9 ∷ hexes bytes ++ (9 ∷ name ++ end)))
+    omega (arith, w, o, hex4-length p, hexes-length bytes, length-take (sizeOf (formIn i)) all, length-append name end, length-append (hexes bytes) (9 ∷ name ++ end), length-append (hex4 p) (9 ∷ hexes bytes ++ (9 ∷ name ++ end)))

@@ -3,26 +3,29 @@
 use mathlib.Core.Path.{_≡_, refl, sym, ap, _∙_}
 use mathlib.Core.Bool.{Bool, true, false, cond, _&&_}
 use mathlib.Core.List.{List, [], _∷_, _++_, map}
-use Prim.Native.Nat.{ℕ, _+_, _-_, _<_, _≤_}
+use Prim.Native.Nat.{ℕ, _+_, _<_, _≤_}
 use Prim.Native.Char.{code}
 use native.Mathlib.Numerals.{add-one}
 use native.Mathlib.Omega.{arith}
-use borrow.Author.Tests.{eq-eqb, ne-eqb}
+use borrow.Author.Tests.{eq-eqb, ne-eqb, lt-ltb, le-ltb}
 use lib.Dec.{eqb}
-use lib.ListN.{length, getD, take, drop, drop-of-length-le, length-append, length-drop}
-use lib.Seq.{drop-cons, length-take-le}
+use lib.ListN.{length, getD, take, drop, drop-of-length-le, length-append}
+use lib.Seq.{drop-cons}
 use Rattle.instruction.specs.Encode.{formIn}
 use Rattle.instruction.specs.Forms.{sizeOf}
 use Rattle.instruction.specs.Mnemonic.{mnemonicOf}
 use Rattle.instruction.specs.Parts.{partsOf}
 use Rattle.instruction.specs.declared.instr.Instr.{Instr}
-use Rattle.ways.specs.Targets.{targetsAnswer}
+use Rattle.operand.specs.declared.answer.CutOff.{CutOff}
+use Rattle.ways.specs.Here.{hereOf}
+use Rattle.ways.specs.Targets.{nextOf, targetsAnswer}
+use Rattle.ways.specs.declared.here.Here.the-variants.{Whole, Cut, Outside}
 use Rattle.views.specs.Overlaps.{overlapsIn}
 use Rattle.views.specs.declared.overlaps.Overlaps.{Overlaps}
 use Rattle.views.specs.declared.overlaps.Overlaps.the-variants.{Nothing, One, Two, Three}
 use Rattle.listing.specs.Hex.{hex4, hexes}
 use Rattle.listing.specs.Line.{fields}
-use Rattle.listing.specs.Lines.{labelLine, foundLine, overlapLine, arrivalLine, instrLine, zeros, dataLine}
+use Rattle.listing.specs.Lines.{labelLine, foundLine, overlapLine, arrivalLine, instrText, codeBy, codeLine, zeros, dataLine}
 use Rattle.listing.specs.Operand.{firstOf, operandsBy}
 use Rattle.listing.specs.Puts.{Puts, letters}
 use Rattle.listing.proofs.Hexing.{hex4-length, hexes-length}
@@ -125,19 +128,29 @@ module _ (p : ℕ) (chosen : Bool) (qs : List ℕ) where
 
 -- ---- `I`
 
-module _ (image : List ℕ) (p : ℕ) (i : Instr) where
-  pub instr : (t : ℕ) → t ≡ firstOf (targetsAnswer p i) → (w : ℕ) → letters 8 w ≡ mnemonicOf (partsOf i .form) → (bytes : List ℕ) → bytes ≡ take (sizeOf (formIn i)) (drop p image)
-      → begin (code "I") p ++ ((9 ∷ hexes bytes) ++ ((9 ∷ letters 8 w) ++ fields (operandsBy t i))) ≡ instrLine image p i
-  unfolding instrLine fields
+module _ (all : List ℕ) (p : ℕ) (i : Instr) where
+  pub instr : (t : ℕ) → t ≡ firstOf (targetsAnswer p i) → (w : ℕ) → letters 8 w ≡ mnemonicOf (partsOf i .form) → (bytes : List ℕ) → bytes ≡ take (sizeOf (formIn i)) all
+      → begin (code "I") p ++ ((9 ∷ hexes bytes) ++ ((9 ∷ letters 8 w) ++ fields (operandsBy t i))) ≡ instrText p i all
+  unfolding instrText fields
   instr t e w f bytes g = rw (e, f, g)
 
-pub part : (image : List ℕ) (b n : ℕ) → take ((b + n) - b) (drop b image) ≡ take n (drop b image)
-part image b n = let e : (b + n) - b ≡ n = omega arith in ap (λ (k : ℕ). take k (drop b image)) e
+-- by itself
+module _ (p : ℕ) (bytes : List ℕ) where
+  pub code-past : (i : Instr) → Whole i ≡ hereOf bytes 0 → 65536 < nextOf p i → [] ≡ codeLine p bytes
+  unfolding codeLine
+  code-past i e h = ap (λ (b : Bool). cond b [] (instrText p i bytes)) (sym (lt-ltb 65536 (nextOf p i) h)) ∙ ap (codeBy p bytes) e
 
-pub part-length : (image : List ℕ) (b n : ℕ) → length image ≤ 65536 → b + n ≤ length image → length (take ((b + n) - b) (drop b image)) ≤ 65536
-part-length image b n h k =
-    let e : length (take n (drop b image)) ≡ n = length-take-le n (drop b image) (omega (arith, length-drop b image)) in
-    omega (arith, ap length (part image b n), e)
+  pub code-here : (i : Instr) → Whole i ≡ hereOf bytes 0 → nextOf p i ≤ 65536 → instrText p i bytes ≡ codeLine p bytes
+  unfolding codeLine
+  code-here i e h = ap (λ (b : Bool). cond b [] (instrText p i bytes)) (sym (le-ltb 65536 (nextOf p i) h)) ∙ ap (codeBy p bytes) e
+
+  pub code-cut : (c : CutOff) → Cut c ≡ hereOf bytes 0 → [] ≡ codeLine p bytes
+  unfolding codeLine
+  code-cut c e = ap (codeBy p bytes) e
+
+  pub code-none : Outside ≡ hereOf bytes 0 → [] ≡ codeLine p bytes
+  unfolding codeLine
+  code-none e = ap (codeBy p bytes) e
 
 -- ---- `D`
 

@@ -7,12 +7,13 @@ use Prim.Native.Nat.{ℕ, zero, suc, _+_, _*_, _-_, _≤_}
 use Prim.Native.Char.{code}
 use native.Mathlib.Nat.{mul-suc}
 use native.Mathlib.Omega.{arith}
-use lib.Dec.{eqb, leb}
+use lib.Dec.{eqb, ltb, leb}
 use lib.ListN.{length, getD, drop, length-append, length-take}
 use Rattle.instruction.specs.Parts.{partsOf}
-use Rattle.instruction.specs.declared.instr.Parts.{Parts}
+use Rattle.instruction.specs.declared.instr.Instr.{Instr}
 use Rattle.ways.specs.At.{formHere, sizeHere}
 use Rattle.ways.specs.Here.{hereOf}
+use Rattle.ways.specs.Targets.{nextOf}
 use Rattle.ways.specs.declared.here.Here.{Here}
 use Rattle.ways.specs.declared.here.Here.the-variants.{Whole, Cut, Outside}
 use Rattle.ways.proofs.WaysAre.{whole-inside, here-whole}
@@ -26,7 +27,7 @@ use Rattle.views.proofs.Arriving.{few}
 use Rattle.views.proofs.Kept.{kept-few}
 use Rattle.listing.specs.Hex.{hex4, hexes}
 use Rattle.listing.specs.Line.{fields}
-use Rattle.listing.specs.Lines.{labelLine, foundLine, overlapLine, arrivalLine, hereLine, dataLine, zeros}
+use Rattle.listing.specs.Lines.{labelLine, foundLine, overlapLine, arrivalLine, instrText, hereLine, codeBy, codeLine, dataLine, zeros}
 use Rattle.listing.specs.Walk.{codeLines, printed, passed, walk}
 use Rattle.listing.proofs.Hexing.{hex4-length, hexes-length}
 use Rattle.listing.proofs.Lining.{label-length}
@@ -44,7 +45,7 @@ found-width letter p [] = omega arith
 found-width letter p (q ∷ qs) = omega (arith, hex4-length p, places-width (q ∷ qs), length-append (hex4 p) (fields (map hex4 (q ∷ qs))))
 
 -- positions that pass a test one after another are no more than there are
-leading-few : (f : ℕ → Bool) (k p : ℕ) → leading f (upFrom k p) ≤ k
+pub leading-few : (f : ℕ → Bool) (k p : ℕ) → leading f (upFrom k p) ≤ k
 unfolding leading upFrom
 leading-few f zero p = omega arith
 leading-few f (suc k) p = by (f p) (leading-few f k (suc p))
@@ -66,14 +67,32 @@ module _ (image m : List ℕ) (B : Small image) where
       by true false h = omega (arith, size-short image p B .1)
       by false b h = omega arith
 
+  -- what stands at q, shown at any place
+  whole-width : (q : ℕ) (i : Instr) → Whole i ≡ hereOf image q → (p : ℕ) (all : List ℕ) → length (instrText p i all) ≤ 31
+  whole-width q i e p all =
+      let w = here-whole image q (whole-inside image q i e) i e in
+      let f : partsOf i .form ≡ formHere image q = ap (λ j. partsOf j .form) (w .1) ∙ form-is image q B in
+      instr-width p i all (omega (arith, f, form-here image q B))
+
   here-width : (p : ℕ) → length (hereLine image p (hereOf image p)) ≤ 31
   here-width p = by (hereOf image p) refl
     where
       by : (h : Here) → h ≡ hereOf image p → length (hereLine image p h) ≤ 31
-      by (Whole i) e =
-          let w = here-whole image p (whole-inside image p i e) i e in
-          let f : partsOf i .form ≡ formHere image p = ap (λ j. partsOf j .form) (w .1) ∙ form-is image p B in
-          instr-width image p i (omega (arith, f, form-here image p B))
+      by (Whole i) e = whole-width p i e p (drop p image)
+      by (Cut c) e = omega arith
+      by Outside e = omega arith
+
+  -- bytes by themselves
+  pub alone-width : (p : ℕ) → length (codeLine p image) ≤ 31
+  unfolding codeLine
+  alone-width p = by (hereOf image 0) refl
+    where
+      past : (b : Bool) (i : Instr) → Whole i ≡ hereOf image 0 → length (cond b [] (instrText p i image)) ≤ 31
+      past true i e = omega arith
+      past false i e = whole-width 0 i e p image
+
+      by : (h : Here) → h ≡ hereOf image 0 → length (codeBy p image h) ≤ 31
+      by (Whole i) e = past (ltb 65536 (nextOf p i)) i e
       by (Cut c) e = omega arith
       by Outside e = omega arith
 

@@ -5,13 +5,15 @@ use Prim.Native.Nat.{ℕ}
 use Prim.Native.Char.{code}
 use mathlib.Core.Bool.{Bool, true, cond, _&&_}
 use mathlib.Core.List.{List, [], _∷_, map}
-use lib.Dec.{eqb}
+use lib.Dec.{eqb, ltb}
 use lib.ListN.{take, drop}
 use Rattle.instruction.specs.Encode.{formIn}
 use Rattle.instruction.specs.Forms.{sizeOf}
 use Rattle.instruction.specs.Mnemonic.{mnemonicOf}
 use Rattle.instruction.specs.Parts.{partsOf}
 use Rattle.instruction.specs.declared.instr.Instr.{Instr}
+use Rattle.ways.specs.Here.{hereOf}
+use Rattle.ways.specs.Targets.{nextOf}
 use Rattle.ways.specs.declared.here.Here.{Here}
 use Rattle.ways.specs.declared.here.Here.the-variants.{Whole, Cut, Outside}
 use Rattle.listing.specs.Hex.{hex4, hexes}
@@ -32,16 +34,28 @@ overlapLine p qs = foundLine (code "O") p qs
 unfoldable pub arrivalLine : ℕ → List ℕ → List ℕ
 arrivalLine p qs = foundLine (code "A") p qs
 
--- the instruction i at p
-unfoldable pub instrLine : List ℕ → ℕ → Instr → List ℕ
-instrLine image p i =
-    line (code "I") (hex4 p ∷ hexes (take (sizeOf (formIn i)) (drop p image)) ∷ mnemonicOf (partsOf i .form) ∷ operands p i)
+-- the instruction i at p, with which these bytes begin
+unfoldable pub instrText : ℕ → Instr → List ℕ → List ℕ
+instrText p i bytes =
+    line (code "I") (hex4 p ∷ hexes (take (sizeOf (formIn i)) bytes) ∷ mnemonicOf (partsOf i .form) ∷ operands p i)
+
+abbrev pub instrLine : List ℕ → ℕ → Instr → List ℕ
+instrLine image p i = instrText p i (drop p image)
 
 -- what stands at p; a traced instruction that is cut off was refused before
 abbrev pub hereLine : List ℕ → ℕ → Here → List ℕ
 hereLine image p (Whole i) = instrLine image p i
 hereLine image p (Cut c) = []
 hereLine image p Outside = []
+
+-- bytes by themselves at p: the line of the instruction that they begin with; none where it is cut off, or next is over 65,536
+abbrev pub codeBy : ℕ → List ℕ → Here → List ℕ
+codeBy p bytes (Whole i) = cond (ltb 65536 (nextOf p i)) [] (instrText p i bytes)
+codeBy p bytes (Cut c) = []
+codeBy p bytes Outside = []
+
+unfoldable pub codeLine : ℕ → List ℕ → List ℕ
+codeLine p bytes = codeBy p bytes (hereOf bytes 0)
 
 abbrev pub zeros : List ℕ → Bool
 zeros [] = true

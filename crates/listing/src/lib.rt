@@ -1,4 +1,5 @@
 // The listing: what stands at each position of an image, as tabbed text.
+pub mod code;
 mod lines;
 mod operands;
 mod put;
@@ -6,6 +7,8 @@ mod rooms;
 pub mod tabbed;
 mod walk;
 
+pub use code::code_line;
+pub use put::digit;
 pub use tabbed::Arrivals;
 pub use tabbed::listing;
 pub use tabbed::listing_with;

@@ -13,7 +13,7 @@ ghost use Rattle.views.specs.Arrivals.{arrivalsOf, nextArrival};
 ghost use Rattle.views.specs.Overlaps.{overlapsIn, overlapsOf};
 ghost use Rattle.listing.specs.Hex.{hex4};
 ghost use Rattle.listing.specs.Line.{fields};
-ghost use Rattle.listing.specs.Lines.{labelLine, overlapLine, arrivalLine, instrLine, hereLine, zeros, dataLine};
+ghost use Rattle.listing.specs.Lines.{labelLine, overlapLine, arrivalLine, instrText, hereLine, zeros, dataLine};
 ghost use Rattle.listing.specs.Puts.{Puts};
 use crate::operands;
 use crate::put;
@@ -122,28 +122,27 @@ pub fn put_arrivals(
     put_arrived(image, marks, out, a, p, first)
 }
 
-// `I`, of an instruction that ends within the image.
-fn put_instr(image: &[u8], out: &mut [u8], at: usize, p: u32, instr: Instr) -> usize
-    requires { ⌜ (at < 2 ^ 54) × (length (now image) ≤ 65536) × (p + sizeOf (formIn instr) ≤ length (now image)) ⌝ }
-    ensures { λ r. ⌜ (Puts (instrLine (now (image .entry)) p instr) at (now (out .entry)) (now (out .exit)) r) × (r ≤ at + 2 ^ 18) ⌝ }
+// `I`, of an instruction with which these bytes begin.
+pub fn put_instr(bytes: &[u8], out: &mut [u8], at: usize, p: u32, instr: Instr) -> usize
+    requires { ⌜ (at < 2 ^ 54) × (sizeOf (formIn instr) < 4) × (sizeOf (formIn instr) ≤ length (now bytes)) ⌝ }
+    ensures { λ r. ⌜ (Puts (instrText p instr (now (bytes .entry))) at (now (out .entry)) (now (out .exit)) r) × (r ≤ at + 2 ^ 18) ⌝ }
 {
     let t = operands::first_of(ways::targets(p, instr));
-    let b = p as usize;
-    let e = b + instr.size();
+    let n = instr.size();
     let word = instr.mnemonic();
     let a1 = put::put_start(out, at, b'I', p);
-    let a2 = put::put_bytes(out, a1, &image[b..e]);
+    let a2 = put::put_bytes(out, a1, &bytes[..n]);
     let a3 = put::put_word(out, a2, word);
     operands::put_operands(out, a3, instr, t)
 }
 
 // `I`, of what stands at p.
 pub fn put_here(image: &[u8], out: &mut [u8], at: usize, p: u32) -> usize
-    requires { ⌜ (at < 2 ^ 54) × (length (now image) ≤ 65536) ⌝ }
+    requires { ⌜ at < 2 ^ 54 ⌝ }
     ensures { λ r. ⌜ (Puts (hereLine (now (image .entry)) p (hereOf (now (image .entry)) p)) at (now (out .entry)) (now (out .exit)) r) × (r ≤ at + 2 ^ 20) ⌝ }
 {
     match ways::instr_at(image, p) {
-        Here::Whole(i) => put_instr(image, out, at, p, i),
+        Here::Whole(i) => put_instr(&image[p as usize..], out, at, p, i),
         Here::Cut(_) => at,
         Here::Outside => at,
     }

@@ -18,7 +18,8 @@ pub fn put_byte(out: &mut [u8], at: usize, b: u8) -> usize
     next
 }
 
-fn digit(n: u32) -> u8
+// The letter of the lowest hex digit.
+pub fn digit(n: u32) -> u8
     ensures { λ r. ⌜ r ≡ digit n ⌝ }
 {
     let d = (n % 16) as u8;

@@ -26,7 +26,7 @@ use Rattle.listing.specs.Walk.{printed, passed, walk, listingOf}
 use Rattle.listing_laws.specs.ClaimsLines.{joined, stopsFrom, TracedListed}
 
 -- each of the positions that pass a test one after another passes it
-leading-each : (f : ℕ → Bool) (k p i : ℕ) → i < leading f (upFrom k p) → f (p + i) ≡ true
+pub leading-each : (f : ℕ → Bool) (k p i : ℕ) → i < leading f (upFrom k p) → f (p + i) ≡ true
 unfolding leading upFrom
 leading-each f zero p i h = absurd (omega arith)
 leading-each f (suc k) p i h = by (f p) i refl h (leading-each f k (suc p))
@@ -48,7 +48,7 @@ module _ (image m : List ℕ) (B : Bytes image) where
   Untraced p s = (i : ℕ) → i < s → tracedAt image m (p + i) ≡ false
 
   -- a traced position is masked
-  traced-masked : (b : ℕ) → tracedAt image m b ≡ true → masked image m b ≡ true
+  pub traced-masked : (b : ℕ) → tracedAt image m b ≡ true → masked image m b ≡ true
   unfolding masked
   traced-masked b t =
       let h : b < length image = traced-inside image m b t in
@@ -57,7 +57,7 @@ module _ (image m : List ℕ) (B : Bytes image) where
       (both (tracedAt image m b) (under image b b) t
       (both (leb b b) (ltb b (b + sizeHere image b)) (le-leb b b (omega arith)) (lt-ltb b (b + sizeHere image b) (omega arith))))
 
-  data-untraced : (b : ℕ) → isData image (maskOf image m) b ≡ true → tracedAt image m b ≡ false
+  pub data-untraced : (b : ℕ) → isData image (maskOf image m) b ≡ true → tracedAt image m b ≡ false
   unfolding maskOf
   data-untraced b e = by (tracedAt image m b) refl
     where

@@ -39,7 +39,7 @@ use Rattle.views_laws.proofs.Finished.{sized, covered, marks-are, ended}
 use Rattle.views_laws.proofs.Reached.{plainly, over, reached-inside}
 use Rattle.listing.specs.Hex.{hex4, hexes}
 use Rattle.listing.specs.Line.{line}
-use Rattle.listing.specs.Lines.{hereLine, instrLine}
+use Rattle.listing.specs.Lines.{hereLine, instrText}
 use Rattle.listing.specs.Operand.{firstOf, operandsBy}
 use Rattle.listing_laws.specs.ClaimsShown.{TracedShown, TracedReachable}
 
@@ -60,7 +60,7 @@ lineBy image p i ts =
     line (code "I") (hex4 p ∷ hexes (take (sizeOf (formIn i)) (drop p image)) ∷ mnemonicOf (partsOf i .form) ∷ operandsBy (firstOf ts) i)
 
 pub traced-shown : TracedShown
-unfolding instrLine
+unfolding instrText
 traced-shown image m B l U p t =
     let h : p < length image = traced-inside image m p t in
     let f : fitsHere image p ≡ true = uncut image m p (second-part (ltb p (length image)) _ t) (U p h) in

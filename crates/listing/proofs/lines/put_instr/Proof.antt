@@ -1,15 +1,15 @@
 -- `lines::put_instr` meets its contract.
 -- Assumes nothing.
 use mathlib.Core.Path.{_≡_, ap, _∙_}
-use Prim.Native.Nat.{ℕ, _+_, _-_, _^_, _<_, _≤_}
+use Prim.Native.Nat.{ℕ, _+_, _^_, _<_, _≤_}
 use native.Mathlib.Omega.{arith}
 use borrow.Author.Needs.{needs}
-use lib.ListN.{length, take, drop}
+use lib.ListN.{length, take, length-take}
 use Rattle.instruction.specs.Encode.{formIn}
 use Rattle.instruction.specs.Forms.{sizeOf}
 use Rattle.listing.specs.Operand.{firstOf}
 use Rattle.listing.specs.Puts.{letters}
-use Rattle.listing.proofs.Lining.{puts-begin, puts-bytes, puts-word, instr, part, part-length}
+use Rattle.listing.proofs.Lining.{puts-begin, puts-bytes, puts-word, instr}
 use Rattle.listing.proofs.Naming.{spelled}
 use Rattle.listing.proofs.Putting.{puts-as, puts-most, puts-then}
 use Rattle.listing.proofs.Showing.{operands-length}
@@ -25,9 +25,13 @@ sized j = j .before .before .before
 abbrev start : tie.After-put-start → tie.Start
 start j = sized j .before .before .before .before .before
 
--- the instruction ends within the image
-ends : (z : tie.After-size) → z .before .before .before .before .before .args .p + z .size .result ≤ length (z .before .before .before .before .before .args .image .now)
-ends z = let s = z .before .before .before .before .before in let e : z .size .result ≡ sizeOf (formIn (s .args .instr)) = z .size .ensures in omega (arith, e, s .pre .2)
+-- the part of the bytes that is shown has at most three
+short : (z : tie.After-size) → length (take (z .size .result) (z .before .before .before .before .before .args .bytes .now)) ≤ 65536
+short z =
+    let s = z .before .before .before .before .before in
+    let e : z .size .result ≡ sizeOf (formIn (s .args .instr)) = z .size .ensures in
+    let l : sizeOf (formIn (s .args .instr)) < 4 = s .pre .1 in
+    omega (arith, e, l, length-take (z .size .result) (s .args .bytes .now))
 
 small : (j : tie.After-put-start) → j .put-start .result ≤ start j .args .at + 6
 small j = puts-begin (start j .args .p) (j .put-start .ensures)
@@ -38,14 +42,14 @@ put-bytes-requires c κs =
     let s = start j in
     let b : s .args .at < 2 ^ 54 = s .pre .0 in
     let h : j .put-start .result ≤ s .args .at + 6 = small j in
-    (omega arith, part-length (s .args .image .now) (s .args .p) (sized j .size .result) (s .pre .1) (ends (sized j)))
+    (omega arith, short (sized j))
 
 after-bytes : (b : tie.After-put-bytes) → b .put-bytes .result ≤ start (begun b) .args .at + 131079
 after-bytes b =
     let j = begun b in
     let s = start j in
     let h : j .put-start .result ≤ s .args .at + 6 = small j in
-    let g : b .put-bytes .result ≤ j .put-start .result + 131073 = puts-bytes (take ((s .args .p + sized j .size .result) - s .args .p) (drop (s .args .p) (s .args .image .now))) (b .put-bytes .ensures) (part-length (s .args .image .now) (s .args .p) (sized j .size .result) (s .pre .1) (ends (sized j))) in
+    let g : b .put-bytes .result ≤ j .put-start .result + 131073 = puts-bytes (take (sized j .size .result) (s .args .bytes .now)) (b .put-bytes .ensures) (short (sized j)) in
     omega arith
 
 after-word : (w : tie.After-put-word) → w .put-word .result ≤ start (begun (w .before .before .before .before)) .args .at + 131088
@@ -71,6 +75,15 @@ put-operands-requires c κs =
     let h : w .put-word .result ≤ s .args .at + 131088 = after-word w in
     omega arith
 
+-- the shown part lies within the bytes
+aggregate : tie.Need-slice-aggregate-put-bytes
+aggregate c =
+    let z = sized (c .before .before .before .before) in
+    let s = z .before .before .before .before .before in
+    let e : z .size .result ≡ sizeOf (formIn (s .args .instr)) = z .size .ensures in
+    let l : sizeOf (formIn (s .args .instr)) ≤ length (s .args .bytes .now) = s .pre .2 in
+    omega (arith, e, l, length-take (z .size .result) (s .args .bytes .now))
+
 returns : tie.Need-returns
 returns c =
     let n = c .before .before in
@@ -85,8 +98,8 @@ returns c =
     let h : w .put-word .result ≤ a .at + 131088 = after-word w in
     let g : n .put-operands .result ≤ w .put-word .result + 16 = puts-most (n .put-operands .ensures) (operands-length (f .first-of .result) (a .instr)) in (
       puts-as
-          (instr (a .image .now) (a .p) (a .instr) (f .first-of .result) (f .first-of .ensures ∙ ap firstOf (t .targets .ensures)) (m .mnemonic .result)
-          (ap (letters 8) (m .mnemonic .ensures) ∙ spelled (a .instr)) _ (part (a .image .now) (a .p) (z .size .result) ∙ ap (λ (k : ℕ). take k (drop (a .p) (a .image .now))) (z .size .ensures)))
+          (instr (a .bytes .now) (a .p) (a .instr) (f .first-of .result) (f .first-of .ensures ∙ ap firstOf (t .targets .ensures)) (m .mnemonic .result)
+          (ap (letters 8) (m .mnemonic .ensures) ∙ spelled (a .instr)) _ (ap (λ (k : ℕ). take k (a .bytes .now)) (z .size .ensures)))
           (puts-then (j .put-start .ensures) (puts-then (b .put-bytes .ensures) (puts-then (w .put-word .ensures) (n .put-operands .ensures)))),
       omega arith,
     )
@@ -95,7 +108,5 @@ pub put-instr-spec : {M : Type 1} → statement M
 put-instr-spec =
     tie.close
     (tie.spec (λ c κs. search needs) (λ c κs. search needs) (λ c κs. search needs)
-    (λ c. search needs)
     (λ c κs. search needs) (λ c κs. search needs)
-    (λ c. search needs) (λ c. search needs) (λ c. search needs)
-    put-bytes-requires put-word-requires put-operands-requires (λ c. search needs) returns)
+    aggregate put-bytes-requires put-word-requires put-operands-requires (λ c. search needs) returns)

@@ -52,7 +52,7 @@ put-here-requires c κs =
     let s = start (a .before .before .before .before .before .before .before .before) in
     let b : s .args .at < 2 ^ 52 = s .pre .0 in
     let h : a .put-arrivals .result ≤ s .args .at + (7 + 2 ^ 21) = arrived a in
-    (omega arith, s .pre .1)
+    omega arith
 
 returns : tie.Need-returns
 unfolding codeLines
