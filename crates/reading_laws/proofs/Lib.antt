@@ -1,0 +1,16 @@
+pub mod Apart
+pub mod Digits
+pub mod Fields
+pub mod Places
+pub mod Steps
+pub mod Saying
+pub mod Cells
+pub mod Tells
+pub mod Names
+pub mod Codes
+pub mod Masked
+pub mod Runs
+pub mod Stand
+pub mod CodeStops
+pub mod DataStops
+pub mod ClaimsBackRestored

@@ -1,0 +1,5 @@
+pub mod Notes
+pub mod Turning
+pub mod Going
+pub mod Backs
+pub mod Counting

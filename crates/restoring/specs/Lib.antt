@@ -1,0 +1,4 @@
+pub mod Sheet
+pub mod Turn
+pub mod Back
+pub mod Gone
