@@ -32,10 +32,12 @@
  * stays as it was. What they show stands at the beginning of the room; the
  * rest of it stays as it was.
  *
- * Stack: pw_listing and pw_list_text hold tables for the longest image on the
- * stack, however short the image. A thread that calls either needs a stack of
- * 512 KiB; with too small a stack the program is ended by a fault, and there is
- * no refusal. All other calls need less than 1 KiB. No call allocates memory.
+ * Stack: pw_listing, pw_list_text and pw_read_back hold tables for the longest
+ * image on the stack, however short the image. A thread that calls either of
+ * the first two needs a stack of 512 KiB; pw_read_back holds 192 KiB and needs
+ * one of 256 KiB. With too small a stack the program is ended by a fault, and
+ * there is no refusal. All other calls need less than 1 KiB. No call allocates
+ * memory.
  *
  * The numbers of the refusals, with the values in answer[0], answer[1]:
  *
@@ -53,6 +55,8 @@
  *   12  nothing to decode: 0
  *   14  the base, or the position after the instruction, is over 65,536: that
  *       number
+ *   15  a line of a listing is malformed or out of order: its number, from 1
+ *   16  a line of a listing reaches past the image's length: its number
  */
 #ifndef POTTAGEWING_H
 #define POTTAGEWING_H
@@ -210,6 +214,25 @@ uint32_t pw_listing(const uint8_t *image, size_t image_length,
  */
 uint32_t pw_list_text(const uint8_t *text, size_t text_length,
                       uint8_t *room, size_t room_length, int64_t answer[5]);
+
+/* Reads a listing back: puts the bytes of an image of `length` to the beginning
+ * of image, and their marks to the beginning of marks. Where nothing is listed
+ * the byte is 0; the mark is 2 where an `I` line stands and 0 elsewhere. The
+ * rest of both stays as it was. What pw_listing wrote, with or without `A`
+ * lines, gives the same image back, and the same marks but for 1, which becomes
+ * 0, and 3, which becomes 2.
+ * Positions may not fall. At one position stand `L`, `O`, `A`, `I` in this
+ * order, each at most once, or one `D` of 1 to 16 bytes alone. An `I` line is
+ * the one that pw_listing writes for its bytes at its position; of `L`, `O` and
+ * `A` only the form counts. Bytes that contradict an earlier line make theirs
+ * malformed. The last line may lack its byte 10.
+ * 0: the number of lines read.
+ * 1 with `length`, 2, 11 with `length`; then the first bad line, 15 before 16.
+ * On any of these image and marks stay as they were.
+ */
+uint32_t pw_read_back(const uint8_t *text, size_t text_length, uint32_t length,
+                      uint8_t *image, size_t image_length,
+                      uint8_t *marks, size_t marks_length, int64_t answer[5]);
 
 #ifdef __cplusplus
 }

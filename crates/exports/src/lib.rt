@@ -12,6 +12,7 @@ pub use codec::pw_resolve;
 pub use codec::pw_targets;
 pub use listed::pw_list_text;
 pub use listed::pw_listing;
+pub use listed::pw_read_back;
 pub use tracing::pw_run;
 pub use tracing::pw_start;
 pub use tracing::pw_step;

@@ -1,8 +1,9 @@
-// The exported calls of the listing.
+// The exported calls of the listing, and of one read back.
 ghost use mathlib.Core.Path.{_≡_};
 ghost use mathlib.Core.List.{[]};
 ghost use Rattle.views.specs.View.{roomAnswer, roomAfter, viewAnswer, viewRoom};
 ghost use Rattle.listing.specs.Walk.{listingOf};
+ghost use Rattle.restoring.specs.Back.{backAnswer, backImage, backMarks};
 ghost use Rattle.lister.specs.Output.{outputOf};
 ghost use Rattle.reply.specs.Reply.{numberOf, valuesOf, countValues};
 ghost use Rattle.reply_views.specs.Listing.{choiceOf};
@@ -27,4 +28,18 @@ pub extern "C" fn pw_list_text(text: &[u8], room: &mut [u8], answer: &mut [i64; 
     ensures { λ r. ⌜ (r ≡ numberOf (roomAnswer [] (outputOf (now (text .entry))) (now (room .entry)))) × (now (answer .exit) ≡ valuesOf countValues (roomAnswer [] (outputOf (now (text .entry))) (now (room .entry)))) × (now (room .exit) ≡ roomAfter [] (outputOf (now (text .entry))) (now (room .entry))) ⌝ }
 {
     reply_views::list_text(text, room).give(answer)
+}
+
+// Accepted: the number of lines read.
+#[no_mangle]
+pub extern "C" fn pw_read_back(
+    text: &[u8],
+    length: u32,
+    image: &mut [u8],
+    marks: &mut [u8],
+    answer: &mut [i64; 5],
+) -> u32
+    ensures { λ r. ⌜ (r ≡ numberOf (backAnswer (now (text .entry)) length (now (image .entry)) (now (marks .entry)))) × (now (answer .exit) ≡ valuesOf countValues (backAnswer (now (text .entry)) length (now (image .entry)) (now (marks .entry)))) × (now (image .exit) ≡ backImage (now (text .entry)) length (now (image .entry)) (now (marks .entry))) × (now (marks .exit) ≡ backMarks (now (text .entry)) length (now (image .entry)) (now (marks .entry))) ⌝ }
+{
+    reply_back::read_back(text, length, image, marks).give(answer)
 }

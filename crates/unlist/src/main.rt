@@ -1,0 +1,59 @@
+// The unlisting program: reads a listing from standard input, calls the one function that makes image lines of it, and writes those. Its one
+// argument is the image's length.
+ghost use mathlib.Core.Path.{_≡_};
+ghost use lib.ListN.{length};
+use libc::STDERR_FILENO;
+use libc::STDIN_FILENO;
+use libc::STDOUT_FILENO;
+use unlister::Said;
+use views::Viewed;
+
+// 60 bytes for each of 65,536 positions, as long as a listing can be, and one byte more, by which a longer text is noticed.
+fn listing() -> [u8; 3_932_161]
+    ensures { λ r. ⌜ 3932161 ≡ length r ⌝ }
+{
+    [0; 3_932_161]
+}
+
+// The image lines of 65,536 bytes.
+fn output() -> [u8; 133_120]
+    ensures { λ r. ⌜ 133120 ≡ length r ⌝ }
+{
+    [0; 133_120]
+}
+
+fn show(text: &[u8], length: usize, out: &mut [u8]) {
+    if let Viewed::Written(n) = unlister::unlist_text(text, length, out) {
+        if n <= out.len() {
+            io::write_all(STDOUT_FILENO, &out[0..n]);
+        }
+    }
+}
+
+fn unlist(length: usize) {
+    let mut text = listing();
+    let n = io::read_full(STDIN_FILENO, &mut text);
+    if n == text.len() {
+        io::write_all(
+            STDERR_FILENO,
+            b"unlist: the listing is longer than 3932160 bytes\n",
+        );
+        return;
+    }
+    let mut out = output();
+    show(&text[0..n], length, &mut out);
+}
+
+fn main() {
+    let mut word = io::buffer();
+    let n = os::arg(1, &mut word);
+    match unlister::number(&word[0..n]) {
+        Said::Told(length) => unlist(length),
+        Said::Untold => {
+            io::write_all(
+                STDERR_FILENO,
+                b"usage: unlist LENGTH < LISTING, LENGTH in 1 to 9 decimal digits\n",
+            );
+        }
+    }
+}

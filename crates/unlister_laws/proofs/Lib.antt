@@ -1,0 +1,5 @@
+pub mod Digits
+pub mod EntryLines
+pub mod Again
+pub mod ClaimsUnlistedAgain
+pub mod ClaimsUnlistedFits
