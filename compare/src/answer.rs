@@ -23,6 +23,8 @@ impl Answer {
     pub const NO_ROOM: u32 = 11;
     pub const NOTHING: u32 = 12;
     pub const BASE_OUTSIDE: u32 = 14;
+    pub const MALFORMED: u32 = 15;
+    pub const PAST_END: u32 = 16;
 
     /// The values that are not given are 0.
     pub fn new(number: u32, given: &[i64]) -> Answer {

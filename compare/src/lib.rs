@@ -1,7 +1,8 @@
 //! What the comparison and the list of stored answers share: answers as plain numbers, the original's
-//! answers, document 01's ranges and its tracer, and images to trace.
+//! answers, document 01's ranges and its tracer, images to trace, and one that looks like a game.
 
 pub mod answer;
+pub mod game;
 pub mod images;
 pub mod original;
 pub mod paper;

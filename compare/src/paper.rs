@@ -2,6 +2,7 @@
 //! the calls that have no counterpart in the original, and are themselves held against the original
 //! where there is one.
 
+pub mod back;
 pub mod fields;
 pub mod flow;
 pub mod input;

@@ -14,8 +14,6 @@
 //! The outputs are those of the plain program by document 01 in `src/paper/`. What the original has of
 //! them, it must have alike: `held.rs`.
 
-#[path = "lists/assembler.rs"]
-mod assembler;
 #[path = "lists/game.rs"]
 mod game;
 #[path = "lists/held.rs"]
@@ -28,8 +26,6 @@ mod large;
 mod listings;
 #[path = "lists/marked.rs"]
 mod marked;
-#[path = "lists/routines.rs"]
-mod routines;
 #[path = "lists/stored.rs"]
 mod stored;
 #[path = "lists/sum.rs"]

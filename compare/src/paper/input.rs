@@ -18,7 +18,7 @@ pub fn parse(text: &[u8]) -> Result<Input, usize> {
     for (index, line) in lines(text).into_iter().enumerate() {
         let taken = match index {
             0 => entries(line).map(|list| input.entries = list),
-            _ => bytes(line).map(|list| input.image.extend(list)),
+            _ => bytes(line, MOST_IN_LINE).map(|list| input.image.extend(list)),
         };
         if taken.is_none() || input.image.len() > MOST_BYTES {
             return Err(index + 1);
@@ -28,7 +28,7 @@ pub fn parse(text: &[u8]) -> Result<Input, usize> {
 }
 
 /// After the last byte 10 there is no further line.
-fn lines(text: &[u8]) -> Vec<&[u8]> {
+pub(super) fn lines(text: &[u8]) -> Vec<&[u8]> {
     let mut lines: Vec<&[u8]> = text.split(|byte| *byte == b'\n').collect();
     if lines.last().is_some_and(|line| line.is_empty()) {
         lines.pop();
@@ -40,15 +40,20 @@ fn entries(line: &[u8]) -> Option<Vec<u32>> {
     if line.is_empty() {
         return Some(vec![]);
     }
-    let entry = |field: &[u8]| (field.len() == 4).then(|| number(field)).flatten();
-    let list: Option<Vec<u32>> = line.split(|byte| *byte == b'\t').map(entry).collect();
+    let list: Option<Vec<u32>> = line.split(|byte| *byte == b'\t').map(position).collect();
     list.filter(|list| list.len() <= MOST_ENTRIES)
 }
 
-fn bytes(line: &[u8]) -> Option<Vec<u8>> {
+/// A position in four digits.
+pub(super) fn position(field: &[u8]) -> Option<u32> {
+    (field.len() == 4).then(|| number(field)).flatten()
+}
+
+/// One byte or more, of two digits each.
+pub(super) fn bytes(line: &[u8], most: usize) -> Option<Vec<u8>> {
     let byte = |pair: &[u8]| (pair.len() == 2).then(|| number(pair)).flatten();
     let list: Option<Vec<u8>> = line.chunks(2).map(|pair| Some(byte(pair)? as u8)).collect();
-    list.filter(|list| (1..=MOST_IN_LINE).contains(&list.len()))
+    list.filter(|list| (1..=most).contains(&list.len()))
 }
 
 /// A number in upper-case hex digits.

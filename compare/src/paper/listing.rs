@@ -98,6 +98,13 @@ fn data_run<'a>(image: &'a [u8], mask: &[u8], at: usize) -> &'a [u8] {
     &image[at..at + length as usize]
 }
 
+/// The line of the instruction at a position.
+pub fn instruction_line(image: &[u8], at: usize) -> String {
+    let mut lines = Lines::default();
+    lines.line('I', at, &instruction(image, at));
+    lines.0
+}
+
 /// The bytes, the mnemonic and the operands of the instruction at a position.
 fn instruction(image: &[u8], at: usize) -> Vec<String> {
     let bytes = &image[at..at + flow::size(image[at])];
