@@ -1,6 +1,8 @@
-//! The images that are measured, with what the calls need: marks, and the graph that the original made.
+//! The images that are measured, with what the calls need: marks, the listing, and the graph that the original
+//! made.
 
 use crate::games;
+use crate::plain::listing::Lister;
 use crate::plain::trace::{Ended, Tracer};
 use compare::random::Random;
 use waterbear::budget::{self, Ended as Original};
@@ -17,6 +19,8 @@ pub struct Case {
     pub marks: Vec<u8>,
     /// The positions taken up, in their order.
     pub order: Vec<u32>,
+    /// Without arrivals.
+    pub listing: Vec<u8>,
     pub graph: Graph,
     /// How often the original took a position up, repeats counted.
     pub visits: u64,
@@ -42,6 +46,8 @@ impl Case {
             _ => panic!("the original ends on a game"),
         };
         let visits = budget::spent();
+        let mut lister = Lister::default();
+        lister.list(&image, &tracer.marks, false);
         let sampled = (0..SAMPLED).map(|turn| match turn % 4 {
             0 => random.below(image.len() as u64) as u32,
             _ => random.pick(&tracer.order),
@@ -51,6 +57,7 @@ impl Case {
             entries: entries.to_vec(),
             marks: tracer.marks,
             order: tracer.order,
+            listing: lister.text,
             image,
             graph,
             visits,

@@ -2,14 +2,18 @@
 
 use crate::cases::Case;
 use crate::ours;
+use crate::plain::back::{Reader, Refused};
 use crate::plain::decode::decode;
 use crate::plain::listing::Lister;
-use crate::plain::trace::{Ended, Tracer};
+use crate::plain::trace::{Ended, TRACED, Tracer, is_traced};
 use crate::plain::views;
 use crate::rows::LONGEST_LISTING;
 use compare::answer::Answer;
 use compare::original::{self, listed, viewed};
 use waterbear::disasm::probe;
+
+/// What a byte of a listing is changed to.
+const CHANGES: &[u8; 16] = b"0123789ADF0\tI\n?f";
 
 /// Nothing where all is equal; otherwise the call that differs.
 pub fn check(cases: &[Case]) -> Result<(), &'static str> {
@@ -19,6 +23,7 @@ pub fn check(cases: &[Case]) -> Result<(), &'static str> {
         viewing(case)?;
         overlapping(case)?;
         listing(case, false)?;
+        reading_back(case)?;
     }
     Ok(())
 }
@@ -108,6 +113,59 @@ fn overlapping(case: &Case) -> Result<(), &'static str> {
         same(room[..count] == theirs, "overlaps")?;
     }
     Ok(())
+}
+
+/// The listing gives the image and the traced positions back; changed, both readers say the same of it.
+fn reading_back(case: &Case) -> Result<(), &'static str> {
+    let lines = case.listing.iter().filter(|byte| **byte == b'\n').count();
+    let traced = |mark: &u8| if is_traced(*mark) { TRACED } else { 0 };
+    let marks: Vec<u8> = case.marks.iter().map(traced).collect();
+    let answer = Answer::new(Answer::DONE, &[lines as i64]);
+    let expected = (answer, case.image.clone(), marks);
+    let length = case.image.len();
+    same(ours_back(&case.listing, length) == expected, "read back")?;
+    same(
+        plain_back(&case.listing, length) == expected,
+        "the plain read back",
+    )?;
+    for (turn, byte) in CHANGES.iter().enumerate() {
+        let at = (turn + 1) * 0x9E37_79B1 % case.listing.len();
+        let mut changed = case.listing.clone();
+        changed[at] = *byte;
+        for text in [changed, twice(&case.listing, at)] {
+            let ours = ours_back(&text, length);
+            same(plain_back(&text, length) == ours, "a changed one read back")?;
+        }
+    }
+    Ok(())
+}
+
+/// With the line around a place twice.
+fn twice(text: &[u8], at: usize) -> Vec<u8> {
+    let is_end = |byte: &u8| *byte == b'\n';
+    let start = text[..at].iter().rposition(is_end).map_or(0, |end| end + 1);
+    let end = text[at..].iter().position(is_end).map_or(0, |end| end + 1);
+    [&text[..at + end], &text[start..]].concat()
+}
+
+/// An answer, an image and marks.
+type Back = (Answer, Vec<u8>, Vec<u8>);
+
+fn ours_back(text: &[u8], length: usize) -> Back {
+    let (mut image, mut marks) = (vec![9; length], vec![9; length]);
+    let answer = ours::read_back(text, length as u32, &mut image, &mut marks);
+    (answer, image, marks)
+}
+
+fn plain_back(text: &[u8], length: usize) -> Back {
+    let (mut image, mut marks) = (vec![9; length], vec![9; length]);
+    let read = Reader::default().read(text, &mut image, &mut marks);
+    let (number, value) = match read {
+        Ok(lines) => (Answer::DONE, lines),
+        Err(Refused::Malformed(line)) => (Answer::MALFORMED, line),
+        Err(Refused::PastEnd(line)) => (Answer::PAST_END, line),
+    };
+    (Answer::new(number, &[value as i64]), image, marks)
 }
 
 pub fn listing(case: &Case, arrivals: bool) -> Result<(), &'static str> {

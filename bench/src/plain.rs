@@ -1,6 +1,7 @@
-//! The plain side: a tracer, its views and a listing writer, written by hand as one would without proofs. It
-//! trusts its own marks and looks for no damage.
+//! The plain side: a tracer, its views, a listing writer and a reader of listings, written by hand as one would
+//! without proofs. It trusts its own marks and looks for no damage.
 
+pub mod back;
 pub mod decode;
 pub mod forms;
 pub mod listing;

@@ -3,6 +3,7 @@
 use crate::cases::Case;
 use crate::clock::{self, Sides, Times};
 use crate::ours;
+use crate::plain::back::Reader;
 use crate::plain::decode::decode;
 use crate::plain::listing::Lister;
 use crate::plain::trace::Tracer;
@@ -29,9 +30,11 @@ pub enum Row {
     ListingWithArrivals,
     /// A run and a listing: what the original does in one call.
     Whole,
+    /// The listing without arrivals, back into an image and marks.
+    ReadBack,
 }
 
-pub const ROWS: [(Row, &str); 9] = [
+pub const ROWS: [(Row, &str); 10] = [
     (Row::Decode, "decode at every position"),
     (Row::Run, "run"),
     (Row::Mask, "mask"),
@@ -41,6 +44,7 @@ pub const ROWS: [(Row, &str); 9] = [
     (Row::Listing, "listing"),
     (Row::ListingWithArrivals, "listing with arrivals"),
     (Row::Whole, "run and listing"),
+    (Row::ReadBack, "read back"),
 ];
 
 /// The times for each group of cases.
@@ -59,6 +63,7 @@ pub fn sides(row: Row) -> Sides<'static, Case> {
         Row::Listing => listing(false),
         Row::ListingWithArrivals => listing(true),
         Row::Whole => whole(),
+        Row::ReadBack => reading_back(),
     }
 }
 
@@ -230,6 +235,27 @@ fn whole() -> Sides<'static, Case> {
             tracer.run(&case.image, &case.entries, case.image.len());
             lister.list(&case.image, &tracer.marks, false);
             black_box(&lister.text);
+        })),
+    ]
+}
+
+/// The original reads no listing.
+fn reading_back() -> Sides<'static, Case> {
+    let (mut image, mut marks) = (vec![0; 65_536], vec![0; 65_536]);
+    let (mut plain_image, mut plain_marks) = (image.clone(), marks.clone());
+    let mut reader = Reader::default();
+    [
+        Some(Box::new(move |case| {
+            let length = case.image.len() as u32;
+            let answer = ours::read_back(&case.listing, length, &mut image, &mut marks);
+            black_box((answer, &image, &marks));
+        })),
+        None,
+        Some(Box::new(move |case| {
+            let length = case.image.len();
+            let (image, marks) = (&mut plain_image[..length], &mut plain_marks[..length]);
+            let answer = reader.read(&case.listing, image, marks);
+            black_box((answer.is_ok(), image, marks));
         })),
     ]
 }

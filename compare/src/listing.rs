@@ -1,6 +1,7 @@
 //! The listing. Where the original traced an image to its end, it is held byte for byte against what the
 //! original lists, put into document 01's words. On marks of any content document 01 judges alone.
 
+use crate::back;
 use crate::lent::Lent;
 use crate::ours;
 use crate::steps::shown;
@@ -96,6 +97,10 @@ impl Given<'_> {
         let what = (Call::Listing, judge);
         let input = || self.differ(&expected, &ours);
         tally.judge(what, None, (number, &expected), &ours, input);
+        if expected.0.done() {
+            let text = &expected.1.part()[..expected.0.values[0] as usize];
+            back::of_listing(tally, random, image, marks, text);
+        }
     }
 
     fn paper(&self, room: &mut [u8]) -> Answer {

@@ -1,6 +1,8 @@
 //! Compares our archive with the original: `compare [SEED]`. The last line says how many calls were
 //! compared and how many differ; the exit status is 1 if any does.
 
+mod back;
+mod changed;
 mod decode;
 mod encode;
 mod lent;
@@ -40,6 +42,7 @@ fn main() -> ExitCode {
     steps::compare(&mut tally, &mut random);
     traces::compare(&mut tally, &mut random);
     views::compare(&mut tally, &mut random);
+    back::compare(&mut tally, &mut random);
     match tally.report() {
         true => ExitCode::SUCCESS,
         false => ExitCode::FAILURE,

@@ -101,6 +101,16 @@ unsafe extern "C" {
         room_length: usize,
         answer: *mut [i64; 5],
     ) -> u32;
+    fn pw_read_back(
+        text: *const u8,
+        text_length: usize,
+        length: u32,
+        image: *mut u8,
+        image_length: usize,
+        marks: *mut u8,
+        marks_length: usize,
+        answer: *mut [i64; 5],
+    ) -> u32;
 }
 
 pub fn decode(bytes: &[u8]) -> Answer {
@@ -222,6 +232,23 @@ pub fn listing(image: &[u8], marks: &[u8], arrivals: u32, room: &mut [u8]) -> An
             arrivals,
             at,
             n,
+            values,
+        )
+    })
+}
+
+pub fn read_back(text: &[u8], length: u32, image: &mut [u8], marks: &mut [u8]) -> Answer {
+    let (at, n) = (image.as_mut_ptr(), image.len());
+    let (table, count) = (marks.as_mut_ptr(), marks.len());
+    answered(|values| unsafe {
+        pw_read_back(
+            text.as_ptr(),
+            text.len(),
+            length,
+            at,
+            n,
+            table,
+            count,
             values,
         )
     })

@@ -18,9 +18,10 @@ pub enum Call {
     Arrivals,
     DataRun,
     Listing,
+    ReadBack,
 }
 
-const CALLS: [(Call, &str); 13] = [
+const CALLS: [(Call, &str); 14] = [
     (Call::Decode, "decode"),
     (Call::Encode, "encode"),
     (Call::Resolve, "resolve"),
@@ -34,13 +35,14 @@ const CALLS: [(Call, &str); 13] = [
     (Call::Arrivals, "arrivals"),
     (Call::DataRun, "data run"),
     (Call::Listing, "listing"),
+    (Call::ReadBack, "read back"),
 ];
 
 /// Who says what the answer is to be.
 #[derive(Clone, Copy, PartialEq)]
 pub enum Judge {
     Original,
-    /// Document 01, where the original has no such call: counted apart.
+    /// Document 01 or 02, where the original has no such call: counted apart.
     Document,
 }
 
@@ -53,7 +55,7 @@ struct Counts {
     alone_differ: u64,
 }
 
-/// Document 01's refusal numbers end at 22; any other number is counted in the last place.
+/// The documents' refusal numbers end at 22; any other number is counted in the last place.
 const NUMBERS: usize = 24;
 const SHOWN: u64 = 20;
 
@@ -80,6 +82,14 @@ struct Listings {
     left_out: u64,
 }
 
+/// The listings read back: as they were written, and changed ones by what is expected of them.
+#[derive(Default)]
+pub struct Backs {
+    pub whole: u64,
+    pub taken: u64,
+    pub refused: u64,
+}
+
 /// The letters of lines.
 const LETTERS: [u8; 5] = *b"LOAID";
 
@@ -90,6 +100,7 @@ pub struct Tally {
     taken: [u64; FORMS],
     listed: [u64; FORMS],
     listings: Listings,
+    pub backs: Backs,
     all: Counts,
 }
 
@@ -102,6 +113,7 @@ impl Tally {
             taken: [0; FORMS],
             listed: [0; FORMS],
             listings: Listings::default(),
+            backs: Backs::default(),
             all: Counts::default(),
         }
     }
@@ -139,9 +151,10 @@ impl Tally {
     ) {
         let differ = expected != ours;
         if differ {
-            let who = match judge {
-                Judge::Original => "the original",
-                Judge::Document => "document 01",
+            let who = match (judge, call) {
+                (Judge::Original, _) => "the original",
+                (Judge::Document, Call::ReadBack) => "document 02",
+                (Judge::Document, _) => "document 01",
             };
             self.show(|| format!("{}\n  {who}: {expected:?}\n  ours: {ours:?}", input()));
         }
@@ -159,6 +172,12 @@ impl Tally {
         self.all.differ += 1;
     }
 
+    /// Notes that the plain reader does not give back what was listed.
+    pub fn reader_differs(&mut self, what: impl FnOnce() -> String) {
+        self.show(|| format!("the plain reader against what was listed: {}", what()));
+        self.all.differ += 1;
+    }
+
     fn show(&self, text: impl FnOnce() -> String) {
         if self.all.differ < SHOWN {
             println!("differ: {}", text());
@@ -171,10 +190,11 @@ impl Tally {
         self.report_numbers();
         self.traces.report();
         self.listings.report();
+        self.backs.report();
         let all = &self.all;
         let (alone, alone_differ) = (all.alone, all.alone_differ);
         println!(
-            "ours alone (document 01 judges): {alone}, differ {alone_differ}, counted below too"
+            "ours alone (documents 01 and 02 judge): {alone}, differ {alone_differ}, counted below too"
         );
         println!("compared {}, differ {}", all.compared, all.differ);
         all.differ == 0
@@ -237,6 +257,19 @@ impl Listings {
         );
         let left_out = self.left_out;
         println!("listings with arrivals left out, for the time that they take: {left_out}");
+    }
+}
+
+impl Backs {
+    fn report(&self) {
+        let Backs {
+            whole,
+            taken,
+            refused,
+        } = self;
+        println!(
+            "listings read back: as written {whole}; changed, and to be taken {taken}, to be refused {refused}"
+        );
     }
 }
 

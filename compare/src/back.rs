@@ -1,0 +1,209 @@
+//! Listings read back. The original reads none: a plain reader by document 02 judges. What was listed must come
+//! back, which does not depend on that reader.
+
+use crate::changed;
+use crate::lent::Lent;
+use crate::ours;
+use crate::tally::{Call, Judge, Tally};
+use crate::views;
+use compare::answer::Answer;
+use compare::game::{self, VECTORS};
+use compare::paper::input::Input;
+use compare::paper::listing::{self, Arrivals};
+use compare::paper::{back as paper, tracer};
+use compare::random::Random;
+
+/// Numbers of their own, so that the other comparisons are the same with this one and without.
+const OWN: u64 = 0x5EED_BACC;
+/// Of the listings of images up to a length, one of so many is read back, with so many changes.
+const SOME: [(usize, u64, u64); 4] = [(8, 64, 3), (300, 8, 3), (4_100, 1, 4), (70_000, 4, 1)];
+/// The lengths of images that look like games, and how often each is changed.
+const GAMES: [(usize, u64); 3] = [(1_024, 4_000), (4_096, 1_000), (16_384, 100)];
+/// So much of a text is shown.
+const SHOWN: usize = 240;
+
+/// Of an image and its marks: the listing as it is, changed, and with other lengths.
+pub fn of_listing(tally: &mut Tally, random: &Random, image: &[u8], marks: &[u8], text: &[u8]) {
+    let mut random = Random(random.0 ^ OWN);
+    let of_length = SOME.iter().find(|(most, ..)| image.len() <= *most);
+    let (_, of, changes) = *of_length.expect("an image that was listed");
+    if random.below(of) == 0 {
+        all(tally, &mut random, image, marks, text, changes);
+    }
+}
+
+/// The listings of images that look like games.
+pub fn compare(tally: &mut Tally, random: &mut Random) {
+    for (length, changes) in GAMES {
+        let image = game::image(length);
+        let entries = VECTORS.map(|at| at as u32).to_vec();
+        let input = Input { entries, image };
+        let marks = listing::marks(&input).expect("a game is not cut off");
+        for arrivals in [Arrivals::Chosen, Arrivals::Declined] {
+            let text = listing::listing(&input.image, &marks, arrivals);
+            let text = text.as_bytes();
+            all(tally, random, &input.image, &marks, text, changes);
+        }
+    }
+}
+
+fn all(
+    tally: &mut Tally,
+    random: &mut Random,
+    image: &[u8],
+    marks: &[u8],
+    text: &[u8],
+    changes: u64,
+) {
+    whole(tally, random, image, marks, text);
+    let own = image.len();
+    for _ in 0..changes {
+        let changed = changed::text(random, image, text);
+        Given::new(random, &changed, own).changed(tally);
+    }
+    let length = other(random, own);
+    Given::new(random, text, length).judged(tally);
+    let length = other(random, own);
+    let changed = changed::text(random, image, text);
+    Given::new(random, &changed, length).judged(tally);
+}
+
+/// The image comes back, and the marks but for 1, which becomes 0, and 3, which becomes 2.
+fn whole(tally: &mut Tally, random: &mut Random, image: &[u8], marks: &[u8], text: &[u8]) {
+    let restored = marks[..image.len()].iter().map(|mark| match mark {
+        0 | 1 => 0,
+        _ => 2,
+    });
+    let restored: Vec<u8> = restored.collect();
+    let lines = text.iter().filter(|byte| **byte == b'\n').count();
+    let mut enough = || image.len() + random.pick(&[0, 0, 1, 3]);
+    let lengths = [enough(), enough()];
+    let given = Given::in_rooms(random, text, image.len(), lengths);
+    let expected = Outcome {
+        answer: Answer::new(Answer::DONE, &[lines as i64]),
+        image: given.image.clone().with(image),
+        marks: given.marks.clone().with(&restored),
+    };
+    let paper = given.read(paper::read);
+    if paper != expected {
+        tally.reader_differs(|| format!("{}\n  {expected:?}\n  {paper:?}", given.shown(&paper)));
+    }
+    tally.backs.whole += 1;
+    given.judge(tally, &expected);
+}
+
+/// Another length than the image's own: mostly near it, at times at a limit or past it.
+fn other(random: &mut Random, own: usize) -> usize {
+    match random.below(16) {
+        0..4 => own.saturating_sub(1),
+        4..8 => own + 1,
+        8 | 9 => 0,
+        10..13 => random.below(own as u64 + 20) as usize,
+        13 => random.below(tracer::LONGEST as u64) as usize,
+        14 => tracer::LONGEST,
+        _ => tracer::LONGEST + random.pick(&[1, 1, 2, 65_536, u32::MAX as usize - tracer::LONGEST]),
+    }
+}
+
+/// What is lent to be read back.
+struct Given<'a> {
+    text: &'a [u8],
+    length: usize,
+    image: Lent<u8>,
+    marks: Lent<u8>,
+}
+
+/// What reading back answers and leaves.
+#[derive(PartialEq, Debug)]
+struct Outcome {
+    answer: Answer,
+    image: Lent<u8>,
+    marks: Lent<u8>,
+}
+
+/// A reader, ours or document 02's.
+type Read = fn(&[u8], usize, &mut [u8], &mut [u8]) -> Answer;
+
+impl Given<'_> {
+    /// Where the length is too long, rooms of any length.
+    fn new<'a>(random: &mut Random, text: &'a [u8], length: usize) -> Given<'a> {
+        let mut room = || match length {
+            0..=tracer::LONGEST => views::room(random, length),
+            _ => random.pick(&[0, 8, tracer::LONGEST, tracer::LONGEST + 2]),
+        };
+        let lengths = [room(), room()];
+        Given::in_rooms(random, text, length, lengths)
+    }
+
+    fn in_rooms<'a>(
+        random: &mut Random,
+        text: &'a [u8],
+        length: usize,
+        lengths: [usize; 2],
+    ) -> Given<'a> {
+        let [image, marks] = lengths.map(|room| Lent::filled(room, random, |mixed| mixed as u8));
+        Given {
+            text,
+            length,
+            image,
+            marks,
+        }
+    }
+
+    /// Reads into a copy of the rooms.
+    fn read(&self, read: Read) -> Outcome {
+        let (mut image, mut marks) = (self.image.clone(), self.marks.clone());
+        let answer = read(self.text, self.length, image.lend(), marks.lend());
+        Outcome {
+            answer,
+            image,
+            marks,
+        }
+    }
+
+    /// A changed text: counted by what is expected of it.
+    fn changed(&self, tally: &mut Tally) {
+        let backs = match self.judged(tally).number {
+            Answer::DONE => &mut tally.backs.taken,
+            _ => &mut tally.backs.refused,
+        };
+        *backs += 1;
+    }
+
+    /// By the plain reader, whose answer is given.
+    fn judged(&self, tally: &mut Tally) -> Answer {
+        let expected = self.read(paper::read);
+        self.judge(tally, &expected);
+        expected.answer
+    }
+
+    fn judge(&self, tally: &mut Tally, expected: &Outcome) {
+        let ours = |text: &[u8], length: usize, image: &mut [u8], marks: &mut [u8]| {
+            ours::read_back(text, length as u32, image, marks)
+        };
+        let ours = self.read(ours);
+        let number = expected.answer.number;
+        let what = (Call::ReadBack, Judge::Document);
+        let input = || self.shown(&ours);
+        tally.judge(what, None, (number, expected), &ours, input);
+    }
+
+    /// The text around the line that an outcome names, and what is lent.
+    fn shown(&self, outcome: &Outcome) -> String {
+        let Given { text, length, .. } = self;
+        let [image, marks] = [&self.image, &self.marks].map(|room| room.part().len());
+        let lines = text.split_inclusive(|byte| *byte == b'\n');
+        let before = match outcome.answer.number {
+            Answer::MALFORMED | Answer::PAST_END => outcome.answer.values[0] as usize,
+            _ => 0,
+        };
+        let skipped = lines.take(before).map(<[u8]>::len).sum::<usize>();
+        let from = skipped.saturating_sub(SHOWN / 2);
+        let end = text.len().min(from + SHOWN);
+        let part = String::from_utf8_lossy(&text[from..end]);
+        let count = text.len();
+        format!(
+            "read back of {count} bytes, from {from} on {part:?}, length {length}, rooms {image} and {marks}"
+        )
+    }
+}
