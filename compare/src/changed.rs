@@ -16,7 +16,8 @@ pub fn text(random: &mut Random, image: &[u8], text: &[u8]) -> Vec<u8> {
     let mut text = text.to_vec();
     for _ in 0..random.pick(&[1, 1, 1, 1, 2, 3]) {
         match random.below(16) {
-            0..3 => byte(random, &mut text),
+            0 | 1 => byte(random, &mut text),
+            2 => one_more(random, &mut text),
             3 | 4 => digit(random, &mut text),
             5 => remove(random, &mut text),
             6 => double(random, &mut text),
@@ -41,6 +42,16 @@ fn byte(random: &mut Random, text: &mut [u8]) {
     if let Some(at) = place(random, text) {
         text[at] = random.pick(TELLING);
     }
+}
+
+/// A byte more, one time in two at the end of a line.
+fn one_more(random: &mut Random, text: &mut Vec<u8>) {
+    let mut at = random.below(text.len() as u64 + 1) as usize;
+    if random.below(2) == 0 {
+        let end = text[at..].iter().position(|byte| *byte == b'\n');
+        at += end.unwrap_or(0);
+    }
+    text.insert(at, random.pick(TELLING));
 }
 
 /// Another digit in the place of one: the form of the line stays.
