@@ -1,7 +1,7 @@
 // The exported calls of the listing, and of one read back.
 ghost use mathlib.Core.Path.{_≡_};
 ghost use mathlib.Core.List.{[]};
-ghost use Rattle.views.specs.View.{roomAnswer, roomAfter, viewAnswer, viewRoom};
+ghost use Rattle.sight.specs.View.{roomAnswer, roomAfter, viewAnswer, viewRoom};
 ghost use Rattle.listing.specs.Walk.{listingOf};
 ghost use Rattle.restoring.specs.Back.{backAnswer, backImage, backMarks};
 ghost use Rattle.lister.specs.Output.{outputOf};

@@ -1,12 +1,12 @@
 // The exported calls of the views.
 ghost use mathlib.Core.Path.{_≡_};
 ghost use lib.ListN.{length};
-ghost use Rattle.views.specs.View.{viewAnswer, viewRoom};
+ghost use Rattle.sight.specs.View.{viewAnswer, viewRoom};
 ghost use Rattle.views.specs.Mask.{maskOf};
 ghost use Rattle.views.specs.Labels.{labelsOf};
-ghost use Rattle.views.specs.Overlaps.{overlapsOf};
-ghost use Rattle.views.specs.Arrivals.{arrivalsOf};
 ghost use Rattle.views.specs.DataRun.{dataRun};
+ghost use Rattle.meetings.specs.Overlaps.{overlapsOf};
+ghost use Rattle.meetings.specs.Arrivals.{arrivalsOf};
 ghost use Rattle.reply.specs.Reply.{five, numberOf, valuesOf, countValues};
 
 // Accepted: the number of bytes written.

@@ -3,7 +3,7 @@ ghost use mathlib.Core.Path.{_≡_};
 ghost use lib.ListN.{length};
 use libc::STDIN_FILENO;
 use libc::STDOUT_FILENO;
-use views::Viewed;
+use sight::Viewed;
 
 // One byte more than the longest input that is not malformed: what is longer is refused with 13 by what was read of it.
 fn input() -> [u8; 50_433]

@@ -11,7 +11,7 @@ use Rattle.operand.specs.Answer.{Answer, accepted, refused, judge}
 use Rattle.operand.proofs.Judging.{accepts}
 use Rattle.trace.specs.Run.{runAnswer, runMarks}
 use Rattle.trace_laws.specs.ClaimsImages.{Bytes}
-use Rattle.views.specs.View.{viewRefusals}
+use Rattle.sight.specs.View.{viewRefusals}
 use Rattle.text.specs.Bytes.{bytesOf}
 use Rattle.input.specs.Bytes.{bytesIn}
 use Rattle.input.specs.ClaimsInput.{Valid}

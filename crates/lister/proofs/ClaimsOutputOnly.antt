@@ -22,7 +22,7 @@ use Rattle.reach.proofs.Took.{length-took}
 use Rattle.trace.specs.Run.{Said, runJudged, runAnswer, runMarks, ranAnswer, endOf, outcomeOf, orElse}
 use Rattle.trace.specs.Tracer.{tracerOf}
 use Rattle.trace.proofs.Sizing.{right-sizes}
-use Rattle.views.specs.View.{Sound, viewRefusals}
+use Rattle.sight.specs.View.{Sound, viewRefusals}
 use Rattle.views_laws.proofs.Finished.{marks-are}
 use Rattle.input.specs.ClaimsInput.{Valid, refusalOf}
 use Rattle.input.specs.Text.{countsOf, entriesOf, imageOf, lineRefusals}

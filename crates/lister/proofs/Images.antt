@@ -8,7 +8,7 @@ use lib.IntN.{ℤ}
 use lib.ListN.{length, replicate, length-replicate}
 use Rattle.operand.specs.Answer.{Answer, accepted, refused, judge}
 use Rattle.trace.specs.Run.{Said, orElse, runAnswer, runMarks}
-use Rattle.views.specs.View.{Sound, viewRefusals, viewAnswer, viewRoom, roomAnswer, roomAfter}
+use Rattle.sight.specs.View.{Sound, viewRefusals, viewAnswer, viewRoom, roomAnswer, roomAfter}
 use Rattle.views_laws.specs.ClaimsSound.{Undamaged}
 use Rattle.views_laws.proofs.ClaimsSoundRun.{run-undamaged}
 use Rattle.views_laws.proofs.Finished.{marks-are}

@@ -9,8 +9,8 @@ use lib.ListN.{length, drop}
 use Rattle.operand.specs.Answer.{Answer, accepted, Refusal, judge, after}
 use Rattle.operand.proofs.Judging.{pass, done, past-all}
 use Rattle.trace.proofs.Sizing.{right-sizes}
-use Rattle.views.specs.Positions.{upFrom, positions}
-use Rattle.views.specs.View.{Sound, damagedHere, damageIn, viewRefusals, roomAnswer, roomAfter}
+use Rattle.sight.specs.Positions.{upFrom, positions}
+use Rattle.sight.specs.View.{Sound, damagedHere, damageIn, viewRefusals, roomAnswer, roomAfter}
 use Rattle.views_laws.specs.ClaimsSound.{Undamaged}
 
 none-damaged : (image m : List ℕ) (k q : ℕ) → ((p : ℕ) → q ≤ p → p < q + k → damagedHere image m p ≡ false) → _≡_ {A = Answer ℕ} (judge (damageIn image m (upFrom k q)) 0) (accepted 0)

@@ -8,7 +8,7 @@ use lib.Dec.{ltb}
 use lib.ListN.{length, replicate}
 use Rattle.operand.specs.Answer.{Answer, accepted, refused, judge}
 use Rattle.trace.specs.Run.{orElse, runAnswer, runMarks}
-use Rattle.views.specs.View.{viewRefusals}
+use Rattle.sight.specs.View.{viewRefusals}
 use Rattle.input.specs.Text.{countsOf, entriesOf, imageOf, lineRefusals}
 use Rattle.listing.specs.Walk.{listingOf}
 use Rattle.listing.specs.declared.tabbed.Arrivals.the-variants.{Declined}

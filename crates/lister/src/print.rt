@@ -3,14 +3,14 @@ ghost use mathlib.Core.Path.{_≡_};
 ghost use mathlib.Core.List.{[]};
 ghost use Prim.Native.Nat.{_≤_};
 ghost use lib.ListN.{length};
-ghost use Rattle.views.specs.View.{viewedOf, roomAnswer, roomAfter};
+ghost use Rattle.sight.specs.View.{viewedOf, roomAnswer, roomAfter};
 ghost use Rattle.lister.specs.Output.{shown, tracedText, outputOf};
 use crate::refusal;
 use crate::rooms;
 use input::Parsed;
 use listing::Arrivals;
+use sight::Viewed;
 use trace::Ran;
-use views::Viewed;
 
 // The listing of a run in this image from these entries, or the line of a refusal.
 fn list_image(image: &[u8], entries: &[u32], room: &mut [u8]) -> Viewed

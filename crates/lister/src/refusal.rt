@@ -2,9 +2,9 @@
 ghost use mathlib.Core.Path.{_≡_};
 ghost use Prim.Native.Nat.{_<_, _≤_};
 ghost use mathlib.Core.List.{[]};
-ghost use Rattle.views.specs.View.{viewedOf, roomAnswer, roomAfter};
+ghost use Rattle.sight.specs.View.{viewedOf, roomAnswer, roomAfter};
 ghost use Rattle.lister.specs.Output.{refusalLine};
-use views::Viewed;
+use sight::Viewed;
 
 // A number of one digit.
 fn put_short(number: u8, room: &mut [u8]) -> Viewed

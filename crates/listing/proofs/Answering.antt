@@ -9,10 +9,10 @@ use lib.IntN.{pos}
 use lib.ListN.{length, take, drop, length-take}
 use lib.Seq.{sets, sets-eq, take-at}
 use Rattle.operand.specs.Answer.{accepted, refused}
+use Rattle.sight.specs.View.{Sound, viewRoom}
+use Rattle.sight.proofs.Viewing.{Is, small, shown-as, no-room-for}
 use Rattle.views.specs.Labels.{labelsOf}
 use Rattle.views.specs.Mask.{maskOf}
-use Rattle.views.specs.View.{Sound, viewRoom}
-use Rattle.views.proofs.Viewing.{Is, small, shown-as, no-room-for}
 use Rattle.listing.specs.Puts.{Puts, Needed}
 use Rattle.listing.specs.Walk.{isChosen, walk, listingOf}
 use Rattle.listing.specs.declared.tabbed.Arrivals.{Arrivals}

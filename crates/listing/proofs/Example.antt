@@ -23,12 +23,12 @@ use Rattle.ways.specs.Ways.{nameOf}
 use Rattle.reach.specs.Mark.{tracedMark}
 use Rattle.reach.specs.Tracer.{held}
 use Rattle.trace.specs.Tracer.{exemptHere}
-use Rattle.views.specs.Arrivals.{heldAt, arrives, arrivalsOf}
+use Rattle.sight.specs.Positions.{upFrom, some, kept}
 use Rattle.views.specs.DataRun.{leading, runLength, dataRun}
 use Rattle.views.specs.Labels.{labelled, labelsOf}
 use Rattle.views.specs.Mask.{masked, maskOf}
-use Rattle.views.specs.Overlaps.{overlapsOf}
-use Rattle.views.specs.Positions.{upFrom, some, kept}
+use Rattle.meetings.specs.Arrivals.{heldAt, arrives, arrivalsOf}
+use Rattle.meetings.specs.Overlaps.{overlapsOf}
 use Rattle.listing.specs.Hex.{digit, hex2, hex3, hex4, hexes}
 use Rattle.listing.specs.Line.{fields}
 use Rattle.listing.specs.Lines.{labelLine, overlapLine, arrivalLine, instrText, dataLine}

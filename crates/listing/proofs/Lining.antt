@@ -20,9 +20,9 @@ use Rattle.operand.specs.declared.answer.CutOff.{CutOff}
 use Rattle.ways.specs.Here.{hereOf}
 use Rattle.ways.specs.Targets.{nextOf, targetsAnswer}
 use Rattle.ways.specs.declared.here.Here.the-variants.{Whole, Cut, Outside}
-use Rattle.views.specs.Overlaps.{overlapsIn}
-use Rattle.views.specs.declared.overlaps.Overlaps.{Overlaps}
-use Rattle.views.specs.declared.overlaps.Overlaps.the-variants.{Nothing, One, Two, Three}
+use Rattle.meetings.specs.Overlaps.{overlapsIn}
+use Rattle.meetings.specs.declared.overlaps.Overlaps.{Overlaps}
+use Rattle.meetings.specs.declared.overlaps.Overlaps.the-variants.{Nothing, One, Two, Three}
 use Rattle.listing.specs.Hex.{hex4, hexes}
 use Rattle.listing.specs.Line.{fields}
 use Rattle.listing.specs.Lines.{labelLine, foundLine, overlapLine, arrivalLine, instrText, codeBy, codeLine, zeros, dataLine}

@@ -19,12 +19,12 @@ use Rattle.ways.specs.declared.here.Here.the-variants.{Whole, Cut, Outside}
 use Rattle.ways.proofs.WaysAre.{whole-inside, here-whole}
 use Rattle.ways.proofs.Within.{Small, form-here, form-is, size-short}
 use Rattle.reach.specs.Mark.{tracedMark}
-use Rattle.views.specs.Arrivals.{arrivalsOf}
+use Rattle.sight.specs.Positions.{upFrom, kept, tracedAt}
+use Rattle.sight.proofs.Kept.{kept-few}
 use Rattle.views.specs.DataRun.{leading, isData, runLength, dataRun}
-use Rattle.views.specs.Overlaps.{fromBefore, overlapsOf}
-use Rattle.views.specs.Positions.{upFrom, kept, tracedAt}
-use Rattle.views.proofs.Arriving.{few}
-use Rattle.views.proofs.Kept.{kept-few}
+use Rattle.meetings.specs.Arrivals.{arrivalsOf}
+use Rattle.meetings.specs.Overlaps.{fromBefore, overlapsOf}
+use Rattle.meetings.proofs.Arriving.{few}
 use Rattle.listing.specs.Hex.{hex4, hexes}
 use Rattle.listing.specs.Line.{fields}
 use Rattle.listing.specs.Lines.{labelLine, foundLine, overlapLine, arrivalLine, instrText, hereLine, codeBy, codeLine, dataLine, zeros}

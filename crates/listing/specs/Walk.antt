@@ -9,11 +9,11 @@ use lib.Dec.{eqb}
 use lib.ListN.{length, getD}
 use Rattle.reach.specs.Mark.{tracedMark}
 use Rattle.ways.specs.Here.{hereOf}
-use Rattle.views.specs.Arrivals.{arrivalsOf}
 use Rattle.views.specs.DataRun.{dataRun}
 use Rattle.views.specs.Labels.{labelsOf}
 use Rattle.views.specs.Mask.{maskOf}
-use Rattle.views.specs.Overlaps.{overlapsOf}
+use Rattle.meetings.specs.Arrivals.{arrivalsOf}
+use Rattle.meetings.specs.Overlaps.{overlapsOf}
 use Rattle.listing.specs.Lines.{labelLine, overlapLine, arrivalLine, hereLine, dataLine}
 use Rattle.listing.specs.declared.tabbed.Arrivals.{Arrivals}
 use Rattle.listing.specs.declared.tabbed.Arrivals.the-variants.{Chosen, Declined}

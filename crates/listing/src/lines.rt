@@ -9,8 +9,8 @@ ghost use lib.ListN.{length};
 ghost use Rattle.instruction.specs.Encode.{formIn};
 ghost use Rattle.instruction.specs.Forms.{sizeOf};
 ghost use Rattle.ways.specs.Here.{hereOf};
-ghost use Rattle.views.specs.Arrivals.{arrivalsOf, nextArrival};
-ghost use Rattle.views.specs.Overlaps.{overlapsIn, overlapsOf};
+ghost use Rattle.meetings.specs.Arrivals.{arrivalsOf, nextArrival};
+ghost use Rattle.meetings.specs.Overlaps.{overlapsIn, overlapsOf};
 ghost use Rattle.listing.specs.Hex.{hex4};
 ghost use Rattle.listing.specs.Line.{fields};
 ghost use Rattle.listing.specs.Lines.{labelLine, overlapLine, arrivalLine, instrText, hereLine, zeros, dataLine};
@@ -18,7 +18,7 @@ ghost use Rattle.listing.specs.Puts.{Puts};
 use crate::operands;
 use crate::put;
 use instruction::Instr;
-use views::Overlaps;
+use meetings::Overlaps;
 use ways::Here;
 use ways::Image;
 
@@ -76,7 +76,7 @@ pub fn put_overlaps(image: &[u8], marks: &[u8], out: &mut [u8], at: usize, p: u3
     requires { ⌜ at < 2 ^ 54 ⌝ }
     ensures { λ r. ⌜ (Puts (overlapLine p (overlapsOf (now (image .entry)) (now (marks .entry)) p)) at (now (out .entry)) (now (out .exit)) r) × (r ≤ at + 2 ^ 20) ⌝ }
 {
-    let o = views::overlaps_at(image, marks, p);
+    let o = meetings::overlaps_at(image, marks, p);
     if o.count() == 0 {
         return at;
     }
@@ -94,7 +94,7 @@ fn put_arrived(image: &[u8], marks: &[u8], out: &mut [u8], at: usize, p: u32, fi
     let mut q = first;
     while q < n {
         a = put::put_place(out, a, q);
-        q = views::next_arrival(image, marks, p, q + 1);
+        q = meetings::next_arrival(image, marks, p, q + 1);
     }
     put::put_byte(out, a, b'\n')
 }
@@ -114,7 +114,7 @@ pub fn put_arrivals(
     if !chosen {
         return at;
     }
-    let first = views::next_arrival(image, marks, p, 0);
+    let first = meetings::next_arrival(image, marks, p, 0);
     if image.len() <= first as usize {
         return at;
     }

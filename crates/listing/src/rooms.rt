@@ -1,9 +1,9 @@
 // The mask and the target marks, worked out once for a listing.
 ghost use mathlib.Core.Path.{_≡_};
 ghost use lib.ListN.{length, take};
+ghost use Rattle.sight.specs.View.{Sound};
 ghost use Rattle.views.specs.Labels.{labelsOf};
 ghost use Rattle.views.specs.Mask.{maskOf};
-ghost use Rattle.views.specs.View.{Sound};
 use ways::Image;
 
 // Room for every image.

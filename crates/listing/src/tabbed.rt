@@ -1,10 +1,10 @@
 // The tabbed listing.
 ghost use mathlib.Core.Path.{_≡_};
-ghost use Rattle.views.specs.View.{viewedOf, viewAnswer, viewRoom};
+ghost use Rattle.sight.specs.View.{viewedOf, viewAnswer, viewRoom};
 ghost use Rattle.listing.specs.Walk.{isChosen, unchosen, listingOf};
 use crate::rooms;
 use crate::walk;
-use views::Viewed;
+use sight::Viewed;
 
 // Whether the listing shows arrivals.
 pub enum Arrivals {
@@ -30,7 +30,7 @@ impl Arrivals {
 pub fn listing_with(image: &[u8], marks: &[u8], arrivals: Arrivals, room: &mut [u8]) -> Viewed
     ensures { λ r. ⌜ (viewedOf r ≡ viewAnswer (now (image .entry)) (now (marks .entry)) (listingOf (now (image .entry)) (now (marks .entry)) arrivals) (now (room .entry))) × (now (room .exit) ≡ viewRoom (now (image .entry)) (now (marks .entry)) (listingOf (now (image .entry)) (now (marks .entry)) arrivals) (now (room .entry))) ⌝ }
 {
-    let v = views::check(image, marks);
+    let v = sight::check(image, marks);
     if !v.is_written() {
         return v;
     }

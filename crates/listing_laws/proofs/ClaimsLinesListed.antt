@@ -14,13 +14,13 @@ use Rattle.ways.proofs.Ands.{both}
 use Rattle.ways.proofs.Within.{size-short}
 use Rattle.reach.specs.Mark.{tracedMark}
 use Rattle.trace_laws.specs.ClaimsImages.{Bytes}
+use Rattle.sight.specs.Positions.{upFrom, kept, bit, tracedAt}
+use Rattle.sight.proofs.TracedAt.{traced-inside}
+use Rattle.sight.proofs.Ups.{up-at}
 use Rattle.views.specs.DataRun.{leading, isData, runLength, dataRun}
 use Rattle.views.specs.Mask.{under, covers, masked, maskOf}
-use Rattle.views.specs.Positions.{upFrom, kept, bit, tracedAt}
 use Rattle.views.proofs.DataRuns.{data-inside, by-mask}
 use Rattle.views.proofs.Masking.{mask-length}
-use Rattle.views.proofs.TracedAt.{traced-inside}
-use Rattle.views.proofs.Ups.{up-at}
 use Rattle.views_laws.proofs.Somes.{passing}
 use Rattle.listing.specs.Walk.{printed, passed, walk, listingOf}
 use Rattle.listing_laws.specs.ClaimsLines.{joined, stopsFrom, TracedListed}

@@ -30,9 +30,9 @@ use Rattle.trace.specs.Run.{outcomeOf}
 use Rattle.trace.specs.Step.{damaged}
 use Rattle.trace.specs.Tracer.{tracerOf}
 use Rattle.trace_laws.proofs.ClaimsImagesOrder.{image-run-final}
-use Rattle.views.specs.Positions.{tracedAt}
-use Rattle.views.specs.View.{offJmpf, misplaced, damagedHere}
-use Rattle.views.proofs.TracedAt.{traced-inside}
+use Rattle.sight.specs.Positions.{tracedAt}
+use Rattle.sight.specs.View.{offJmpf, misplaced, damagedHere}
+use Rattle.sight.proofs.TracedAt.{traced-inside}
 use Rattle.views_laws.specs.ClaimsCode.{Reachable}
 use Rattle.views_laws.proofs.ClaimsCodeBytes.{traced-reached, reached-traced}
 use Rattle.views_laws.proofs.Finished.{sized, covered, marks-are, ended}

@@ -5,9 +5,9 @@ use mathlib.Core.List.{List, [], _∷_, _++_, map}
 use mathlib.Core.Path.{_≡_}
 use lib.ListN.{length}
 use Rattle.trace_laws.specs.ClaimsImages.{Bytes}
+use Rattle.sight.specs.Positions.{positions, kept, tracedAt}
 use Rattle.views.specs.Labels.{labelsOf}
 use Rattle.views.specs.Mask.{maskOf}
-use Rattle.views.specs.Positions.{positions, kept, tracedAt}
 use Rattle.listing.specs.Walk.{isChosen, printed, passed, listingOf}
 use Rattle.listing.specs.declared.tabbed.Arrivals.{Arrivals}
 

@@ -20,7 +20,7 @@ use Rattle.ways.specs.Here.{hereOf}
 use Rattle.ways.specs.Targets.{targetsAnswer}
 use Rattle.trace.specs.Run.{Said, runAnswer, runMarks}
 use Rattle.trace_laws.specs.ClaimsImages.{Bytes, Clean}
-use Rattle.views.specs.Positions.{tracedAt}
+use Rattle.sight.specs.Positions.{tracedAt}
 use Rattle.views_laws.specs.ClaimsCode.{Reachable}
 use Rattle.views_laws.specs.ClaimsSound.{Undamaged}
 use Rattle.listing.specs.Hex.{hex4, hexes}

@@ -9,7 +9,7 @@ use lib.Dec.{eqb}
 use lib.ListN.{length, getD, set, take, drop, length-set}
 use lib.Seq.{sets, drop-cons, getD-set-same, getD-set-other}
 use borrow.Author.Tests.{eq-eqb, eqb-true, eqb-false, le-ltb}
-use Rattle.views.proofs.Ors.{or-second}
+use Rattle.sight.proofs.Ors.{or-second}
 use Rattle.trace_laws.specs.ClaimsImages.{Bytes}
 use Rattle.restoring.specs.Sheet.{agree, reach}
 use Rattle.reading_laws.proofs.Digits.{Small}

@@ -15,11 +15,11 @@ use Rattle.ways.specs.At.{fitsHere}
 use Rattle.ways.proofs.HereIs.{answer}
 use Rattle.reach.specs.Mark.{tracedMark}
 use Rattle.trace_laws.specs.ClaimsImages.{Bytes}
+use Rattle.sight.specs.Positions.{tracedAt}
+use Rattle.sight.proofs.TracedAt.{by-mark}
 use Rattle.views.specs.DataRun.{dataRun}
 use Rattle.views.specs.Labels.{labelsOf}
 use Rattle.views.specs.Mask.{maskOf}
-use Rattle.views.specs.Positions.{tracedAt}
-use Rattle.views.proofs.TracedAt.{by-mark}
 use Rattle.views_laws.specs.ClaimsSound.{Undamaged}
 use Rattle.listing.specs.Walk.{isChosen, codeLines, printed, passed, walk, listingOf}
 use Rattle.listing.specs.Lines.{dataLine}

@@ -17,10 +17,10 @@ use Rattle.ways.specs.Here.{hereOf}
 use Rattle.ways.proofs.Ands.{second-part}
 use Rattle.reach.specs.Mark.{traced}
 use Rattle.trace_laws.specs.ClaimsImages.{Bytes}
-use Rattle.views.specs.Positions.{tracedAt}
-use Rattle.views.specs.Overlaps.{overlapsOf}
-use Rattle.views.specs.Arrivals.{arrivalsOf}
-use Rattle.views.proofs.TracedAt.{traced-inside}
+use Rattle.sight.specs.Positions.{tracedAt}
+use Rattle.sight.proofs.TracedAt.{traced-inside}
+use Rattle.meetings.specs.Overlaps.{overlapsOf}
+use Rattle.meetings.specs.Arrivals.{arrivalsOf}
 use Rattle.listing.specs.Hex.{hex4, hexes}
 use Rattle.listing.specs.Line.{line}
 use Rattle.listing.specs.Lines.{labelLine, overlapLine, arrivalLine, hereLine}

@@ -14,10 +14,10 @@ use Rattle.text.specs.Cut.{lines}
 use Rattle.ways.proofs.Ands.{first-part, second-part}
 use Rattle.reach.specs.Mark.{tracedMark}
 use Rattle.trace_laws.specs.ClaimsImages.{Bytes}
+use Rattle.sight.specs.Positions.{tracedAt}
+use Rattle.sight.proofs.TracedAt.{by-mark}
 use Rattle.views.specs.DataRun.{dataRun}
 use Rattle.views.specs.Mask.{maskOf}
-use Rattle.views.specs.Positions.{tracedAt}
-use Rattle.views.proofs.TracedAt.{by-mark}
 use Rattle.listing.specs.Hex.{hex4, hexes}
 use Rattle.listing.specs.Line.{line}
 use Rattle.listing.specs.Lines.{zeros, dataLine}

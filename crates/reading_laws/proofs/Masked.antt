@@ -12,9 +12,9 @@ use borrow.Author.Tests.{leb-true, ltb-true}
 use Rattle.operand.proofs.Sign.{never}
 use Rattle.ways.specs.At.{sizeHere}
 use Rattle.ways.proofs.Ands.{first-part, second-part}
+use Rattle.sight.specs.Positions.{bit, tracedAt}
+use Rattle.sight.proofs.Ups.{up-at}
 use Rattle.views.specs.Mask.{under, covers, masked, maskOf}
-use Rattle.views.specs.Positions.{bit, tracedAt}
-use Rattle.views.proofs.Ups.{up-at}
 use Rattle.views_laws.proofs.Somes.{which}
 
 -- a traced position before p whose instruction has p for a byte

@@ -6,7 +6,7 @@ use Prim.Native.Nat.{ℕ, _<_, _≤_}
 use native.Mathlib.Omega.{arith}
 use lib.Dec.{eqb, ltb}
 use borrow.Author.Tests.{eq-eqb, lt-ltb}
-use Rattle.views.proofs.Ors.{or-second}
+use Rattle.sight.proofs.Ors.{or-second}
 
 -- after a line at `last` whose letter has the rank a, letters from the rank r on may stand at p
 pub data Open (p r last a : ℕ) : Type 0 where

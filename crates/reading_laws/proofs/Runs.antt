@@ -9,9 +9,9 @@ use lib.Dec.{eqb}
 use lib.ListN.{length, getD, drop, length-drop}
 use lib.Seq.{length-take-le}
 use Rattle.trace_laws.specs.ClaimsImages.{Bytes}
+use Rattle.sight.specs.Positions.{upFrom, tracedAt}
 use Rattle.views.specs.DataRun.{leading, isData, runLength, dataRun}
 use Rattle.views.specs.Mask.{maskOf}
-use Rattle.views.specs.Positions.{upFrom, tracedAt}
 use Rattle.views.proofs.DataRuns.{by-mask, data-inside}
 use Rattle.views.proofs.Masking.{mask-length}
 use Rattle.listing.proofs.Widths.{leading-few}

@@ -11,8 +11,8 @@ use lib.Seq.{ext-getD}
 use borrow.Author.Tests.{eqb-true, eqb-false, leb-true, leb-false}
 use Rattle.operand.proofs.Sign.{never}
 use Rattle.ways.specs.At.{sizeHere}
-use Rattle.views.specs.Positions.{tracedAt}
-use Rattle.views.proofs.TracedAt.{by-mark}
+use Rattle.sight.specs.Positions.{tracedAt}
+use Rattle.sight.proofs.TracedAt.{by-mark}
 use Rattle.restoring.specs.Sheet.{Sheet, blank, imageOn}
 use Rattle.reading_laws.specs.ClaimsBack.{told}
 use Rattle.reading_laws.proofs.Cells.{Sound, Right, Lays, empty}

@@ -15,10 +15,10 @@ use Rattle.operand.proofs.Sign.{never}
 use Rattle.reach.proofs.Cases.{lt-or-le}
 use Rattle.trace.proofs.Sizing.{long-image}
 use Rattle.trace_laws.specs.ClaimsImages.{Bytes}
-use Rattle.views.specs.Positions.{positions}
-use Rattle.views.specs.View.{damageIn, viewRefusals, viewedOf, roomAnswer, viewAnswer}
-use Rattle.views.specs.declared.view.Viewed.{Viewed}
-use Rattle.views.specs.declared.view.Viewed.the-variants.{Written, LongImage, ShortMarks, Damaged, NoRoom}
+use Rattle.sight.specs.Positions.{positions}
+use Rattle.sight.specs.View.{damageIn, viewRefusals, viewedOf, roomAnswer, viewAnswer}
+use Rattle.sight.specs.declared.view.Viewed.{Viewed}
+use Rattle.sight.specs.declared.view.Viewed.the-variants.{Written, LongImage, ShortMarks, Damaged, NoRoom}
 use Rattle.listing.specs.Walk.{listingOf}
 use Rattle.listing.specs.declared.tabbed.Arrivals.{Arrivals}
 use Rattle.listing.specs.declared.tabbed.Arrivals.the-variants.{Chosen, Declined}

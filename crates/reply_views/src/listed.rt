@@ -1,7 +1,7 @@
 // The listing, answered by replies.
 ghost use mathlib.Core.Path.{_≡_};
 ghost use mathlib.Core.List.{[]};
-ghost use Rattle.views.specs.View.{roomAnswer, roomAfter, viewAnswer, viewRoom};
+ghost use Rattle.sight.specs.View.{roomAnswer, roomAfter, viewAnswer, viewRoom};
 ghost use Rattle.listing.specs.Walk.{listingOf};
 ghost use Rattle.lister.specs.Output.{outputOf};
 ghost use Rattle.reply.specs.Reply.{replyOf, countValues};

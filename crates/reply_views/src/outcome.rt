@@ -1,11 +1,11 @@
 // The answer of a view as a reply. A length that does not fit a value cannot come from a view, but the enum alone does not say so.
 ghost use mathlib.Core.Path.{_≡_};
 ghost use Prim.Native.Nat.{_<_, _^_};
-ghost use Rattle.views.specs.View.{viewedOf};
+ghost use Rattle.sight.specs.View.{viewedOf};
 ghost use Rattle.reply.specs.Reply.{replyOf, countValues};
 ghost use Rattle.reply_views.specs.Counts.{lengthInViewed};
 use reply::Reply;
-use views::Viewed;
+use sight::Viewed;
 
 pub fn viewed(v: Viewed) -> Reply
     requires { ⌜ lengthInViewed v < 2 ^ 63 ⌝ }

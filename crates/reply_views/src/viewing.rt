@@ -1,12 +1,12 @@
 // The views, answered by replies.
 ghost use mathlib.Core.Path.{_≡_};
 ghost use lib.ListN.{length};
-ghost use Rattle.views.specs.View.{viewAnswer, viewRoom};
+ghost use Rattle.sight.specs.View.{viewAnswer, viewRoom};
 ghost use Rattle.views.specs.Mask.{maskOf};
 ghost use Rattle.views.specs.Labels.{labelsOf};
-ghost use Rattle.views.specs.Overlaps.{overlapsOf};
-ghost use Rattle.views.specs.Arrivals.{arrivalsOf};
 ghost use Rattle.views.specs.DataRun.{dataRun};
+ghost use Rattle.meetings.specs.Overlaps.{overlapsOf};
+ghost use Rattle.meetings.specs.Arrivals.{arrivalsOf};
 ghost use Rattle.reply.specs.Reply.{reply, replyOf, countValues};
 use crate::outcome;
 use reply::Reply;
@@ -29,14 +29,14 @@ pub fn target_marks(image: &[u8], marks: &[u8], room: &mut [u8]) -> Reply
 pub fn overlaps(image: &[u8], marks: &[u8], p: u32, room: &mut [u32]) -> Reply
     ensures { λ r. ⌜ (r ≡ replyOf countValues (viewAnswer (now (image .entry)) (now (marks .entry)) (overlapsOf (now (image .entry)) (now (marks .entry)) p) (now (room .entry)))) × (now (room .exit) ≡ viewRoom (now (image .entry)) (now (marks .entry)) (overlapsOf (now (image .entry)) (now (marks .entry)) p) (now (room .entry))) ⌝ }
 {
-    outcome::viewed(views::find_overlaps(image, marks, p, room))
+    outcome::viewed(meetings::find_overlaps(image, marks, p, room))
 }
 
 // Accepted: the number of positions written.
 pub fn arrivals(image: &[u8], marks: &[u8], p: u32, room: &mut [u32]) -> Reply
     ensures { λ r. ⌜ (r ≡ replyOf countValues (viewAnswer (now (image .entry)) (now (marks .entry)) (arrivalsOf (now (image .entry)) (now (marks .entry)) p) (now (room .entry)))) × (now (room .exit) ≡ viewRoom (now (image .entry)) (now (marks .entry)) (arrivalsOf (now (image .entry)) (now (marks .entry)) p) (now (room .entry))) ⌝ }
 {
-    outcome::viewed(views::arrivals(image, marks, p, room))
+    outcome::viewed(meetings::arrivals(image, marks, p, room))
 }
 
 // Never refused: the length of the run, which begins at p.

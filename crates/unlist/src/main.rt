@@ -5,8 +5,8 @@ ghost use lib.ListN.{length};
 use libc::STDERR_FILENO;
 use libc::STDIN_FILENO;
 use libc::STDOUT_FILENO;
+use sight::Viewed;
 use unlister::Said;
-use views::Viewed;
 
 // 60 bytes for each of 65,536 positions, as long as a listing can be, and one byte more, by which a longer text is noticed.
 fn listing() -> [u8; 3_932_161]

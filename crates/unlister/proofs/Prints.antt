@@ -7,7 +7,7 @@ use native.Mathlib.Omega.{arith}
 use lib.IntN.{pos}
 use lib.ListN.{length, take, replicate, length-take}
 use Rattle.operand.specs.Answer.{Answer, accepted, refused}
-use Rattle.views.specs.View.{roomAnswer, roomAfter}
+use Rattle.sight.specs.View.{roomAnswer, roomAfter}
 use Rattle.restoring.specs.Back.{backAnswer, backImage}
 use Rattle.unlister.specs.Unlisted.{imageText, refusalText, zeros, printed, unlistedOf}
 

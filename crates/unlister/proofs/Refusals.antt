@@ -8,7 +8,7 @@ use lib.ListN.{length, set, drop}
 use lib.Seq.{sets, sets-eq}
 use Rattle.operand.specs.Answer.{accepted}
 use Rattle.operand.proofs.Judging.{done}
-use Rattle.views.proofs.Rooming.{Is, shown-as}
+use Rattle.sight.proofs.Rooming.{Is, shown-as}
 use Rattle.listing.specs.Puts.{Puts}
 use Rattle.listing.proofs.Putting.{puts-then}
 use Rattle.unlister.specs.Decimal.{lowest, width}

@@ -6,9 +6,9 @@ ghost use lib.ListN.{length};
 ghost use lib.Seq.{sets};
 ghost use Rattle.listing.specs.Hex.{hex2, hexes};
 ghost use Rattle.listing.specs.Puts.{Puts};
-ghost use Rattle.views.specs.View.{viewedOf, roomAnswer, roomAfter};
+ghost use Rattle.sight.specs.View.{viewedOf, roomAnswer, roomAfter};
 ghost use Rattle.unlister.specs.Unlisted.{imageText};
-use views::Viewed;
+use sight::Viewed;
 
 const MOST_IN_LINE: usize = 32;
 

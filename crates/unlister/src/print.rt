@@ -1,13 +1,13 @@
 // What is printed of a listing read back.
 ghost use mathlib.Core.Path.{_≡_};
 ghost use mathlib.Core.List.{[]};
-ghost use Rattle.views.specs.View.{viewedOf, roomAnswer, roomAfter};
+ghost use Rattle.sight.specs.View.{viewedOf, roomAnswer, roomAfter};
 ghost use Rattle.unlister.specs.Unlisted.{unlistedOf};
 use crate::line;
 use crate::refusal;
 use crate::rooms;
 use restoring::Restored;
-use views::Viewed;
+use sight::Viewed;
 
 // Turns a listing of an image of so many bytes into image lines, or into the line of a refusal: how many bytes were written, or 11 with how
 // many are needed.

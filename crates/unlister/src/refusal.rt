@@ -2,10 +2,10 @@
 ghost use mathlib.Core.Path.{_≡_};
 ghost use mathlib.Core.List.{[]};
 ghost use Prim.Native.Nat.{_<_};
-ghost use Rattle.views.specs.View.{viewedOf, roomAnswer, roomAfter};
+ghost use Rattle.sight.specs.View.{viewedOf, roomAnswer, roomAfter};
 ghost use Rattle.unlister.specs.Unlisted.{refusalText};
 use crate::decimal;
-use views::Viewed;
+use sight::Viewed;
 
 pub fn put_refusal(number: usize, value: usize, room: &mut [u8]) -> Viewed
     requires { ⌜ number < 100 ⌝ }

@@ -1,7 +1,7 @@
 // The calls, in a room that holds no output before.
 use input::Parsed;
 use listing::Arrivals;
-use views::Viewed;
+use sight::Viewed;
 
 // What stands in the room before.
 const OLD: u8 = b'~';

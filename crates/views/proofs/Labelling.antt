@@ -14,10 +14,10 @@ use Rattle.reach.specs.Mark.{cleared, tracedMark}
 use Rattle.trace.specs.Clear.{wiped}
 use Rattle.trace.specs.Tracer.{exemptHere}
 use Rattle.ways.specs.Ways.{nameOf}
+use Rattle.sight.specs.Positions.{upFrom, positions, some, bit}
+use Rattle.sight.proofs.Ors.{or-second, or-start}
+use Rattle.sight.proofs.Ups.{up-length, up-at, some-snoc}
 use Rattle.views.specs.Labels.{namedFrom, names, labelled, labelsOf, labelAt}
-use Rattle.views.specs.Positions.{upFrom, positions, some, bit}
-use Rattle.views.proofs.Ors.{or-second, or-start}
-use Rattle.views.proofs.Ups.{up-length, up-at, some-snoc}
 
 module _ (image m : List ℕ) (p : ℕ) where
   pub from-untraced : tracedMark (getD m p 0) ≡ false → 65536 ≡ namedFrom image m p

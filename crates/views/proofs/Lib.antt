@@ -1,16 +1,3 @@
-pub mod Ors
-pub mod Checking
-pub mod Ups
-pub mod Refusing
-pub mod Rooming
-pub mod Viewing
-pub mod Fronts
 pub mod Masking
 pub mod Labelling
 pub mod DataRuns
-pub mod Kept
-pub mod Laid
-pub mod TracedAt
-pub mod Overlapping
-pub mod Holding
-pub mod Arriving

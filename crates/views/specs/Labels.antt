@@ -9,7 +9,7 @@ use lib.ListN.{getD, set}
 use Rattle.ways.specs.Ways.{nameOf}
 use Rattle.reach.specs.Mark.{tracedMark}
 use Rattle.trace.specs.Tracer.{exemptHere}
-use Rattle.views.specs.Positions.{positions, some, bit}
+use Rattle.sight.specs.Positions.{positions, some, bit}
 
 -- what the position p names if it is traced and not under the exception; 65,536 is outside every image
 abbrev pub namedFrom : List ℕ → List ℕ → ℕ → ℕ

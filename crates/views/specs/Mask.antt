@@ -7,7 +7,7 @@ use lib.Dec.{ltb, leb}
 use lib.ListN.{getD}
 use Rattle.ways.specs.At.{sizeHere}
 use Rattle.reach.specs.Mark.{tracedMark}
-use Rattle.views.specs.Positions.{positions, some, bit, tracedAt}
+use Rattle.sight.specs.Positions.{positions, some, bit, tracedAt}
 
 -- b is a byte of the instruction at p
 abbrev pub under : List ℕ → ℕ → ℕ → Bool

@@ -4,10 +4,9 @@ ghost use mathlib.Core.Path.{_≡_};
 ghost use mathlib.Core.List.{_++_};
 ghost use Prim.Native.Nat.{_≤_, _<_};
 ghost use lib.ListN.{length, drop};
+ghost use Rattle.sight.specs.View.{viewedOf, viewAnswer, viewRoom};
 ghost use Rattle.views.specs.Labels.{labelsOf, namedFrom, labelAt};
-ghost use Rattle.views.specs.View.{viewedOf, viewAnswer, viewRoom};
-use crate::view;
-use crate::view::Viewed;
+use sight::Viewed;
 use trace::Mark;
 use ways::Image;
 
@@ -54,7 +53,7 @@ fn write_labels(image: &[u8], marks: &[u8], room: &mut [u8])
 pub fn target_marks(image: &[u8], marks: &[u8], room: &mut [u8]) -> Viewed
     ensures { λ r. ⌜ (viewedOf r ≡ viewAnswer (now (image .entry)) (now (marks .entry)) (labelsOf (now (image .entry)) (now (marks .entry))) (now (room .entry))) × (now (room .exit) ≡ viewRoom (now (image .entry)) (now (marks .entry)) (labelsOf (now (image .entry)) (now (marks .entry))) (now (room .entry))) ⌝ }
 {
-    let v = view::check(image, marks);
+    let v = sight::check(image, marks);
     if !v.is_written() {
         return v;
     }

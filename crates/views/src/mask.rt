@@ -4,10 +4,9 @@ ghost use mathlib.Core.Path.{_≡_};
 ghost use mathlib.Core.List.{_++_};
 ghost use Prim.Native.Nat.{_≤_, _<_};
 ghost use lib.ListN.{length, drop};
+ghost use Rattle.sight.specs.View.{viewedOf, viewAnswer, viewRoom};
 ghost use Rattle.views.specs.Mask.{maskOf, endWith};
-ghost use Rattle.views.specs.View.{viewedOf, viewAnswer, viewRoom};
-use crate::view;
-use crate::view::Viewed;
+use sight::Viewed;
 use trace::Mark;
 
 // Where the code up to and with p ends, if what stands before p ends there.
@@ -42,7 +41,7 @@ fn write_mask(image: &[u8], marks: &[u8], mask: &mut [u8])
 pub fn build_byte_mask(image: &[u8], marks: &[u8], mask: &mut [u8]) -> Viewed
     ensures { λ r. ⌜ (viewedOf r ≡ viewAnswer (now (image .entry)) (now (marks .entry)) (maskOf (now (image .entry)) (now (marks .entry))) (now (mask .entry))) × (now (mask .exit) ≡ viewRoom (now (image .entry)) (now (marks .entry)) (maskOf (now (image .entry)) (now (marks .entry))) (now (mask .entry))) ⌝ }
 {
-    let v = view::check(image, marks);
+    let v = sight::check(image, marks);
     if !v.is_written() {
         return v;
     }

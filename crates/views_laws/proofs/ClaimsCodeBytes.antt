@@ -19,9 +19,9 @@ use Rattle.reach.specs.Reach.{Reach}
 use Rattle.reach.proofs.Cleared.{cleared-at}
 use Rattle.trace.specs.Tracer.{tracerOf}
 use Rattle.trace_laws.proofs.ClaimsImagesOrder.{image-run-final}
+use Rattle.sight.specs.Positions.{bit, tracedAt}
+use Rattle.sight.proofs.Ups.{up-at}
 use Rattle.views.specs.Mask.{under, covers, masked, maskOf}
-use Rattle.views.specs.Positions.{bit, tracedAt}
-use Rattle.views.proofs.Ups.{up-at}
 use Rattle.views_laws.specs.ClaimsCode.{Code, CodeBytes}
 use Rattle.views_laws.proofs.Finished.{sized, covered, marks-are, ended}
 use Rattle.views_laws.proofs.Reached.{plainly, over, reached-inside}

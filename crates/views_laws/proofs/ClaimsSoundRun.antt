@@ -23,7 +23,7 @@ use Rattle.reach.proofs.Note.{length-note}
 use Rattle.trace.specs.Run.{outcomeOf}
 use Rattle.trace.specs.Step.{damaged}
 use Rattle.trace.specs.Tracer.{tracerOf, exemptHere}
-use Rattle.views.specs.View.{offJmpf, misplaced, damagedHere}
+use Rattle.sight.specs.View.{offJmpf, misplaced, damagedHere}
 use Rattle.views_laws.specs.ClaimsSound.{RunUndamaged}
 
 module _ (image : List ℕ) where

@@ -5,7 +5,7 @@ use mathlib.Core.Bool.{Bool, true, false, _||_}
 use Prim.Native.Nat.{ℕ, zero, suc, _+_, _<_, _≤_}
 use native.Mathlib.Omega.{arith}
 use Rattle.operand.proofs.Sign.{never}
-use Rattle.views.specs.Positions.{upFrom, some}
+use Rattle.sight.specs.Positions.{upFrom, some}
 
 -- the one that passes
 pub record Passes (f : ℕ → Bool) (k q : ℕ) : Type 0 where

@@ -2,8 +2,8 @@
 -- Assumes nothing.
 use Rattle.operand.specs.Answer.{Apart}
 use Rattle.ways.specs.Ways.{placesIn}
-use Rattle.views.specs.View.{viewedOf}
-use Rattle.views.specs.Overlaps.{overlapsIn}
+use Rattle.sight.specs.View.{viewedOf}
+use Rattle.meetings.specs.Overlaps.{overlapsIn}
 
 -- the number and values of the answers tell all cases and all values apart
 abbrev pub ViewedApart : Type 0

@@ -8,8 +8,8 @@ use native.Mathlib.Omega.{arith}
 use borrow.Author.Needs.{needs}
 use borrow.Author.Tests.{not-true, not-false}
 use lib.ListN.{length}
-use Rattle.views.specs.Arrivals.{arrivalsOf}
-use Rattle.views.proofs.Arriving.{leftFrom, all-left, none-left, Next, next-is}
+use Rattle.meetings.specs.Arrivals.{arrivalsOf}
+use Rattle.meetings.proofs.Arriving.{leftFrom, all-left, none-left, Next, next-is}
 use Rattle.listing.proofs.Lining.{puts-begin, not-chosen, no-arrivals, arrivals}
 use Rattle.listing.proofs.Putting.{puts-as, puts-none, puts-then}
 use Rattle.listing.proofs.lines.put_arrivals.Statement.{statement}

@@ -6,8 +6,8 @@ use Prim.Native.Nat.{ℕ, _+_, _*_, _^_, _<_, _≤_}
 use native.Mathlib.Omega.{arith}
 use borrow.Author.Needs.{needs}
 use lib.ListN.{length}
-use Rattle.views.specs.Arrivals.{arrivalsOf}
-use Rattle.views.proofs.Arriving.{leftFrom, all-left, none-left, few, Next, next-is, passed}
+use Rattle.meetings.specs.Arrivals.{arrivalsOf}
+use Rattle.meetings.proofs.Arriving.{leftFrom, all-left, none-left, few, Next, next-is, passed}
 use Rattle.listing.specs.Hex.{hex4}
 use Rattle.listing.specs.Line.{fields}
 use Rattle.listing.proofs.Lining.{puts-place}

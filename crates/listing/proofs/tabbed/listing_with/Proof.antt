@@ -6,12 +6,12 @@ use Prim.Native.Nat.{ℕ, _-_, _≤_}
 use borrow.Author.Needs.{needs}
 use borrow.Author.Tests.{not-true, not-false}
 use lib.ListN.{length, take, drop}
-use Rattle.views.specs.View.{Sound}
+use Rattle.sight.specs.View.{Sound}
+use Rattle.sight.proofs.Viewing.{is-sound, small, covered, refused-all}
 use Rattle.views.specs.Labels.{labelsOf}
 use Rattle.views.specs.Mask.{maskOf}
 use Rattle.views.proofs.Labelling.{labels-length}
 use Rattle.views.proofs.Masking.{mask-length}
-use Rattle.views.proofs.Viewing.{is-sound, small, covered, refused-all}
 use Rattle.listing.specs.Puts.{Needed}
 use Rattle.listing.specs.Walk.{walk, listingOf}
 use Rattle.listing.proofs.Answering.{long-enough, part-is, is-listing, too-small, all-written}

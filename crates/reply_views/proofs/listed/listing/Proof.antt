@@ -5,7 +5,7 @@ use Prim.Native.Nat.{_<_, _^_}
 use native.Mathlib.Omega.{arith}
 use borrow.Author.Needs.{needs}
 use lib.ListN.{length}
-use Rattle.views.specs.View.{viewAnswer, viewRoom}
+use Rattle.sight.specs.View.{viewAnswer, viewRoom}
 use Rattle.listing.specs.Walk.{listingOf}
 use Rattle.listing.specs.declared.tabbed.Arrivals.{Arrivals}
 use Rattle.reply.specs.Reply.{replyOf, countValues}

@@ -5,8 +5,8 @@ use Prim.Native.Nat.{_<_, _^_}
 use borrow.Author.Needs.{needs}
 use mir.Facts.{toZ-pos}
 use mir.Syntax.{w64}
-use Rattle.views.specs.View.{viewedOf}
-use Rattle.views.specs.declared.view.Viewed.{Viewed}
+use Rattle.sight.specs.View.{viewedOf}
+use Rattle.sight.specs.declared.view.Viewed.{Viewed}
 use Rattle.reply.specs.Reply.{countValues}
 use Rattle.reply.proofs.Told.{by-case, told1}
 use Rattle.reply_views.specs.Counts.{lengthInViewed}

@@ -5,8 +5,8 @@ use Prim.Native.Nat.{_<_, _^_}
 use native.Mathlib.Omega.{arith}
 use borrow.Author.Needs.{needs}
 use lib.ListN.{length}
-use Rattle.views.specs.Arrivals.{arrivalsOf}
-use Rattle.views.proofs.Arriving.{few}
+use Rattle.meetings.specs.Arrivals.{arrivalsOf}
+use Rattle.meetings.proofs.Arriving.{few}
 use Rattle.reply.specs.Reply.{replyOf, countValues}
 use Rattle.reply_views.proofs.Shown.{viewed-small}
 use Rattle.reply_views.proofs.viewing.arrivals.Statement.{statement}

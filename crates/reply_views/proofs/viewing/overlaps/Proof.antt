@@ -5,7 +5,7 @@ use Prim.Native.Nat.{_<_, _^_}
 use native.Mathlib.Omega.{arith}
 use borrow.Author.Needs.{needs}
 use lib.ListN.{length}
-use Rattle.views.specs.Overlaps.{overlapsOf}
+use Rattle.meetings.specs.Overlaps.{overlapsOf}
 use Rattle.listing.proofs.Widths.{overlaps-few}
 use Rattle.reply.specs.Reply.{replyOf, countValues}
 use Rattle.reply_views.proofs.Shown.{viewed-small}

@@ -6,7 +6,7 @@ use Prim.Native.Nat.{ℕ, _+_, _-_, _≤_}
 use native.Mathlib.Omega.{arith}
 use borrow.Author.Needs.{needs}
 use lib.ListN.{length, set, take, drop, length-map, length-set}
-use Rattle.views.proofs.Fronts.{front-next, front-end}
+use Rattle.sight.proofs.Fronts.{front-next, front-end}
 use Rattle.restoring.proofs.Backs.{bytesIn, bytes-at}
 use Rattle.restoring.proofs.back.put_image.Statement.{statement}
 use Rattle.restoring.proofs.back.put_image.Tie as tie

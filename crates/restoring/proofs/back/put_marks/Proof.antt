@@ -6,7 +6,7 @@ use Prim.Native.Nat.{ℕ, _+_, _-_, _≤_}
 use native.Mathlib.Omega.{arith}
 use borrow.Author.Needs.{needs}
 use lib.ListN.{length, getD, set, take, drop, length-set}
-use Rattle.views.proofs.Fronts.{front-next, front-end}
+use Rattle.sight.proofs.Fronts.{front-next, front-end}
 use Rattle.restoring.proofs.back.put_marks.Statement.{statement}
 use Rattle.restoring.proofs.back.put_marks.Tie as tie
 

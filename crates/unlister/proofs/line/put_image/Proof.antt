@@ -7,7 +7,7 @@ use native.Mathlib.Omega.{arith}
 use borrow.Author.Needs.{needs}
 use lib.ListN.{length}
 use Rattle.operand.proofs.Judging.{done}
-use Rattle.views.proofs.Rooming.{no-room-for}
+use Rattle.sight.proofs.Rooming.{no-room-for}
 use Rattle.unlister.specs.Unlisted.{imageText}
 use Rattle.unlister.proofs.Lines.{image-length}
 use Rattle.unlister.proofs.Refusals.{put-shown}

@@ -7,7 +7,7 @@ use native.Mathlib.Omega.{arith}
 use borrow.Author.Needs.{needs}
 use lib.ListN.{length, set, length-set}
 use Rattle.operand.proofs.Judging.{done}
-use Rattle.views.proofs.Rooming.{no-room-for}
+use Rattle.sight.proofs.Rooming.{no-room-for}
 use Rattle.unlister.specs.Unlisted.{refusalText}
 use Rattle.unlister.proofs.Refusals.{put-shown, refusal-put, refusal-length}
 use Rattle.unlister.proofs.refusal.put_refusal.Statement.{statement}

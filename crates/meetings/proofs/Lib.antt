@@ -1,0 +1,3 @@
+pub mod Overlapping
+pub mod Holding
+pub mod Arriving

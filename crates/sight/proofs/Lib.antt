@@ -1,0 +1,10 @@
+pub mod Ors
+pub mod Checking
+pub mod Ups
+pub mod Refusing
+pub mod Rooming
+pub mod Viewing
+pub mod Fronts
+pub mod Kept
+pub mod Laid
+pub mod TracedAt
