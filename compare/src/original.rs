@@ -54,8 +54,18 @@ pub fn decode(bytes: &[u8]) -> Answer {
     match (Instr::decode(bytes), bytes) {
         (Some(found), _) => Answer::instruction(found.form(), found.size(), found.operands()),
         (None, []) => Answer::new(Answer::NOTHING, &[]),
-        (None, [first, ..]) => Answer::new(Answer::CUT_OFF, &[0, i64::from(*first)]),
+        (None, [first, ..]) => {
+            let values = [0, i64::from(*first), i64::from(missing(bytes))];
+            Answer::new(Answer::CUT_OFF, &values)
+        }
     }
+}
+
+/// How many bytes an instruction that is cut off lacks. The original does not say; it is asked again with
+/// more and more bytes behind, until it finds an instruction.
+pub fn missing(bytes: &[u8]) -> u8 {
+    let whole = |more: &u8| Instr::decode(&[bytes, &vec![0; usize::from(*more)]].concat()).is_some();
+    (0..).find(whole).expect("a form has an end")
 }
 
 /// For fields that are in range; what becomes of others, the text of the original does not say.

@@ -7,7 +7,11 @@ use crate::answer::Answer;
 pub enum End {
     Finished { steps: usize, noted: usize },
     Stopped { steps: usize },
-    CutOff { position: u32, first: u8 },
+    CutOff {
+        position: u32,
+        first: u8,
+        missing: u8,
+    },
 }
 
 #[derive(PartialEq, Debug)]
@@ -53,6 +57,7 @@ fn end(answer: &Answer) -> End {
         (_, position) => End::CutOff {
             position: position as u32,
             first: b as u8,
+            missing: c as u8,
         },
     }
 }

@@ -1,5 +1,6 @@
 //! What the original's tracer tells of an image, and what that says of a run with a limit.
 
+use super::missing;
 use crate::seen::{End, Seen};
 use waterbear::budget::Ended;
 use waterbear::disasm::probe::{self, CutOff, Graph};
@@ -11,8 +12,8 @@ const JMPF: u8 = 0x21;
 pub struct Told {
     /// The positions with a whole instruction that were taken up, in the order of their first visits.
     pub taken: Vec<u32>,
-    /// The position and first byte of the instruction that ended it.
-    pub cut_off: Option<(u32, u8)>,
+    /// The position and first byte of the instruction that ended it, and how many bytes it lacks.
+    pub cut_off: Option<(u32, u8, u8)>,
     /// The Jmpf that were not followed, ascending. Where it was cut off, the original does not say.
     pub unfollowed: Option<Vec<u32>>,
     /// Its graph, where it was not cut off.
@@ -39,7 +40,8 @@ pub fn trace(entries: &[u32], image: &[u8], visits: u64) -> Option<Told> {
         }
         Ended::Answered(Err(CutOff(position, first))) => {
             assert!(taken.pop() == Some(position), "it ends where it is cut off");
-            (Some((position as u32, first)), None, None)
+            let cut_off = (position as u32, first, missing(&image[position..]));
+            (Some(cut_off), None, None)
         }
     };
     Some(Told {
@@ -61,7 +63,11 @@ impl Told {
         let end = match self.cut_off {
             _ if limit < all => End::Stopped { steps: limit },
             Some(_) if limit == all => End::Stopped { steps: limit },
-            Some((position, first)) => End::CutOff { position, first },
+            Some((position, first, missing)) => End::CutOff {
+                position,
+                first,
+                missing,
+            },
             None => End::Finished {
                 steps: all,
                 noted: all,

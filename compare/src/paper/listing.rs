@@ -11,9 +11,17 @@ pub fn output(text: &[u8]) -> String {
     match input::parse(text) {
         Err(_) => "R\t13\n".to_string(),
         Ok(input) => match marks(&input) {
-            Err(answer) => format!("R\t{}\n", answer.number),
+            Err(answer) => refusal(&answer),
             Ok(marks) => listing(&input.image, &marks, Arrivals::Declined),
         },
+    }
+}
+
+/// The line of a refusal: the number, and after 5 the number of missing bytes.
+fn refusal(answer: &Answer) -> String {
+    match answer.number {
+        Answer::CUT_OFF => format!("R\t5\t{}\n", answer.values[2]),
+        number => format!("R\t{number}\n"),
     }
 }
 

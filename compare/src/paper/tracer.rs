@@ -61,10 +61,11 @@ pub fn start(image: &[u8], marks: &mut [u8], entries: &[u32]) -> Answer {
     Answer::new(Answer::DONE, &[set as i64])
 }
 
-/// Refusal 5.
+/// Refusal 5, with the number of missing bytes that document 02's W2 adds.
 pub(super) fn cut_off(image: &[u8], at: usize) -> Option<Answer> {
-    let whole = at + flow::size(image[at]) <= image.len();
-    (!whole).then(|| Answer::new(Answer::CUT_OFF, &[at as i64, i64::from(image[at])]))
+    let missing = (at + flow::size(image[at])).saturating_sub(image.len());
+    let values = [at as i64, i64::from(image[at]), missing as i64];
+    (missing > 0).then(|| Answer::new(Answer::CUT_OFF, &values))
 }
 
 /// Whether a Jmpf stands at a position with B8 0D before it.

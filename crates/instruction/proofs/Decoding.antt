@@ -1,18 +1,34 @@
 -- The one answer of decode, from the tests of the code.
 -- Assumes nothing.
-use mathlib.Core.Path.{_≡_, ap, sym, _∙_}
+use mathlib.Core.Path.{_≡_, ap, ap₂, sym, _∙_}
 use mathlib.Core.List.{List, [], _∷_}
-use Prim.Native.Nat.{ℕ, _<_, _≤_}
+use Prim.Native.Nat.{ℕ, _-_, _<_, _≤_}
+use native.Mathlib.Omega.{arith}
 use lib.IntN.{pos}
 use lib.ListN.{getD, length}
 use borrow.Author.Tests.{eq-eqb, ne-eqb, lt-ltb, le-ltb}
 use Rattle.operand.specs.Answer.{accepted, refused}
-use Rattle.instruction.specs.Decode.{decodeAnswer, fieldsIn}
+use Rattle.operand.specs.CutOff.{cutValues}
+use Rattle.instruction.specs.Decode.{decodeAnswer, fieldsIn, cutAt}
 use Rattle.instruction.specs.Forms.{formAt, formOf, sizeOf}
 use Rattle.instruction.specs.Parts.{madeOf}
+use Rattle.operand.specs.declared.answer.CutOff.{CutOff}
 use Rattle.instruction.specs.declared.instr.Instr.{Instr}
 use Rattle.instruction.specs.declared.instr.Parts.{Parts}
 use Rattle.operand.proofs.Judging.{pass, stop, done}
+
+-- a position, its byte, and the form's size less what is left are what refusal 5 tells
+pub cut-at : (s : List ℕ) (p : ℕ) (d : CutOff) → d .position ≡ p → d .first ≡ getD s p 0 → d .missing ≡ sizeOf (formAt (formOf (getD s p 0))) - (length s - p) → d ≡ cutAt s p
+unfolding cutAt
+cut-at s p d x y z =
+    ap₂ (λ (a : ℕ) (b : ℕ). record { position = a; first = b; missing = d .missing }) x y
+    ∙ ap (λ (a : ℕ). record { position = p; first = getD s p 0; missing = a }) z
+
+-- from the start all bytes are left
+pub cut-from-start : (s : List ℕ) (d : CutOff) → d .position ≡ 0 → d .first ≡ getD s 0 0 → d .missing ≡ sizeOf (formAt (formOf (getD s 0 0))) - length s → d ≡ cutAt s 0
+cut-from-start s d x y z =
+    let all : length s ≡ length s - 0 = omega arith in
+    cut-at s 0 d x y (z ∙ ap (λ (n : ℕ). sizeOf (formAt (formOf (getD s 0 0))) - n) all)
 
 module _ (s : List ℕ) where
   pub nothing : length s ≡ 0 → refused 12 (pos 0 ∷ []) ≡ decodeAnswer s
@@ -20,7 +36,7 @@ module _ (s : List ℕ) where
   nothing e = sym (stop _ _ _ (eq-eqb (length s) 0 e))
 
   module _ (some : length s ≡ 0 → ⊥) (k : ℕ) (form : k ≡ formOf (getD s 0 0)) where
-    pub cut : length s < sizeOf (formAt k) → refused 5 (pos 0 ∷ pos (getD s 0 0) ∷ []) ≡ decodeAnswer s
+    pub cut : length s < sizeOf (formAt k) → refused 5 (cutValues (cutAt s 0)) ≡ decodeAnswer s
     unfolding decodeAnswer
     cut h = sym (pass _ _ _ (ne-eqb (length s) 0 some) ∙ stop _ _ _ (rw (← form) (lt-ltb (length s) (sizeOf (formAt k)) h)))
 

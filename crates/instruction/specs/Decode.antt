@@ -1,11 +1,12 @@
 -- What decode answers. Document 01, 'Forms', and refusals 12 and 5 of 'Numbers given when a call says no'.
 -- Assumes nothing.
-use Prim.Native.Nat.{ℕ}
+use Prim.Native.Nat.{ℕ, _-_}
 use mathlib.Core.List.{List, [], _∷_}
 use lib.Dec.{ltb, eqb}
 use lib.IntN.{ℤ, pos}
 use lib.ListN.{length, getD}
 use Rattle.operand.specs.Answer.{Answer, accepted, refused, refuse, judge}
+use Rattle.operand.specs.CutOff.{cutValues}
 use Rattle.instruction.specs.Forms.{formAt, formOf, bits, sizeOf}
 use Rattle.operand.specs.Kinds.{kindAt}
 use Rattle.instruction.specs.Parts.{madeOf}
@@ -25,9 +26,10 @@ operandIn k s l = operandOf (kindAt (formAt k .shape) l) (field l (bits (formAt 
 unfoldable pub fieldsIn : ℕ → List ℕ → Parts
 fieldsIn k s = record { form = k; a = operandIn k s 0; b = operandIn k s 1; c = operandIn k s 2 }
 
--- the values of refusal 5: position, first byte
-abbrev pub cutValues : CutOff → List ℤ
-cutValues c = pos (c .position) ∷ pos (c .first) ∷ []
+-- what refusal 5 tells of the instruction at p: of the form whose pattern matches, the size less what is left from p on is missing.
+-- Document 02, W2
+unfoldable pub cutAt : List ℕ → ℕ → CutOff
+cutAt s p = record { position = p; first = getD s p 0; missing = sizeOf (formAt (formOf (getD s p 0))) - (length s - p) }
 
 -- the number and values of each answer
 abbrev pub decodedOf : Decoded → Answer Instr
@@ -41,6 +43,6 @@ decodeAnswer s =
     let k : ℕ = formOf (getD s 0 0) in
     judge
     (refuse (eqb (length s) 0) 12 (pos 0 ∷ [])
-    ∷ refuse (ltb (length s) (sizeOf (formAt k))) 5 (pos 0 ∷ pos (getD s 0 0) ∷ [])
+    ∷ refuse (ltb (length s) (sizeOf (formAt k))) 5 (cutValues (cutAt s 0))
     ∷ [])
     (madeOf (fieldsIn k s))

@@ -28,8 +28,9 @@ impl Instr {
         let first = bytes[0];
         let form = form::lookup(first);
         let shape = form::shape_of(form);
-        if bytes.len() < layout::size(shape) {
-            return Decoded::Cut(CutOff::new(0, first));
+        let size = layout::size(shape);
+        if bytes.len() < size {
+            return Decoded::Cut(CutOff::new(0, first, (size - bytes.len()) as u8));
         }
         let f = read::read(shape, bytes);
         Decoded::Found(build::build(form, f.a, f.b, f.c))

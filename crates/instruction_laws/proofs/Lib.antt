@@ -19,6 +19,7 @@ pub mod EncodeDecoded
 pub mod OwnForm
 pub mod DecodeEncoded
 pub mod ResolvedFits
+pub mod Missing
 pub mod Undone
 pub mod ResolvedApart
 pub mod Apart

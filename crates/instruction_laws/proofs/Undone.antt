@@ -21,7 +21,7 @@ abbrev pub numberAt : List ℤ → ℕ → ℕ
 numberAt vs n = natAbs (valueAt vs n)
 
 abbrev pub cut : List ℤ → CutOff
-cut vs = record { position = numberAt vs 0; first = numberAt vs 1 }
+cut vs = record { position = numberAt vs 0; first = numberAt vs 1; missing = numberAt vs 2 }
 
 abbrev pub misfit : List ℤ → Misfit
 misfit vs = record { operand = numberAt vs 0; value = valueAt vs 1 }

@@ -1,61 +1,52 @@
--- Every output fits: a refusal has at most five bytes, a listing sixty for each position.
+-- Every output fits: a refusal has at most six bytes, a listing sixty for each position.
 -- Assumes nothing.
 use mathlib.Core.Path.{_≡_, refl, sym, ap, _∙_}
-use mathlib.Core.Bool.{Bool, true, false, cond}
-use mathlib.Core.List.{List, [], _∷_, _++_}
-use Prim.Native.Nat.{ℕ, zero, suc, _+_, _/_, _%_, _≤_, _<_}
+use mathlib.Core.List.{List}
+use mathlib.Core.Logic.{_⊎_, inl, inr}
+use Prim.Native.Nat.{ℕ, _≤_, _<_}
 use native.Mathlib.Omega.{arith}
-use lib.Dec.{ltb}
-use lib.ListN.{length, getD}
+use lib.IntN.{ℤ, natAbs}
+use lib.ListN.{length}
 use Rattle.operand.specs.Answer.{Answer, accepted, refused, judge}
 use Rattle.operand.proofs.Judging.{accepts}
+use Rattle.instruction_laws.specs.Missing.{OneOrTwo, missingIn}
 use Rattle.trace.specs.Run.{runAnswer, runMarks}
 use Rattle.trace_laws.specs.ClaimsImages.{Bytes}
 use Rattle.sight.specs.View.{viewRefusals}
-use Rattle.text.specs.Bytes.{bytesOf}
-use Rattle.input.specs.Bytes.{bytesIn}
 use Rattle.input.specs.ClaimsInput.{Valid}
-use Rattle.input.specs.Text.{countsOf, entriesOf, imageOf, imageLines, lineRefusals}
+use Rattle.input.specs.Text.{countsOf, entriesOf, imageOf, lineRefusals}
 use Rattle.input.proofs.Longest.{most-held}
 use Rattle.listing.specs.Walk.{listingOf}
 use Rattle.listing.specs.declared.tabbed.Arrivals.the-variants.{Declined}
 use Rattle.listing_laws.proofs.ClaimsRoomBound.{listing-bound}
 use Rattle.lister.specs.ClaimsOutput.{OutputFits}
 use Rattle.lister.specs.Output.{lent, refusalLine, tracedText, textListed, shown, outputOf}
-use Rattle.text.proofs.Pairs.{bytes-small}
+use Rattle.refusals.specs.Decimal.{width}
+use Rattle.refusals.proofs.Decimals.{width-one}
+use Rattle.refusals.proofs.Putting.{number-length, value-length}
+use Rattle.lister.proofs.ClaimsOutputOnly.{only-two, listed-missing}
+use Rattle.lister.proofs.ImageBytes.{image-bytes}
 use Rattle.lister.proofs.Parts.{or-accepted}
 
--- ---- the bytes of an image
-
-abbrev Low : List ℕ → Type 0
-Low l = (p : ℕ) → getD l p 0 < 256
-
-none-low : Low []
-none-low p = omega arith
-
-append-low : (k l : List ℕ) → Low k → Low l → Low (k ++ l)
-append-low [] l f g p = g p
-append-low (x ∷ k) l f g zero = f 0
-append-low (x ∷ k) l f g (suc p) = append-low k l (λ q. f (suc q)) g p
-
-lines-low : (ls : List (List ℕ)) → Low (bytesIn ls)
-unfolding bytesIn
-lines-low [] p = omega arith
-lines-low (l ∷ ls) p = append-low (bytesOf l) (bytesIn ls) (bytes-small l) (lines-low ls) p
-
--- ---- the output
-
-line-short : (n : ℕ) → length (refusalLine n) ≤ 5
-unfolding refusalLine
-line-short n = by (ltb n 10)
+-- 13 alone, or 5 with 1 or 2
+line-short : (text : List ℕ) (n : ℕ) (vs : List ℤ) → textListed text ≡ refused n vs → length (refusalLine n vs) ≤ 6
+unfolding width
+line-short text n vs e = by (only-two text n vs e)
   where
-    by : (t : Bool) → length (82 ∷ 9 ∷ cond t ((48 + n) ∷ []) ((48 + n / 10) ∷ (48 + n % 10) ∷ []) ++ (10 ∷ [])) ≤ 5
-    by true = omega arith
-    by false = omega arith
+    missing : (v : ℕ) → v < 10 → natAbs (missingIn vs) ≡ v → length (refusalLine 5 vs) ≤ 6
+    missing v h f = rw f (omega (arith, value-length 5 v 1 1 refl (sym (width-one v h))))
 
-shown-fits : (r : Answer (List ℕ)) → ((out : List ℕ) → r ≡ accepted out → length out ≤ 983040) → length (shown r) ≤ 983040
-shown-fits (accepted out) f = f out refl
-shown-fits (refused n vs) f = omega (arith, line-short n)
+    five : OneOrTwo vs → length (refusalLine 5 vs) ≤ 6
+    five (inl f) = missing 1 (omega arith) (ap natAbs f)
+    five (inr f) = missing 2 (omega arith) (ap natAbs f)
+
+    by : (n ≡ 13) ⊎ (n ≡ 5) → length (refusalLine n vs) ≤ 6
+    by (inl f) = rw f (omega (arith, number-length 13 2 refl))
+    by (inr f) = rw f (five (listed-missing text vs (e ∙ ap (λ (k : ℕ). refused k vs) f)))
+
+shown-fits : (r : Answer (List ℕ)) → ((out : List ℕ) → r ≡ accepted out → length out ≤ 983040) → ((n : ℕ) (vs : List ℤ) → r ≡ refused n vs → length (refusalLine n vs) ≤ 6) → length (shown r) ≤ 983040
+shown-fits (accepted out) f g = f out refl
+shown-fits (refused n vs) f g = omega (arith, g n vs refl)
 
 -- what is accepted is a listing
 listed : (image entries out : List ℕ) → length image ≤ 16384 → Bytes image → tracedText image entries ≡ accepted out → length out ≤ 983040
@@ -68,7 +59,7 @@ listed image entries out h B e =
 
 pub output-fits : OutputFits
 unfolding outputOf textListed
-output-fits text = shown-fits _ by
+output-fits text = shown-fits _ by (line-short text)
   where
     by : (out : List ℕ) → textListed text ≡ accepted out → length out ≤ 983040
     by out e =
@@ -76,4 +67,4 @@ output-fits text = shown-fits _ by
         let c = a .0 .0 in
         let g : judge (lineRefusals text) (countsOf text) ≡ accepted c = a .0 .1 in
         let v : Valid text = g ∙ ap accepted (sym (accepts (lineRefusals text) (countsOf text) c g)) in
-        listed (imageOf text) (entriesOf text) out (most-held text v .1) (lines-low (imageLines text)) (a .1)
+        listed (imageOf text) (entriesOf text) out (most-held text v .1) (image-bytes text) (a .1)

@@ -1,4 +1,5 @@
--- The program refuses nothing but 13 and 5: its rooms are long enough, and the marks of a run are sound.
+-- The program refuses nothing but 13 and 5, and of 5 one or two bytes are missing: its rooms are long enough, and the marks of a run are
+-- sound.
 -- Assumes nothing.
 use mathlib.Core.Path.{_≡_, refl, sym, ap, _∙_}
 use mathlib.Core.List.{List}
@@ -10,6 +11,7 @@ use lib.ListN.{length, length-replicate}
 use borrow.Author.Tests.{le-ltb}
 use Rattle.operand.specs.Answer.{Answer, accepted, refused, judge}
 use Rattle.operand.proofs.Judging.{pass, done, accepts}
+use Rattle.instruction_laws.specs.Missing.{OneOrTwo}
 use Rattle.reach.specs.Mark.{cleared}
 use Rattle.reach.specs.Run.{End, finished, stopped, cutOff, steps, noted}
 use Rattle.reach.specs.Takes.{Takes, stay, up}
@@ -22,6 +24,7 @@ use Rattle.reach.proofs.Took.{length-took}
 use Rattle.trace.specs.Run.{Said, runJudged, runAnswer, runMarks, ranAnswer, endOf, outcomeOf, orElse}
 use Rattle.trace.specs.Tracer.{tracerOf}
 use Rattle.trace.proofs.Sizing.{right-sizes}
+use Rattle.trace_laws.proofs.ClaimsMissingFew.{run-missing}
 use Rattle.sight.specs.View.{Sound, viewRefusals}
 use Rattle.views_laws.proofs.Finished.{marks-are}
 use Rattle.input.specs.ClaimsInput.{Valid, refusalOf}
@@ -29,8 +32,9 @@ use Rattle.input.specs.Text.{countsOf, entriesOf, imageOf, lineRefusals}
 use Rattle.input.proofs.Longest.{Thirteen, lines-13, most-held}
 use Rattle.listing.specs.Walk.{listingOf}
 use Rattle.listing.specs.declared.tabbed.Arrivals.the-variants.{Declined}
-use Rattle.lister.specs.ClaimsOutput.{OnlyTwo}
+use Rattle.lister.specs.ClaimsOutput.{ListedMissing, OnlyTwo}
 use Rattle.lister.specs.Output.{lent, tracedText, textListed}
+use Rattle.lister.proofs.ImageBytes.{image-bytes}
 use Rattle.lister.proofs.Images.{lent-is, marks-sound}
 use Rattle.lister.proofs.Parts.{differ, or-refused}
 use Rattle.lister.proofs.Sounding.{judged-on}
@@ -67,15 +71,16 @@ module _ (image entries : List ℕ) (small : length image ≤ 16384) where
       by stopped s k f = absurd (differ (sym f))
       by (cutOff p) s k f = let g : 5 ≡ n = cc in sym g
 
-  traced-five : (n : ℕ) (vs : List ℤ) → tracedText image entries ≡ refused n vs → n ≡ 5
+  -- what is refused, the run refused
+  run-refused : (n : ℕ) (vs : List ℤ) → tracedText image entries ≡ refused n vs → runAnswer image lent lent entries (length image) ≡ refused n vs
   unfolding tracedText
-  traced-five n vs e = by (or-refused (runAnswer image lent lent entries (length image)) _ n vs e)
+  run-refused n vs e = by (or-refused (runAnswer image lent lent entries (length image)) _ n vs e)
     where
       m : List ℕ
       m = runMarks image lent lent entries (length image)
 
-      by : (runAnswer image lent lent entries (length image) ≡ refused n vs) ⊎ (((s : Said) × (runAnswer image lent lent entries (length image) ≡ accepted s)) × (judge (viewRefusals image m) (listingOf image m Declined) ≡ refused n vs)) → n ≡ 5
-      by (inl r) = run-five n vs r
+      by : (runAnswer image lent lent entries (length image) ≡ refused n vs) ⊎ (((s : Said) × (runAnswer image lent lent entries (length image) ≡ accepted s)) × (judge (viewRefusals image m) (listingOf image m Declined) ≡ refused n vs)) → runAnswer image lent lent entries (length image) ≡ refused n vs
+      by (inl r) = r
       by (inr a) =
           let s = a .0 .0 in
           let f : runAnswer image lent lent entries (length image) ≡ accepted s = a .0 .1 in
@@ -83,18 +88,37 @@ module _ (image entries : List ℕ) (small : length image ≤ 16384) where
           let S : Sound image m = marks-sound image entries small s f l in
           absurd (differ (sym (a .1) ∙ judged-on (viewRefusals image m) S (listingOf image m Declined)))
 
-pub only-two : OnlyTwo
+-- a line refuses with 13, or the lines are good and the run refuses
+abbrev Why : List ℕ → ℕ → List ℤ → Type 0
+Why text n vs = (n ≡ 13) ⊎ ((length (imageOf text) ≤ 16384) × (runAnswer (imageOf text) lent lent (entriesOf text) (length (imageOf text)) ≡ refused n vs))
+
+why : (text : List ℕ) (n : ℕ) (vs : List ℤ) → textListed text ≡ refused n vs → Why text n vs
 unfolding textListed
-only-two text n vs e = by (or-refused (judge (lineRefusals text) (countsOf text)) _ n vs e)
+why text n vs e = by (or-refused (judge (lineRefusals text) (countsOf text)) _ n vs e)
   where
     line : Thirteen (judge (lineRefusals text) (countsOf text)) (countsOf text) → judge (lineRefusals text) (countsOf text) ≡ refused n vs → n ≡ 13
     line (inl v) f = absurd (differ (sym f ∙ v))
     line (inr r) f = ap refusalOf (sym f) ∙ r
 
-    by : (judge (lineRefusals text) (countsOf text) ≡ refused n vs) ⊎ (((c : _) × (judge (lineRefusals text) (countsOf text) ≡ accepted c)) × (tracedText (imageOf text) (entriesOf text) ≡ refused n vs)) → (n ≡ 13) ⊎ (n ≡ 5)
+    by : (judge (lineRefusals text) (countsOf text) ≡ refused n vs) ⊎ (((c : _) × (judge (lineRefusals text) (countsOf text) ≡ accepted c)) × (tracedText (imageOf text) (entriesOf text) ≡ refused n vs)) → Why text n vs
     by (inl f) = inl (line (lines-13 text) f)
     by (inr a) =
         let c = a .0 .0 in
         let g : judge (lineRefusals text) (countsOf text) ≡ accepted c = a .0 .1 in
         let v : Valid text = g ∙ ap accepted (sym (accepts (lineRefusals text) (countsOf text) c g)) in
-        inr (traced-five (imageOf text) (entriesOf text) (most-held text v .1) n vs (a .1))
+        let small = most-held text v .1 in
+        inr (small, run-refused (imageOf text) (entriesOf text) small n vs (a .1))
+
+pub only-two : OnlyTwo
+only-two text n vs e = by (why text n vs e)
+  where
+    by : Why text n vs → (n ≡ 13) ⊎ (n ≡ 5)
+    by (inl f) = inl f
+    by (inr r) = inr (run-five (imageOf text) (entriesOf text) (r .0) n vs (r .1))
+
+pub listed-missing : ListedMissing
+listed-missing text vs e = by (why text 5 vs e)
+  where
+    by : Why text 5 vs → OneOrTwo vs
+    by (inl f) = absurd (omega (arith, f))
+    by (inr r) = run-missing (imageOf text) lent lent (entriesOf text) (length (imageOf text)) vs (image-bytes text) (r .1)

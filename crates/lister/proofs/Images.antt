@@ -37,7 +37,7 @@ module _ (image entries : List ℕ) where
   out = listingOf image marks Declined
 
   -- a run that is refused
-  pub refused-text : (b o : List ℕ) → b ≡ lent → o ≡ lent → (n : ℕ) (vs : List ℤ) → refused n vs ≡ runAnswer image b o entries (length image) → refusalLine n ≡ shown (tracedText image entries)
+  pub refused-text : (b o : List ℕ) → b ≡ lent → o ≡ lent → (n : ℕ) (vs : List ℤ) → refused n vs ≡ runAnswer image b o entries (length image) → refusalLine n vs ≡ shown (tracedText image entries)
   unfolding tracedText
   refused-text b o e f n vs g =
       let h : answer ≡ refused n vs = sym (g ∙ ap₂ (λ (x y : List ℕ). runAnswer image x y entries (length image)) e f) in

@@ -1,7 +1,7 @@
-pub mod Lines
 pub mod Sounding
 pub mod Texts
 pub mod Images
 pub mod Parts
-pub mod ClaimsOutputFits
+pub mod ImageBytes
 pub mod ClaimsOutputOnly
+pub mod ClaimsOutputFits

@@ -61,7 +61,7 @@ module _ (text : List ℕ) where
       absurd (differ (sym (f ∙ valid-parses (e ∙ ap accepted (sym (accepts (lineRefusals text) (countsOf text) d e))))))
   refused-line n vs f (refused k us) e = e ∙ sym (f ∙ invalid-parses k us e)
 
-  pub refused-output : (n : ℕ) (vs : List ℤ) → refused n vs ≡ parseAnswer text entries image → refusalLine n ≡ outputOf text
+  pub refused-output : (n : ℕ) (vs : List ℤ) → refused n vs ≡ parseAnswer text entries image → refusalLine n vs ≡ outputOf text
   unfolding outputOf textListed
   refused-output n vs f = sym (ap (λ (r : Answer Input). shown (orElse r (tracedText (imageOf text) (entriesOf text)))) (refused-line n vs f judged refl))
 

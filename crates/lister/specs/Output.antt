@@ -1,25 +1,23 @@
 -- The whole output of the listing program. Document 01, 'The listing': it runs with the image length as limit and prints the listing, or
 -- one line of `R`, tab, refusal number (13 before 5).
 -- Assumes nothing.
-use Prim.Native.Nat.{ℕ, _+_, _/_, _%_}
+use Prim.Native.Nat.{ℕ}
 use mathlib.Core.Bool.{cond}
-use mathlib.Core.List.{List, [], _∷_, _++_}
-use lib.Dec.{ltb}
-use lib.ListN.{length, replicate}
+use mathlib.Core.List.{List}
+use lib.Dec.{eqb}
+use lib.IntN.{ℤ, pos, natAbs}
+use lib.ListN.{length, getD, replicate}
 use Rattle.operand.specs.Answer.{Answer, accepted, refused, judge}
 use Rattle.trace.specs.Run.{orElse, runAnswer, runMarks}
 use Rattle.sight.specs.View.{viewRefusals}
 use Rattle.input.specs.Text.{countsOf, entriesOf, imageOf, lineRefusals}
 use Rattle.listing.specs.Walk.{listingOf}
 use Rattle.listing.specs.declared.tabbed.Arrivals.the-variants.{Declined}
+use Rattle.refusals.specs.Line.{numberLine, valueLine}
 
--- a number below 100 in decimal
-abbrev pub decimal : ℕ → List ℕ
-decimal n = cond (ltb n 10) ((48 + n) ∷ []) ((48 + n / 10) ∷ (48 + n % 10) ∷ [])
-
--- `R`, tab, the number
-unfoldable pub refusalLine : ℕ → List ℕ
-refusalLine n = 82 ∷ 9 ∷ decimal n ++ (10 ∷ [])
+-- the line of a refusal: `R` and its number; after 5 a third field, how many bytes are missing, the third of its values. Document 02, W2
+abbrev pub refusalLine : ℕ → List ℤ → List ℕ
+refusalLine n vs = cond (eqb n 5) (valueLine n (natAbs (getD vs 2 (pos 0)))) (numberLine n)
 
 -- the marks and the order list that a run is lent: as many places as an image may have
 unfoldable pub lent : List ℕ
@@ -38,7 +36,7 @@ textListed text = orElse (judge (lineRefusals text) (countsOf text)) (tracedText
 -- the listing, or the line of its refusal
 abbrev pub shown : Answer (List ℕ) → List ℕ
 shown (accepted out) = out
-shown (refused n vs) = refusalLine n
+shown (refused n vs) = refusalLine n vs
 
 unfoldable pub outputOf : List ℕ → List ℕ
 outputOf text = shown (textListed text)

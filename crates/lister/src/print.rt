@@ -5,7 +5,6 @@ ghost use Prim.Native.Nat.{_≤_};
 ghost use lib.ListN.{length};
 ghost use Rattle.sight.specs.View.{viewedOf, roomAnswer, roomAfter};
 ghost use Rattle.lister.specs.Output.{shown, tracedText, outputOf};
-use crate::refusal;
 use crate::rooms;
 use input::Parsed;
 use listing::Arrivals;
@@ -22,10 +21,10 @@ fn list_image(image: &[u8], entries: &[u32], room: &mut [u8]) -> Viewed
     match trace::run::run(image, &mut marks, &mut order, entries, image.len() as u32) {
         Ran::Finished(_) => listing::listing_with(image, &marks, Arrivals::Declined, room),
         Ran::Stopped(_) => listing::listing_with(image, &marks, Arrivals::Declined, room),
-        Ran::LongImage(_) => refusal::put_refusal(1, room),
-        Ran::ShortMarks(_) => refusal::put_refusal(2, room),
-        Ran::ShortOrder(_) => refusal::put_refusal(3, room),
-        Ran::Cut(_) => refusal::put_refusal(5, room),
+        Ran::LongImage(_) => refusals::put_number(1, room),
+        Ran::ShortMarks(_) => refusals::put_number(2, room),
+        Ran::ShortOrder(_) => refusals::put_number(3, room),
+        Ran::Cut(c) => refusals::put_value(5, c.missing as usize, room),
     }
 }
 
@@ -41,7 +40,7 @@ pub fn list_text(text: &[u8], room: &mut [u8]) -> Viewed
             let k = c.entries;
             list_image(&image[0..n], &entries[0..k], room)
         }
-        Parsed::Malformed(_) => refusal::put_refusal(13, room),
-        Parsed::NoRoom(_) => refusal::put_refusal(11, room),
+        Parsed::Malformed(_) => refusals::put_number(13, room),
+        Parsed::NoRoom(_) => refusals::put_number(11, room),
     }
 }

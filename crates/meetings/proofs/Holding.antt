@@ -7,6 +7,7 @@ use Prim.Native.Nat.{ℕ}
 use lib.Dec.{ltb, leb}
 use lib.ListN.{length, getD}
 use borrow.Author.Tests.{eq-eqb, ne-eqb}
+use Rattle.operand.specs.declared.answer.CutOff.{CutOff}
 use Rattle.ways.specs.At.{fitsHere, waysHere}
 use Rattle.ways.specs.Ways.{isWhole, placesIn, placesNamed, waysOf}
 use Rattle.ways.specs.declared.place.Ways.{Ways}
@@ -31,12 +32,12 @@ either false = refl
 module _ (image : List ℕ) (q : ℕ) where
   pub gone-whole : gone (waysOf image q) ≡ cond (isWhole image q) (waysHere image q) []
   unfolding waysOf
-  gone-whole = by (ltb q (length image) && leb (length image) 65536) (fitsHere image q)
+  gone-whole = by (ltb q (length image) && leb (length image) 65536) (fitsHere image q) _
     where
-      by : (b f : Bool) → gone (cond b (cond f (Goes (placesNamed (waysHere image q))) (Cut (record { position = q; first = getD image q 0 }))) Outside) ≡ cond (b && f) (waysHere image q) []
-      by true true = two-at-most image q
-      by true false = refl
-      by false f = refl
+      by : (b f : Bool) (c : CutOff) → gone (cond b (cond f (Goes (placesNamed (waysHere image q))) (Cut c)) Outside) ≡ cond (b && f) (waysHere image q) []
+      by true true c = two-at-most image q
+      by true false c = refl
+      by false f c = refl
 
   module _ (m : List ℕ) where
     pub untraced-held : tracedAt image m q ≡ false → [] ≡ heldAt image m q

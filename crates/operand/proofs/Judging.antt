@@ -21,6 +21,25 @@ module _ {A : Type 0} where
   unfolding judge
   done a = refl
 
+-- a refusal that a list answers is not that of a test with another number: the test does not hold, and the rest answers it
+module _ {A : Type 0} (r : Refusal) (rs : List Refusal) (a : A) (n : ℕ) (vs : List ℤ) (e : judge (r ∷ rs) a ≡ refused n vs) where
+  pub other-passed : (r .number ≡ n → ⊥) → (r .holds ≡ false) × (judge rs a ≡ refused n vs)
+  unfolding judge
+  other-passed o = by (r .holds) refl e
+    where
+      by : (t : Bool) → r .holds ≡ t → cond t (refused (r .number) (r .values)) (judge rs a) ≡ refused n vs → (r .holds ≡ false) × (judge rs a ≡ refused n vs)
+      by true p f = absurd (o (let g : r .number ≡ n = cc in g))
+      by false p f = (p, f)
+
+  -- where no test after it has the number, it is this one that speaks
+  pub this-spoke : (judge rs a ≡ refused n vs → ⊥) → (r .holds ≡ true) × (r .values ≡ vs)
+  unfolding judge
+  this-spoke o = by (r .holds) refl e
+    where
+      by : (t : Bool) → r .holds ≡ t → cond t (refused (r .number) (r .values)) (judge rs a) ≡ refused n vs → (r .holds ≡ true) × (r .values ≡ vs)
+      by true p f = (p, (let g : r .values ≡ vs = cc in g))
+      by false p f = absurd (o f)
+
 -- a list that goes on: where its beginning refuses, the whole does; where its beginning accepts, the rest decides
 module _ {A B : Type 0} (qs : List Refusal) (a : A) (b : B) where
   pub first-of : (rs : List Refusal) (n : ℕ) (vs : List ℤ) → judge rs a ≡ refused n vs → judge (rs ++ qs) b ≡ refused n vs

@@ -1,3 +1,4 @@
 pub mod Answer
+pub mod CutOff
 pub mod Kinds
 pub mod Range

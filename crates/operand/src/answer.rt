@@ -1,17 +1,22 @@
 // What several answers carry when a call says no.
 ghost use mathlib.Core.Path.{_≡_};
 
-// Refusal 5: an instruction that the end cuts off.
+// Refusal 5: an instruction that the end cuts off, and how many of its bytes are missing.
 pub struct CutOff {
     pub position: u32,
     pub first: u8,
+    pub missing: u8,
 }
 
 impl CutOff {
-    pub fn new(position: u32, first: u8) -> Self
-        ensures { λ r. ⌜ (r .position ≡ position) × (r .first ≡ first) ⌝ }
+    pub fn new(position: u32, first: u8, missing: u8) -> Self
+        ensures { λ r. ⌜ (r .position ≡ position) × (r .first ≡ first) × (r .missing ≡ missing) ⌝ }
     {
-        Self { position, first }
+        Self {
+            position,
+            first,
+            missing,
+        }
     }
 }
 

@@ -1,7 +1,9 @@
 // What an exported call hands over: 0 or the number of a refusal, and five values.
 ghost use mathlib.Core.Path.{_≡_};
 ghost use mathlib.Core.List.{[], _∷_};
+ghost use Rattle.operand.specs.CutOff.{cutValues};
 ghost use Rattle.reply.specs.Reply.{reply};
+use operand::CutOff;
 
 pub struct Reply {
     pub number: u32,
@@ -43,6 +45,13 @@ impl Reply {
             number,
             values: [a, b, c, 0, 0],
         }
+    }
+
+    // Refusal 5: an instruction that the end cuts off.
+    pub fn cut(c: CutOff) -> Self
+        ensures { λ r. ⌜ r ≡ reply 5 (cutValues c) ⌝ }
+    {
+        Self::three(5, c.position as i64, c.first as i64, c.missing as i64)
     }
 
     // The values go into the caller's room, and the number is the answer.

@@ -44,7 +44,7 @@ pub fn decoded(d: Decoded) -> Reply
     match d {
         Decoded::Found(i) => instr(i),
         Decoded::Nothing => Reply::one(12, 0),
-        Decoded::Cut(c) => Reply::two(5, c.position as i64, c.first as i64),
+        Decoded::Cut(c) => Reply::cut(c),
     }
 }
 

@@ -33,7 +33,7 @@ pub fn stepped(s: Stepped) -> Reply
         Stepped::LongImage(n) => Reply::one(1, n as i64),
         Stepped::ShortMarks(n) => Reply::one(2, n as i64),
         Stepped::NotWaiting(v) => Reply::one(4, v as i64),
-        Stepped::Cut(c) => Reply::two(5, c.position as i64, c.first as i64),
+        Stepped::Cut(c) => Reply::cut(c),
         Stepped::Damaged(q) => Reply::one(6, q as i64),
     }
 }
@@ -48,6 +48,6 @@ pub fn ran(d: Ran) -> Reply
         Ran::LongImage(n) => Reply::one(1, n as i64),
         Ran::ShortMarks(n) => Reply::one(2, n as i64),
         Ran::ShortOrder(n) => Reply::one(3, n as i64),
-        Ran::Cut(c) => Reply::two(5, c.position as i64, c.first as i64),
+        Ran::Cut(c) => Reply::cut(c),
     }
 }

@@ -1,14 +1,14 @@
 -- What a run begins with, and what it answers and leaves where its loop ends.
 -- Assumes nothing.
 use mathlib.Core.Path.{_≡_, sym, ap, subst, _∙_}
-use mathlib.Core.List.{List, [], _∷_}
+use mathlib.Core.List.{List}
 use Prim.Native.Nat.{ℕ, _≤_}
 use native.Mathlib.Omega.{arith}
-use lib.IntN.{pos}
-use lib.ListN.{length, getD, take}
+use lib.ListN.{length, take}
 use Rattle.operand.specs.Answer.{refused}
+use Rattle.operand.specs.CutOff.{cutValues}
 use Rattle.operand.specs.declared.answer.CutOff.{CutOff}
-use Rattle.instruction.specs.Decode.{cutValues}
+use Rattle.instruction.specs.Decode.{cutAt}
 use Rattle.reach.specs.Mark.{cleared, tracedMark, count}
 use Rattle.reach.specs.Queue.{Noted}
 use Rattle.reach.specs.Run.{Outcome, End, finished, stopped, cutOff, steps, runOf}
@@ -76,5 +76,5 @@ module _ (image marks order entries : List ℕ) (limit : ℕ) (B : Base (tracerO
     pub ran-stopped : (c : Counts) → (c .steps ≡ head) × (c .noted ≡ tail) → Came order out stopped m o tail head → RanTo image marks order entries limit (Stopped c) m o
     ran-stopped c h C = let x = h .0 in let y = h .1 in ended stopped (Stopped c) m o tail head C (rw (x, y)) (x ∙ tied stopped m o tail head C)
 
-    pub ran-cut : (p : ℕ) (c : CutOff) → cutValues c ≡ pos p ∷ pos (getD image p 0) ∷ [] → Came order out (cutOff p) m o tail head → (m′ o′ : List ℕ) → m′ ≡ m → o′ ≡ o → RanTo image marks order entries limit (Cut c) m′ o′
+    pub ran-cut : (p : ℕ) (c : CutOff) → cutValues c ≡ cutValues (cutAt image p) → Came order out (cutOff p) m o tail head → (m′ o′ : List ℕ) → m′ ≡ m → o′ ≡ o → RanTo image marks order entries limit (Cut c) m′ o′
     ran-cut p c h C m′ o′ e f = rw (e, f) (ended (cutOff p) (Cut c) m o tail head C (ap (refused 5) h) tt)

@@ -10,9 +10,10 @@ use lib.IntN.{pos}
 use lib.ListN.{length, getD}
 use borrow.Author.Tests.{lt-ltb, le-leb, lt-leb, eqb-false, ne-eqb}
 use Rattle.operand.specs.Answer.{Answer, refused, Refusal, judge, after, refuse}
+use Rattle.operand.specs.CutOff.{cutValues}
 use Rattle.operand.specs.declared.answer.CutOff.{CutOff}
 use Rattle.operand.proofs.Judging.{pass, stop}
-use Rattle.instruction.specs.Decode.{cutValues}
+use Rattle.instruction.specs.Decode.{cutAt}
 use Rattle.reach.specs.Tracer.{took}
 use Rattle.trace.specs.Step.{idle, damaged, damageRefusals, stepRefusals, Said, saidOf, stepAnswer, stepMarks}
 use Rattle.trace.specs.Tracer.{tracerOf}
@@ -52,7 +53,7 @@ module _ (image m : List ℕ) (p : ℕ) where
       refuse (leb n p) 4 (pos 0 ∷ [])
       ∷ refuse (idle v) 4 (pos v ∷ [])
       ∷ refuse (damaged v) 6 (pos p ∷ [])
-      ∷ refuse (not (fitsHere image p)) 5 (pos p ∷ pos (getD image p 0) ∷ [])
+      ∷ refuse (not (fitsHere image p)) 5 (cutValues (cutAt image p))
       ∷ damageRefusals image m p
 
   held : (r : Answer Said) → stepAnswer image m p ≡ r → (t : List ℕ) → after r (took (tracerOf image) m p) m ≡ t → Is r t
@@ -76,7 +77,7 @@ module _ (image m : List ℕ) (p : ℕ) where
 
       module _ (inside : p < n) where
         -- what follows the tests of the sizes and of the position
-        begun : stepAnswer image m p ≡ judge (refuse (idle v) 4 (pos v ∷ []) ∷ refuse (damaged v) 6 (pos p ∷ []) ∷ refuse (not (fitsHere image p)) 5 (pos p ∷ pos (getD image p 0) ∷ []) ∷ damageRefusals image m p) (saidOf image m p)
+        begun : stepAnswer image m p ≡ judge (refuse (idle v) 4 (pos v ∷ []) ∷ refuse (damaged v) 6 (pos p ∷ []) ∷ refuse (not (fitsHere image p)) 5 (cutValues (cutAt image p)) ∷ damageRefusals image m p) (saidOf image m p)
         unfolding stepAnswer stepRefusals
         begun = sizing.right-sizes image m later (saidOf image m p) fits room ∙ pass _ _ _ (lt-leb n p inside)
 
@@ -88,10 +89,10 @@ module _ (image m : List ℕ) (p : ℕ) where
         not-waiting h w = held (refused 4 (pos v ∷ [])) (begun ∙ stop _ _ _ (idle-marks v h w)) m refl
 
         module _ (waits : v ≡ 1) where
-          waiting : stepAnswer image m p ≡ judge (refuse (not (fitsHere image p)) 5 (pos p ∷ pos (getD image p 0) ∷ []) ∷ damageRefusals image m p) (saidOf image m p)
+          waiting : stepAnswer image m p ≡ judge (refuse (not (fitsHere image p)) 5 (cutValues (cutAt image p)) ∷ damageRefusals image m p) (saidOf image m p)
           waiting = begun ∙ pass _ _ _ (ap idle waits) ∙ pass _ _ _ (ap damaged waits)
 
-          pub cut : (c : CutOff) → (fitsHere image p ≡ false) × (cutValues c ≡ pos p ∷ pos (getD image p 0) ∷ []) → Is (refused 5 (cutValues c)) m
+          pub cut : (c : CutOff) → (fitsHere image p ≡ false) × (cutValues c ≡ cutValues (cutAt image p)) → Is (refused 5 (cutValues c)) m
           cut c h = held (refused 5 (cutValues c)) (waiting ∙ stop _ _ _ (rw (h .0)) ∙ ap (refused 5) (sym (h .1))) m refl
 
           pub whole : fitsHere image p ≡ true → (r : Answer Said) (t : List ℕ) → Inner image m p r t → Is r t

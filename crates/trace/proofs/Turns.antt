@@ -2,13 +2,12 @@
 -- Assumes nothing.
 use mathlib.Core.Path.{_≡_, refl, subst}
 use mathlib.Core.Bool.{true, false}
-use mathlib.Core.List.{List, [], _∷_}
+use mathlib.Core.List.{List}
 use Prim.Native.Nat.{ℕ}
 use native.Mathlib.Omega.{arith}
-use lib.IntN.{pos}
-use lib.ListN.{getD}
+use Rattle.operand.specs.CutOff.{cutValues}
 use Rattle.operand.specs.declared.answer.CutOff.{CutOff}
-use Rattle.instruction.specs.Decode.{cutValues}
+use Rattle.instruction.specs.Decode.{cutAt}
 use Rattle.reach.specs.Queue.{TakenUp}
 use Rattle.trace.specs.Run.{Turned}
 use Rattle.trace.specs.Tracer.{tracerOf}
@@ -23,9 +22,9 @@ module _ (image m o : List ℕ) (p tail : ℕ) where
         off = λ c e. absurd (let z : _≡_ {A = ℕ} 0 1 = cc in omega arith);
       }
 
-  pub turned-off : (c : CutOff) → (fitsHere image p ≡ false) × (cutValues c ≡ pos p ∷ pos (getD image p 0) ∷ []) → Turned image m o p tail (Off c) m o
+  pub turned-off : (c : CutOff) → (fitsHere image p ≡ false) × (cutValues c ≡ cutValues (cutAt image p)) → Turned image m o p tail (Off c) m o
   turned-off c h =
       record {
         on = λ u e. absurd (let z : _≡_ {A = ℕ} 0 1 = cc in omega arith);
-        off = λ d e. (h .0, (let g : c ≡ d = cc in subst (λ (x : CutOff). cutValues x ≡ pos p ∷ pos (getD image p 0) ∷ []) g (h .1)), refl, refl);
+        off = λ d e. (h .0, (let g : c ≡ d = cc in subst (λ (x : CutOff). cutValues x ≡ cutValues (cutAt image p)) g (h .1)), refl, refl);
       }

@@ -6,10 +6,11 @@ use mathlib.Core.List.{List, [], _∷_, _++_}
 use mathlib.Core.Path.{_≡_}
 use lib.Dec.{ltb}
 use lib.IntN.{pos}
-use lib.ListN.{length, getD, take}
+use lib.ListN.{length, take}
 use Rattle.operand.specs.Answer.{Answer, accepted, refused, Refusal, refuse, judge, after}
+use Rattle.operand.specs.CutOff.{cutValues}
 use Rattle.operand.specs.declared.answer.CutOff.{CutOff}
-use Rattle.instruction.specs.Decode.{cutValues}
+use Rattle.instruction.specs.Decode.{cutAt}
 use Rattle.reach.specs.Mark.{cleared, tracedMark, count}
 use Rattle.reach.specs.Queue.{TakenUp}
 use Rattle.reach.specs.Run.{End, finished, stopped, cutOff, Outcome, steps, noted, ordered, runOf}
@@ -54,7 +55,7 @@ ranOf (Cut c) = refused 5 (cutValues c)
 abbrev pub endOf : List ℕ → End → ℕ → ℕ → Answer Said
 endOf image finished s n = said true s n
 endOf image stopped s n = said false s n
-endOf image (cutOff p) s n = refused 5 (pos p ∷ pos (getD image p 0) ∷ [])
+endOf image (cutOff p) s n = refused 5 (cutValues (cutAt image p))
 
 abbrev pub ranAnswer : List ℕ → Outcome → Answer Said
 ranAnswer image out = endOf image (out .end) (steps out) (length (noted out))
@@ -82,7 +83,7 @@ runOrder image marks order entries limit =
 -- instruction is cut off and nothing changes
 pub record Turned (image m o : List ℕ) (p tail : ℕ) (r : Turn) (m′ o′ : List ℕ) : Type 0 where
   pub on : (t : ℕ) → r ≡ On t → (fitsHere image p ≡ true) × TakenUp (tracerOf image) p m o tail m′ o′ t
-  pub off : (c : CutOff) → r ≡ Off c → (fitsHere image p ≡ false) × (cutValues c ≡ pos p ∷ pos (getD image p 0) ∷ []) × (m′ ≡ m) × (o′ ≡ o)
+  pub off : (c : CutOff) → r ≡ Off c → (fitsHere image p ≡ false) × (cutValues c ≡ cutValues (cutAt image p)) × (m′ ≡ m) × (o′ ≡ o)
 
 -- the steps are the marks 2 and 3 afterwards
 abbrev pub StepsTied : List ℕ → Ran → List ℕ → Type 0

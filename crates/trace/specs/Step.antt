@@ -8,7 +8,8 @@ use lib.Dec.{ltb, leb, eqb}
 use lib.IntN.{pos}
 use lib.ListN.{length, getD}
 use Rattle.operand.specs.Answer.{Answer, accepted, refused, Refusal, refuse, judge, after}
-use Rattle.instruction.specs.Decode.{cutValues}
+use Rattle.operand.specs.CutOff.{cutValues}
+use Rattle.instruction.specs.Decode.{cutAt}
 use Rattle.reach.specs.Tracer.{targets, mark, took, found}
 use Rattle.trace.specs.Start.{sizeRefusals}
 use Rattle.trace.specs.Tracer.{tracerOf}
@@ -42,7 +43,7 @@ stepRefusals image m p =
     ++ (refuse (leb (length image) p) 4 (pos 0 ∷ [])
     ∷ refuse (idle (getD m p 0)) 4 (pos (getD m p 0) ∷ [])
     ∷ refuse (damaged (getD m p 0)) 6 (pos p ∷ [])
-    ∷ refuse (not (fitsHere image p)) 5 (pos p ∷ pos (getD image p 0) ∷ [])
+    ∷ refuse (not (fitsHere image p)) 5 (cutValues (cutAt image p))
     ∷ damageRefusals image m p)
 
 -- the new mark, and how many became 1

@@ -7,3 +7,4 @@ pub mod Accepted
 pub mod Unflashed
 pub mod ClaimsImagesOrder
 pub mod ClaimsImagesEnd
+pub mod ClaimsMissingFew

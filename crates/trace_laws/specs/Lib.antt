@@ -1,3 +1,4 @@
 pub mod ClaimsTargets
 pub mod ClaimsSteps
 pub mod ClaimsImages
+pub mod ClaimsMissing

@@ -9,7 +9,8 @@ use lib.ListN.{length, take, replicate, length-take}
 use Rattle.operand.specs.Answer.{Answer, accepted, refused}
 use Rattle.sight.specs.View.{roomAnswer, roomAfter}
 use Rattle.restoring.specs.Back.{backAnswer, backImage}
-use Rattle.unlister.specs.Unlisted.{imageText, refusalText, zeros, printed, unlistedOf}
+use Rattle.unlister.specs.Unlisted.{imageText, zeros, printed, unlistedOf}
+use Rattle.refusals.specs.Line.{valueLine}
 
 pub zeros-is : replicate 65536 0 ≡ zeros
 unfolding zeros
@@ -23,7 +24,7 @@ module _ (text : List ℕ) (n : ℕ) (x y : List ℕ) (e : x ≡ zeros) (f : y �
   answer-is : backAnswer text n x y ≡ backAnswer text n zeros zeros
   answer-is = ap₂ (λ (u v : List ℕ). backAnswer text n u v) e f
 
-  pub refused-print : (r v : ℕ) → refused r (pos v ∷ []) ≡ backAnswer text n x y → refusalText r v ≡ unlistedOf text n
+  pub refused-print : (r v : ℕ) → refused r (pos v ∷ []) ≡ backAnswer text n x y → valueLine r v ≡ unlistedOf text n
   unfolding unlistedOf
   refused-print r v g = ap (λ (a : Answer ℕ). printed n (backImage text n zeros zeros) a) (g ∙ answer-is)
 

@@ -1,3 +1,2 @@
-pub mod Decimal
 pub mod Number
 pub mod Unlisted

@@ -8,7 +8,7 @@ use lib.ListN.{length, take, drop, replicate}
 use Rattle.operand.specs.Answer.{Answer, accepted, refused}
 use Rattle.listing.specs.Hex.{hexes}
 use Rattle.restoring.specs.Back.{backAnswer, backImage}
-use Rattle.unlister.specs.Decimal.{decimal}
+use Rattle.refusals.specs.Line.{valueLine}
 
 -- bytes on k lines at most, 32 to a line, each ended by byte 10
 unfoldable pub linesOf : ℕ → List ℕ → List ℕ
@@ -19,10 +19,6 @@ linesOf (suc k) (b ∷ bs) = hexes (take 32 (b ∷ bs)) ++ 10 ∷ linesOf k (dro
 -- an image as image lines, the last of 1 to 32 bytes
 unfoldable pub imageText : List ℕ → List ℕ
 imageText bytes = linesOf (length bytes) bytes
-
--- `R`, the number, the value
-unfoldable pub refusalText : ℕ → ℕ → List ℕ
-refusalText n v = 82 ∷ 9 ∷ decimal n ++ 9 ∷ decimal v ++ 10 ∷ []
 
 -- the one value of a refusal
 abbrev pub valueOf : List ℤ → ℕ
@@ -36,7 +32,7 @@ zeros = replicate 65536 0
 -- of an image of n bytes, or of the refusal
 abbrev pub printed : ℕ → List ℕ → Answer ℕ → List ℕ
 printed n image (accepted k) = imageText (take n image)
-printed n image (refused r vs) = refusalText r (valueOf vs)
+printed n image (refused r vs) = valueLine r (valueOf vs)
 
 unfoldable pub unlistedOf : List ℕ → ℕ → List ℕ
 unlistedOf text n = printed n (backImage text n zeros zeros) (backAnswer text n zeros zeros)

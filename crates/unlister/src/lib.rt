@@ -1,8 +1,6 @@
 // The work of the program that turns a listing back into the image lines of the listing program's input.
-mod decimal;
 mod line;
 pub mod print;
-mod refusal;
 mod rooms;
 pub mod word;
 

@@ -4,7 +4,6 @@ ghost use mathlib.Core.List.{[]};
 ghost use Rattle.sight.specs.View.{viewedOf, roomAnswer, roomAfter};
 ghost use Rattle.unlister.specs.Unlisted.{unlistedOf};
 use crate::line;
-use crate::refusal;
 use crate::rooms;
 use restoring::Restored;
 use sight::Viewed;
@@ -18,10 +17,10 @@ pub fn unlist_text(text: &[u8], length: usize, room: &mut [u8]) -> Viewed
     let mut marks = rooms::bytes();
     match restoring::read_back(text, length, &mut image, &mut marks) {
         Restored::Written(_) => line::put_image(rooms::first(&image, length), room),
-        Restored::LongImage(n) => refusal::put_refusal(1, n, room),
-        Restored::ShortMarks(n) => refusal::put_refusal(2, n, room),
-        Restored::NoRoom(n) => refusal::put_refusal(11, n, room),
-        Restored::Malformed(k) => refusal::put_refusal(15, k, room),
-        Restored::PastEnd(k) => refusal::put_refusal(16, k, room),
+        Restored::LongImage(n) => refusals::put_value(1, n, room),
+        Restored::ShortMarks(n) => refusals::put_value(2, n, room),
+        Restored::NoRoom(n) => refusals::put_value(11, n, room),
+        Restored::Malformed(k) => refusals::put_value(15, k, room),
+        Restored::PastEnd(k) => refusals::put_value(16, k, room),
     }
 }

@@ -19,10 +19,10 @@ use Rattle.restoring.specs.Sheet.{Sheet, blank, noted}
 use Rattle.reading.specs.declared.place.Place.{Place}
 use Rattle.restoring.proofs.Counting.{lines-few, after-most, accepted-short}
 use Rattle.reply.proofs.Carried.{Each, carries}
-use Rattle.unlister.specs.Decimal.{width}
+use Rattle.refusals.specs.Decimal.{width}
 use Rattle.unlister.specs.Unlisted.{valueOf, zeros, printed, unlistedOf}
 use Rattle.unlister.proofs.Lines.{image-length}
-use Rattle.unlister.proofs.Refusals.{refusal-length}
+use Rattle.refusals.proofs.Putting.{value-length}
 use Rattle.unlister_laws.specs.ClaimsUnlisted.{UnlistedFits}
 
 -- a number below a power of ten has no more digits than that
@@ -71,7 +71,7 @@ module _ (text : List ℕ) (n : ℕ) (t : length text < 2 ^ 63) (h : n < 2 ^ 63)
       omega (arith, image-length (take n image), length-take n image, accepted-short text n zeros zeros k e)
   fits (refused r vs) e =
       let g = carries Word _ _ r vs each (sym e) in
-      omega (arith, refusal-length r (valueOf vs) (width r r) (width (valueOf vs) (valueOf vs)) refl refl, width-below 19 r r (omega (arith, g .0)), width-below 19 (valueOf vs) (valueOf vs) (omega (arith, g .1)))
+      omega (arith, value-length r (valueOf vs) (width r r) (width (valueOf vs) (valueOf vs)) refl refl, width-below 19 r r (omega (arith, g .0)), width-below 19 (valueOf vs) (valueOf vs) (omega (arith, g .1)))
 
 pub unlisted-fits : UnlistedFits
 unfolding unlistedOf

@@ -2,7 +2,7 @@
 -- Assumes nothing.
 use mathlib.Core.Path.{refl}
 use Rattle.operand.specs.Answer.{judge}
-use Rattle.instruction.specs.Decode.{decodeAnswer, fieldsIn}
+use Rattle.instruction.specs.Decode.{cutAt, decodeAnswer, fieldsIn}
 use Rattle.instruction.specs.Encode.{bytesIn}
 use Rattle.instruction.specs.Forms.{forms, formAt, formOf, numberOf}
 use Rattle.operand.specs.Kinds.{kindsOf}
@@ -26,6 +26,6 @@ use Rattle.views.specs.Labels.{labelled, labelsOf}
 use Rattle.views_laws.specs.Edges.{Edges}
 
 pub edges : Edges
-unfolding judge decodeAnswer fieldsIn resolveAnswer operandRefusals fieldOf bytesIn forms formAt formOf numberOf kindsOf partsOf madeOf pattern bytesOf onto given next targetsAnswer targetsIn addressIn addressOf fitsHere instrHere waysHere flashHere nameHere nameOf exemptHere runMarks runOrder outcomeOf runOf runFrom took found targets mark note fresh isOpen tracedMark cleared labelsOf labelled some upFrom unfit flowOf stops jumps branches
+unfolding judge cutAt decodeAnswer fieldsIn resolveAnswer operandRefusals fieldOf bytesIn forms formAt formOf numberOf kindsOf partsOf madeOf pattern bytesOf onto given next targetsAnswer targetsIn addressIn addressOf fitsHere instrHere waysHere flashHere nameHere nameOf exemptHere runMarks runOrder outcomeOf runOf runFrom took found targets mark note fresh isOpen tracedMark cleared labelsOf labelled some upFrom unfit flowOf stops jumps branches
 edges =
     (refl, refl, refl, refl, refl, refl, refl, refl, refl, refl, refl, refl, refl, refl, refl, refl, refl, refl, refl, refl, refl, refl, refl, refl)

@@ -1,4 +1,5 @@
--- Document 01, 'Both sides of each edge': the starred ones, 1 to 12, in its order.
+-- Document 01, 'Both sides of each edge': the starred ones, 1 to 12, in its order; edge 11 with the number of missing bytes that
+-- document 02, W2 adds.
 -- Assumes nothing.
 use Prim.Native.Nat.{ℕ}
 use mathlib.Core.List.{List, [], _∷_}
@@ -49,7 +50,7 @@ Edges =
     × (resolveAnswer (Jmp (pos 65536)) 2 ≡ refused 7 (pos 1 ∷ pos 65536 ∷ []))
     × (resolveAnswer (Br (pos 65536)) 2 ≡ refused 8 (pos 65536 ∷ []))
     × (decodeAnswer [] ≡ refused 12 (pos 0 ∷ []))
-    × (decodeAnswer (0x68 ∷ 0x00 ∷ []) ≡ refused 5 (pos 0 ∷ pos 0x68 ∷ []))
+    × (decodeAnswer (0x68 ∷ 0x00 ∷ []) ≡ refused 5 (pos 0 ∷ pos 0x68 ∷ pos 1 ∷ []))
     × (orderFrom 0 ≡ 0 ∷ 2 ∷ [])
     × (getD (marksFrom 0) 2 0 ≡ 3)
     × (orderFrom 2 ≡ 2 ∷ 0 ∷ [])

@@ -1,6 +1,6 @@
 -- What decode answers of the bytes from a position on is what stands there.
 -- Assumes nothing.
-use mathlib.Core.Path.{_≡_, refl, ap, ap₂, sym, _∙_}
+use mathlib.Core.Path.{_≡_, refl, ap, sym, _∙_}
 use mathlib.Core.Bool.{Bool, true, false, cond}
 use mathlib.Core.List.{List, [], _∷_}
 use Prim.Native.Nat.{ℕ, _+_, _-_, _<_, _≤_}
@@ -11,17 +11,18 @@ use lib.ListN.{length, getD, take, drop, length-drop}
 use lib.Seq.{getD-drop, take-all}
 use borrow.Author.Tests.{lt-ltb, le-ltb, leb-true, leb-false}
 use Rattle.operand.specs.Answer.{Answer, accepted, refused}
+use Rattle.operand.specs.CutOff.{cutValues}
 use Rattle.operand.specs.declared.answer.CutOff.{CutOff}
-use Rattle.instruction.specs.Decode.{decodeAnswer, cutValues}
+use Rattle.instruction.specs.Decode.{decodeAnswer, cutAt}
 use Rattle.instruction.specs.Forms.{formOf}
+use Rattle.instruction.specs.declared.decode.Decoded.the-variants as decoded
 use Rattle.instruction.specs.declared.instr.Instr.{Instr}
-use Rattle.instruction.proofs.Decoding.{cut, found}
+use Rattle.instruction.proofs.Decoding.{cut, cut-at, found}
+use Rattle.instruction_laws.proofs.Apart.{answers-apart}
+use Rattle.instruction_laws.proofs.Missing.{cut-from}
 use Rattle.ways.specs.Here.{hereOf}
 use Rattle.ways.specs.At.{formHere, sizeHere, fitsHere, instrHere}
 use Rattle.ways.specs.declared.here.Here.the-variants.{Whole, Cut, Outside}
-
-pub made : {d : CutOff} {a b : ℕ} → d .position ≡ a → d .first ≡ b → d ≡ record { position = a; first = b }
-made {d} x y = ap₂ (λ (p : ℕ) (f : ℕ). record { position = p; first = f }) x y
 
 -- a part to the end is the rest
 pub to-end : (image : List ℕ) (p : ℕ) → take (length image - p) (drop p image) ≡ drop p image
@@ -48,40 +49,42 @@ module _ (image : List ℕ) (p : ℕ) where
     form : formHere image p ≡ formOf (getD s 0 0)
     form = ap formOf (sym first)
 
+    -- the values of refusal 5 say what it tells
+    told : (c : CutOff) → _≡_ {A = Answer Instr} (refused 5 (cutValues c)) (refused 5 (cutValues (cutAt s 0))) → c ≡ cutAt s 0
+    told c e = let g : decoded.Cut c ≡ decoded.Cut (cutAt s 0) = answers-apart .decode _ _ e in cc
+
     -- the instruction, or refusal 5
-    pub answer : (t : Bool) → fitsHere image p ≡ t → decodeAnswer s ≡ cond t (accepted (instrHere image p)) (refused 5 (pos 0 ∷ pos (getD image p 0) ∷ []))
+    pub answer : (t : Bool) → fitsHere image p ≡ t → decodeAnswer s ≡ cond t (accepted (instrHere image p)) (refused 5 (cutValues (cutAt s 0)))
     unfolding fitsHere instrHere
     answer true e =
         let h : p + sizeHere image p ≤ length image = leb-true (p + sizeHere image p) (length image) e in
         sym (found s some (formHere image p) form (omega (arith, long)) _ refl _ refl)
     answer false e =
         let h : length image < p + sizeHere image p = leb-false (p + sizeHere image p) (length image) e in
-        rw (← first) (sym (cut s some (formHere image p) form (omega (arith, long))))
+        sym (cut s some (formHere image p) form (omega (arith, long)))
 
     pub whole-here : (i : Instr) → accepted i ≡ decodeAnswer s → Whole i ≡ hereOf image p
     unfolding hereOf
     whole-here i e = rw (lt-ltb p (length image) inside) (by (fitsHere image p) refl)
       where
-        by : (t : Bool) → fitsHere image p ≡ t → Whole i ≡ cond t (Whole (instrHere image p)) (Cut (record { position = p; first = getD image p 0 }))
+        by : (t : Bool) → fitsHere image p ≡ t → Whole i ≡ cond t (Whole (instrHere image p)) (Cut (cutAt image p))
         by true f = let g : accepted i ≡ accepted (instrHere image p) = e ∙ answer true f in cc
         by false f =
-            let g : accepted i ≡ refused 5 (pos 0 ∷ pos (getD image p 0) ∷ []) = e ∙ answer false f in
+            let g : accepted i ≡ refused 5 (cutValues (cutAt s 0)) = e ∙ answer false f in
             let z : _≡_ {A = ℕ} 0 1 = cc in absurd (omega arith)
 
-    pub cut-here : (c d : CutOff) → refused 5 (cutValues c) ≡ decodeAnswer s → (d .position ≡ p) × (d .first ≡ c .first) → Cut d ≡ hereOf image p
-    unfolding hereOf
+    pub cut-here : (c d : CutOff) → refused 5 (cutValues c) ≡ decodeAnswer s → (d .position ≡ p) × (d .first ≡ c .first) × (d .missing ≡ c .missing) → Cut d ≡ hereOf image p
+    unfolding hereOf cutAt
     cut-here c d e q = rw (lt-ltb p (length image) inside) (by (fitsHere image p) refl)
       where
-        by : (t : Bool) → fitsHere image p ≡ t → Cut d ≡ cond t (Whole (instrHere image p)) (Cut (record { position = p; first = getD image p 0 }))
+        by : (t : Bool) → fitsHere image p ≡ t → Cut d ≡ cond t (Whole (instrHere image p)) (Cut (cutAt image p))
         by true f =
             let g : refused 5 (cutValues c) ≡ accepted (instrHere image p) = e ∙ answer true f in
             let z : _≡_ {A = ℕ} 0 1 = cc in absurd (omega arith)
         by false f =
-            let g : _≡_ {A = Answer Instr} (refused 5 (cutValues c)) (refused 5 (pos 0 ∷ pos (getD image p 0) ∷ [])) = e ∙ answer false f in
-            let h : c .first ≡ getD image p 0 = cc in
-            let k = q .0 in
-            let l = q .1 in
-            ap Cut (made k (l ∙ h))
+            let g : _≡_ {A = Answer Instr} (refused 5 (cutValues c)) (refused 5 (cutValues (cutAt s 0))) = e ∙ answer false f in
+            let from : c ≡ record { position = 0; first = cutAt image p .first; missing = cutAt image p .missing } = told c g ∙ cut-from image p in
+            ap Cut (cut-at image p d (q .0) (q .1 ∙ ap (λ (x : CutOff). x .first) from) (q .2 ∙ ap (λ (x : CutOff). x .missing) from))
 
     pub never-nothing : refused 12 (pos 0 ∷ []) ≡ decodeAnswer s → ⊥
     never-nothing e = by (fitsHere image p) refl
@@ -91,5 +94,5 @@ module _ (image : List ℕ) (p : ℕ) where
             let g : refused 12 (pos 0 ∷ []) ≡ accepted (instrHere image p) = e ∙ answer true f in
             let z : _≡_ {A = ℕ} 0 1 = cc in omega arith
         by false f =
-            let g : _≡_ {A = Answer Instr} (refused 12 (pos 0 ∷ [])) (refused 5 (pos 0 ∷ pos (getD image p 0) ∷ [])) = e ∙ answer false f in
+            let g : _≡_ {A = Answer Instr} (refused 12 (pos 0 ∷ [])) (refused 5 (cutValues (cutAt s 0))) = e ∙ answer false f in
             let h : _≡_ {A = ℕ} 12 5 = cc in omega arith

@@ -3,17 +3,18 @@
 use mathlib.Core.Path.{_≡_, refl, sym, ap, _∙_}
 use mathlib.Core.Bool.{Bool, true, false, cond, _&&_}
 use mathlib.Core.List.{List, map}
-use Prim.Native.Nat.{ℕ, _+_, _<_, _≤_}
+use Prim.Native.Nat.{ℕ, _+_, _-_, _<_, _≤_}
 use native.Mathlib.Omega.{arith}
 use lib.Dec.{ltb, leb}
 use lib.IntN.{pos}
 use lib.ListN.{length, getD}
 use borrow.Author.Tests.{lt-ltb, le-ltb, ltb-true, le-leb, leb-true, lt-leb}
 use Rattle.operand.specs.declared.answer.CutOff.{CutOff}
+use Rattle.instruction.specs.Decode.{cutAt}
+use Rattle.instruction.proofs.Decoding.{cut-at}
 use Rattle.instruction.specs.Flow.{flowOf}
 use Rattle.instruction.specs.Parts.{partsOf}
 use Rattle.instruction.specs.declared.flow.Flow.{Flow}
-use Rattle.instruction.specs.declared.instr.Parts.{Parts}
 use Rattle.ways.specs.At.{formHere, sizeHere, fitsHere, instrHere, waysHere, nameHere, namedBy, placeOf}
 use Rattle.ways.specs.Opening.{openingOf}
 use Rattle.ways.specs.Targets.{byFlow, addressIn, targetsIn}
@@ -22,7 +23,6 @@ use Rattle.ways.specs.declared.opening.Opening.{Opening}
 use Rattle.ways.specs.declared.opening.Opening.the-variants.{Whole, Cut, Outside}
 use Rattle.ways.specs.declared.place.Ways.the-variants as way
 use Rattle.ways.proofs.Ands.{both, first-part, second-part, not-first, not-second}
-use Rattle.ways.proofs.HereIs.{made}
 use Rattle.ways.proofs.Within.{Small, form-is}
 
 -- a position inside an image of at most 65,536 bytes
@@ -44,9 +44,9 @@ module _ (image : List ℕ) (p : ℕ) where
     there : inMemory image p ≡ true
     there = both _ _ (lt-ltb p (length image) inside) (le-leb (length image) 65536 small)
 
-    pub is-cut : (n : ℕ) → n ≡ p + sizeHere image p → length image < n → (c : CutOff) → (c .position ≡ p) × (c .first ≡ getD image p 0) → Cut c ≡ openingOf image p
+    pub is-cut : (n : ℕ) → n ≡ p + sizeHere image p → length image < n → (c : CutOff) → (c .position ≡ p) × (c .first ≡ getD image p 0) × (c .missing ≡ n - length image) → Cut c ≡ openingOf image p
     unfolding openingOf fitsHere
-    is-cut n e h c q = rw (there, lt-leb (p + sizeHere image p) (length image) (rw (← e) h)) (ap Cut (made (q .0) (q .1)))
+    is-cut n e h c q = rw (there, lt-leb (p + sizeHere image p) (length image) (rw (← e) h)) (ap Cut (cut-at image p c (q .0) (q .1) (q .2 ∙ (let g : n - length image ≡ sizeHere image p - (length image - p) = omega arith in g))))
 
     pub is-whole : (n : ℕ) → n ≡ p + sizeHere image p → n ≤ length image → (f : Flow) → f ≡ flowOf (formHere image p) → Whole n f ≡ openingOf image p
     unfolding openingOf fitsHere
@@ -61,7 +61,7 @@ module _ (image : List ℕ) (p : ℕ) where
     pub next : n ≡ p + sizeHere image p
     pub flow : f ≡ flowOf (formHere image p)
 
-  opens : (o : Opening) → o ≡ openingOf image p → (b t : Bool) → inMemory image p ≡ b → fitsHere image p ≡ t → o ≡ cond b (cond t (Whole (p + sizeHere image p) (flowOf (formHere image p))) (Cut (record { position = p; first = getD image p 0 }))) Outside
+  opens : (o : Opening) → o ≡ openingOf image p → (b t : Bool) → inMemory image p ≡ b → fitsHere image p ≡ t → o ≡ cond b (cond t (Whole (p + sizeHere image p) (flowOf (formHere image p))) (Cut (cutAt image p))) Outside
   unfolding openingOf
   opens o e b t f g = e ∙ rw (f, g)
 
@@ -88,7 +88,7 @@ module _ (image : List ℕ) (p : ℕ) where
       by : (b t : Bool) → inMemory image p ≡ b → fitsHere image p ≡ t → (way.Cut c ≡ waysOf image p) × (isWhole image p ≡ false)
       by true false g h =
           let o = opens (Cut c) e true false g h in
-          let d : c ≡ record { position = p; first = getD image p 0 } = cc in
+          let d : c ≡ cutAt image p = cc in
           (rw (g, h) (ap way.Cut d), not-second (inMemory image p) _ h)
       by true true g h = let o = opens (Cut c) e true true g h in absurd (let z : _≡_ {A = ℕ} 0 1 = cc in omega arith)
       by false t g h = let o = opens (Cut c) e false t g h in absurd (let z : _≡_ {A = ℕ} 0 1 = cc in omega arith)

@@ -2,15 +2,16 @@
 -- Assumes nothing.
 use mathlib.Core.Path.{_≡_, refl, sym, ap, _∙_}
 use mathlib.Core.Bool.{Bool, true, false, cond}
-use mathlib.Core.List.{List, [], _∷_, map}
+use mathlib.Core.List.{List, map}
 use Prim.Native.Nat.{ℕ, _+_, _<_, _≤_}
 use native.Mathlib.Omega.{arith}
 use lib.Dec.{ltb}
 use lib.IntN.{ℤ, pos}
-use lib.ListN.{length, getD}
+use lib.ListN.{length}
 use borrow.Author.Tests.{lt-ltb, ltb-true, le-leb}
+use Rattle.operand.specs.CutOff.{cutValues}
 use Rattle.operand.specs.declared.answer.CutOff.{CutOff}
-use Rattle.instruction.specs.Decode.{cutValues}
+use Rattle.instruction.specs.Decode.{cutAt}
 use Rattle.instruction.specs.Flow.{flowOf}
 use Rattle.instruction.specs.declared.flow.Flow.{Flow}
 use Rattle.instruction.specs.declared.flow.Flow.the-variants.{Stop, Next, Jump, Branch}
@@ -46,7 +47,7 @@ two-at-most image p = by-flow (flowOf (partsOf (instrHere image p) .form)) (addr
 
 module _ (image : List ℕ) (p : ℕ) where
   module _ (inside : p < length image) where
-    here-is : (h : Here) → h ≡ hereOf image p → (t : Bool) → fitsHere image p ≡ t → h ≡ cond t (Whole (instrHere image p)) (Cut (record { position = p; first = getD image p 0 }))
+    here-is : (h : Here) → h ≡ hereOf image p → (t : Bool) → fitsHere image p ≡ t → h ≡ cond t (Whole (instrHere image p)) (Cut (cutAt image p))
     unfolding hereOf
     here-is h e t f = e ∙ rw (lt-ltb p (length image) inside, f)
 
@@ -57,10 +58,10 @@ module _ (image : List ℕ) (p : ℕ) where
         by true f = let g = here-is (Whole i) e true f in (f, cc)
         by false f = let g = here-is (Whole i) e false f in absurd (let z : _≡_ {A = ℕ} 0 1 = cc in omega arith)
 
-    pub here-cut : (c : CutOff) → Cut c ≡ hereOf image p → (fitsHere image p ≡ false) × (c ≡ record { position = p; first = getD image p 0 })
+    pub here-cut : (c : CutOff) → Cut c ≡ hereOf image p → (fitsHere image p ≡ false) × (c ≡ cutAt image p)
     here-cut c e = by (fitsHere image p) refl
       where
-        by : (t : Bool) → fitsHere image p ≡ t → (fitsHere image p ≡ false) × (c ≡ record { position = p; first = getD image p 0 })
+        by : (t : Bool) → fitsHere image p ≡ t → (fitsHere image p ≡ false) × (c ≡ cutAt image p)
         by true f = let g = here-is (Cut c) e true f in absurd (let z : _≡_ {A = ℕ} 0 1 = cc in omega arith)
         by false f = let g = here-is (Cut c) e false f in (f, cc)
 
@@ -92,7 +93,7 @@ module _ (image : List ℕ) (p : ℕ) where
 
   module _ (inside : p < length image) where
     module _ (small : length image ≤ 65536) where
-      ways-is : (w : Ways) → w ≡ waysOf image p → (t : Bool) → fitsHere image p ≡ t → w ≡ cond t (way.Goes (placesNamed (waysHere image p))) (way.Cut (record { position = p; first = getD image p 0 }))
+      ways-is : (w : Ways) → w ≡ waysOf image p → (t : Bool) → fitsHere image p ≡ t → w ≡ cond t (way.Goes (placesNamed (waysHere image p))) (way.Cut (cutAt image p))
       unfolding waysOf
       ways-is w e t f = e ∙ rw (lt-ltb p (length image) inside, le-leb (length image) 65536 small, f)
 
@@ -108,14 +109,14 @@ module _ (image : List ℕ) (p : ℕ) where
               let h : ps ≡ placesNamed (waysHere image p) = cc in (f, ap placesIn h ∙ two-at-most image p)
           by false f = let g = ways-is (way.Goes ps) e false f in absurd (let z : _≡_ {A = ℕ} 0 1 = cc in omega arith)
 
-      pub goes-cut : (c : CutOff) → way.Cut c ≡ waysOf image p → (fitsHere image p ≡ false) × (cutValues c ≡ pos p ∷ pos (getD image p 0) ∷ [])
+      pub goes-cut : (c : CutOff) → way.Cut c ≡ waysOf image p → (fitsHere image p ≡ false) × (cutValues c ≡ cutValues (cutAt image p))
       goes-cut c e = by (fitsHere image p) refl
         where
-          by : (t : Bool) → fitsHere image p ≡ t → (fitsHere image p ≡ false) × (cutValues c ≡ pos p ∷ pos (getD image p 0) ∷ [])
+          by : (t : Bool) → fitsHere image p ≡ t → (fitsHere image p ≡ false) × (cutValues c ≡ cutValues (cutAt image p))
           by true f = let g = ways-is (way.Cut c) e true f in absurd (let z : _≡_ {A = ℕ} 0 1 = cc in omega arith)
           by false f =
               let g = ways-is (way.Cut c) e false f in
-              let h : c ≡ record { position = p; first = getD image p 0 } = cc in (f, ap cutValues h)
+              let h : c ≡ cutAt image p = cc in (f, ap cutValues h)
 
       pub never-outside : way.Outside ≡ waysOf image p → ⊥
       never-outside e = by (fitsHere image p) refl

@@ -5,11 +5,12 @@ use Prim.Native.Nat.{ℕ}
 use mathlib.Core.Bool.{cond}
 use mathlib.Core.List.{List}
 use lib.Dec.{ltb}
-use lib.ListN.{length, getD}
+use lib.ListN.{length}
+use Rattle.instruction.specs.Decode.{cutAt}
 use Rattle.ways.specs.At.{fitsHere, instrHere}
 use Rattle.ways.specs.declared.here.Here.{Here}
 use Rattle.ways.specs.declared.here.Here.the-variants.{Whole, Cut, Outside}
 
 unfoldable pub hereOf : List ℕ → ℕ → Here
 hereOf image p =
-    cond (ltb p (length image)) (cond (fitsHere image p) (Whole (instrHere image p)) (Cut (record { position = p; first = getD image p 0 }))) Outside
+    cond (ltb p (length image)) (cond (fitsHere image p) (Whole (instrHere image p)) (Cut (cutAt image p))) Outside

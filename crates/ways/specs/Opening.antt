@@ -4,7 +4,8 @@ use Prim.Native.Nat.{ℕ, _+_}
 use mathlib.Core.Bool.{cond, _&&_}
 use mathlib.Core.List.{List}
 use lib.Dec.{ltb, leb}
-use lib.ListN.{length, getD}
+use lib.ListN.{length}
+use Rattle.instruction.specs.Decode.{cutAt}
 use Rattle.instruction.specs.Flow.{flowOf}
 use Rattle.ways.specs.At.{formHere, sizeHere, fitsHere}
 use Rattle.ways.specs.declared.opening.Opening.{Opening}
@@ -13,5 +14,5 @@ use Rattle.ways.specs.declared.opening.Opening.the-variants.{Whole, Cut,
 unfoldable pub openingOf : List ℕ → ℕ → Opening
 openingOf image p =
     cond (ltb p (length image) && leb (length image) 65536)
-    (cond (fitsHere image p) (Whole (p + sizeHere image p) (flowOf (formHere image p))) (Cut (record { position = p; first = getD image p 0 })))
+    (cond (fitsHere image p) (Whole (p + sizeHere image p) (flowOf (formHere image p))) (Cut (cutAt image p)))
     Outside

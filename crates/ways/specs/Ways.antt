@@ -4,7 +4,8 @@ use Prim.Native.Nat.{ℕ}
 use mathlib.Core.Bool.{Bool, cond, _&&_}
 use mathlib.Core.List.{List, [], _∷_}
 use lib.Dec.{ltb, leb}
-use lib.ListN.{length, getD}
+use lib.ListN.{length}
+use Rattle.instruction.specs.Decode.{cutAt}
 use Rattle.ways.specs.At.{fitsHere, waysHere, nameHere}
 use Rattle.ways.specs.declared.place.Places.{Places}
 use Rattle.ways.specs.declared.place.Places.the-variants.{Nothing, First, Both}
@@ -35,4 +36,4 @@ nameOf image p = cond (isWhole image p) (nameHere image p) 65536
 unfoldable pub waysOf : List ℕ → ℕ → Ways
 waysOf image p =
     cond (ltb p (length image) && leb (length image) 65536)
-    (cond (fitsHere image p) (Goes (placesNamed (waysHere image p))) (Cut (record { position = p; first = getD image p 0 }))) Outside
+    (cond (fitsHere image p) (Goes (placesNamed (waysHere image p))) (Cut (cutAt image p))) Outside

@@ -35,7 +35,7 @@ pub fn instr_at(image: &[u8], p: u32) -> Here
     }
     match Instr::decode(&image[at..]) {
         Decoded::Found(i) => Here::Whole(i),
-        Decoded::Cut(c) => Here::Cut(CutOff::new(p, c.first)),
+        Decoded::Cut(c) => Here::Cut(CutOff::new(p, c.first, c.missing)),
         Decoded::Nothing => Here::Outside,
     }
 }

@@ -28,8 +28,9 @@ pub fn opening_at(image: &[u8], p: u32) -> Opening
     let first = image[at];
     let bits = first::bits(first);
     let next = p + bits % 4;
-    if n < next as usize {
-        return Opening::Cut(CutOff::new(p, first));
+    let end = next as usize;
+    if n < end {
+        return Opening::Cut(CutOff::new(p, first, (end - n) as u8));
     }
     Opening::Whole(next, first::flow_of(bits / 4))
 }

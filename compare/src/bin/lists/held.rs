@@ -28,9 +28,10 @@ pub fn case(case: &Case) {
     }
 }
 
-fn cut_off(input: &Input, (position, first): (u32, u8)) {
+fn cut_off(input: &Input, (position, first, missing): (u32, u8, u8)) {
     let refusal = listing::marks(input).expect_err("it is cut off");
-    assert_eq!(refusal.values[..2], [i64::from(position), i64::from(first)]);
+    let told = [i64::from(position), i64::from(first), i64::from(missing)];
+    assert_eq!(refusal.values[..3], told);
 }
 
 fn whole(input: &Input, graph: &Graph) {

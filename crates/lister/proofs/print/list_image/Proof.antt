@@ -5,7 +5,7 @@ use mathlib.Core.List.{List}
 use Prim.Native.Nat.{ℕ}
 use borrow.Author.Needs.{needs}
 use Rattle.trace.specs.Run.{ranOf}
-use Rattle.lister.specs.Output.{refusalLine}
+use Rattle.refusals.specs.Line.{numberLine, valueLine}
 use Rattle.lister.specs.Output as output
 use Rattle.lister.proofs.Images.{lent-is, refused-text, listed-run, said}
 use Rattle.lister.proofs.print.list_image.Statement.{statement}
@@ -49,7 +49,7 @@ returns-3 c =
     let e = w .before .before in
     let r = e .before .before .before .before in
     let a = start r .args in
-    said (refusalLine 1) _ (refused-text (a .image .now) (a .entries .now) (lent r) (order r) (bytes-are r) (order-is r) 1 _ (ap ranOf (sym (e .enum-told3 .given .1)) ∙ r .run .ensures .0)) _ _ (a .room .now) (w .put-refusal .ensures)
+    said (numberLine 1) _ (refused-text (a .image .now) (a .entries .now) (lent r) (order r) (bytes-are r) (order-is r) 1 _ (ap ranOf (sym (e .enum-told3 .given .1)) ∙ r .run .ensures .0)) _ _ (a .room .now) (w .put-number .ensures)
 
 returns-4 : tie.Need-returns-4
 returns-4 c =
@@ -57,7 +57,7 @@ returns-4 c =
     let e = w .before .before in
     let r = e .before .before .before .before in
     let a = start r .args in
-    said (refusalLine 2) _ (refused-text (a .image .now) (a .entries .now) (lent r) (order r) (bytes-are r) (order-is r) 2 _ (ap ranOf (sym (e .enum-told4 .given .1)) ∙ r .run .ensures .0)) _ _ (a .room .now) (w .put-refusal2 .ensures)
+    said (numberLine 2) _ (refused-text (a .image .now) (a .entries .now) (lent r) (order r) (bytes-are r) (order-is r) 2 _ (ap ranOf (sym (e .enum-told4 .given .1)) ∙ r .run .ensures .0)) _ _ (a .room .now) (w .put-number2 .ensures)
 
 returns-5 : tie.Need-returns-5
 returns-5 c =
@@ -65,15 +65,15 @@ returns-5 c =
     let e = w .before .before in
     let r = e .before .before .before .before in
     let a = start r .args in
-    said (refusalLine 3) _ (refused-text (a .image .now) (a .entries .now) (lent r) (order r) (bytes-are r) (order-is r) 3 _ (ap ranOf (sym (e .enum-told5 .given .1)) ∙ r .run .ensures .0)) _ _ (a .room .now) (w .put-refusal3 .ensures)
+    said (numberLine 3) _ (refused-text (a .image .now) (a .entries .now) (lent r) (order r) (bytes-are r) (order-is r) 3 _ (ap ranOf (sym (e .enum-told5 .given .1)) ∙ r .run .ensures .0)) _ _ (a .room .now) (w .put-number3 .ensures)
 
 returns-6 : tie.Need-returns-6
 returns-6 c =
     let w = c .before .before in
-    let e = w .before .before in
+    let e = w .before .before .before .before in
     let r = e .before .before .before .before in
     let a = start r .args in
-    said (refusalLine 5) _ (refused-text (a .image .now) (a .entries .now) (lent r) (order r) (bytes-are r) (order-is r) 5 _ (ap ranOf (sym (e .enum-told6 .given .1)) ∙ r .run .ensures .0)) _ _ (a .room .now) (w .put-refusal4 .ensures)
+    said (valueLine 5 _) _ (refused-text (a .image .now) (a .entries .now) (lent r) (order r) (bytes-are r) (order-is r) 5 _ (ap ranOf (sym (e .c .given .1)) ∙ r .run .ensures .0)) _ _ (a .room .now) (w .put-value .ensures)
 
 pub list-image-spec : {M : Type 1} → statement M
 list-image-spec =
@@ -81,5 +81,5 @@ list-image-spec =
     (tie.spec (λ c κs. search needs) (λ c κs. search needs) (λ c. search needs) (λ c. search needs) (λ c. search needs) (λ c κs. search needs)
     (λ c. search needs) (λ c. search needs) (λ c κs. search needs) (λ c. search needs) (λ c. search needs) (λ c κs. search needs)
     (λ c. search needs) (λ c κs. search needs) (λ c. search needs) (λ c κs. search needs) (λ c. search needs) (λ c κs. search needs)
-    (λ c. search needs) (λ c κs. search needs) (λ c. search needs) returns (λ c. search needs) returns-2 (λ c. search needs) returns-3
+    (λ c. search needs) (λ c. search needs) (λ c κs. search needs) (λ c. search needs) returns (λ c. search needs) returns-2 (λ c. search needs) returns-3
     (λ c. search needs) returns-4 (λ c. search needs) returns-5 (λ c. search needs) returns-6)

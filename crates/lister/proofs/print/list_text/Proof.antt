@@ -10,7 +10,8 @@ use Rattle.input.specs.ClaimsInput.{Valid}
 use Rattle.input.specs.Text.{countsOf, entriesOf, imageOf, parsedOf, parseAnswer, parseEntries, parseImage}
 use Rattle.input.specs.declared.parsed.Input.{Input}
 use Rattle.input.proofs.Longest.{most-held}
-use Rattle.lister.specs.Output.{refusalLine, shown, tracedText}
+use Rattle.refusals.specs.Line.{numberLine}
+use Rattle.lister.specs.Output.{shown, tracedText}
 use Rattle.lister.proofs.Images.{said}
 use Rattle.lister.proofs.Texts.{accepted-valid, refused-output, valid-output, read-entries, read-image}
 use Rattle.lister.proofs.print.list_text.Statement.{statement}
@@ -95,14 +96,14 @@ returns-2 c =
     let w = c .before .before in
     let e = w .before .before in
     let r = e .before .before .before .before in
-    said (refusalLine 13) _ (refused-output (text r) 13 _ (ap parsedOf (sym (e .enum-told .given .1)) ∙ parsed r)) _ _ (start r .args .room .now) (w .put-refusal .ensures)
+    said (numberLine 13) _ (refused-output (text r) 13 _ (ap parsedOf (sym (e .enum-told .given .1)) ∙ parsed r)) _ _ (start r .args .room .now) (w .put-number .ensures)
 
 returns-3 : tie.Need-returns-3
 returns-3 c =
     let w = c .before .before in
     let e = w .before .before in
     let r = e .before .before .before .before in
-    said (refusalLine 11) _ (refused-output (text r) 11 _ (ap parsedOf (sym (e .enum-told2 .given .1)) ∙ parsed r)) _ _ (start r .args .room .now) (w .put-refusal2 .ensures)
+    said (numberLine 11) _ (refused-output (text r) 11 _ (ap parsedOf (sym (e .enum-told2 .given .1)) ∙ parsed r)) _ _ (start r .args .room .now) (w .put-number2 .ensures)
 
 pub list-text-spec : {M : Type 1} → statement M
 list-text-spec =

@@ -1,10 +1,8 @@
 -- `answer::decoded` meets its contract, case by case.
 -- Assumes nothing.
 use borrow.Author.Needs.{needs}
-use mir.Facts.{toZ-pos}
-use mir.Syntax.{w64}
 use Rattle.instruction.specs.Decode.{decodedOf}
-use Rattle.reply.proofs.Told.{by-case, told2}
+use Rattle.reply.proofs.Told.{by-case}
 use Rattle.reply_codec.specs.Codec.{instrValues}
 use Rattle.reply_codec.proofs.answer.decoded.Statement.{statement}
 use Rattle.reply_codec.proofs.answer.decoded.Tie as tie
@@ -16,11 +14,9 @@ returns-2 : tie.Need-returns-2
 returns-2 c = by-case instrValues decodedOf (c .before .enum-told .given .1) (c .one .ensures)
 
 returns-3 : tie.Need-returns-3
-returns-3 c =
-    by-case instrValues decodedOf (c .before .before .before .before .d2 .given .1) (told2 (c .two .ensures) (toZ-pos w64 (search needs)) (toZ-pos w64 (search needs)))
+returns-3 c = by-case instrValues decodedOf (c .before .before .d2 .given .1) (c .cut .ensures)
 
 pub decoded-spec : {M : Type 1} → statement M
 decoded-spec =
     tie.close
-    (tie.spec (λ c. search needs) (λ c κs. search needs) (λ c. search needs) (λ c κs. search needs)
-    (λ c. search needs) (λ c. search needs) (λ c. search needs) (λ c κs. search needs) returns returns-2 returns-3)
+    (tie.spec (λ c. search needs) (λ c κs. search needs) (λ c. search needs) (λ c κs. search needs) (λ c. search needs) (λ c κs. search needs) returns returns-2 returns-3)

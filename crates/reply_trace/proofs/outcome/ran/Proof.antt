@@ -8,7 +8,7 @@ use mir.Syntax.{w64}
 use Rattle.trace.specs.Run.{ranOf}
 use Rattle.trace.specs.declared.run.Ran.{Ran}
 use Rattle.reply_trace.specs.Tracing.{runValues}
-use Rattle.reply.proofs.Told.{by-case, told1, told2, told3}
+use Rattle.reply.proofs.Told.{by-case, told1, told3}
 use Rattle.reply_trace.specs.Counts.{lengthInRan}
 use Rattle.reply_trace.proofs.outcome.ran.Statement.{statement}
 use Rattle.reply_trace.proofs.outcome.ran.Tie as tie
@@ -40,8 +40,7 @@ returns-5 c =
     by-case runValues ranOf (t .d5 .given .1) (told1 (c .one3 .ensures) (toZ-pos w64 (small (t .d5 .given .1) (t .before .before .pre))))
 
 returns-6 : tie.Need-returns-6
-returns-6 c =
-    by-case runValues ranOf (c .before .before .before .before .d6 .given .1) (told2 (c .two .ensures) (toZ-pos w64 (search needs)) (toZ-pos w64 (search needs)))
+returns-6 c = by-case runValues ranOf (c .before .before .d6 .given .1) (c .cut .ensures)
 
 pub ran-spec : {M : Type 1} → statement M
 ran-spec =
@@ -52,5 +51,5 @@ ran-spec =
     (λ c. search needs) (λ c. record { sfits = small (c .before .d3 .given .1) (c .before .before .before .pre) }) (λ c κs. search needs)
     (λ c. search needs) (λ c. record { sfits = small (c .before .d4 .given .1) (c .before .before .before .pre) }) (λ c κs. search needs)
     (λ c. search needs) (λ c. record { sfits = small (c .before .d5 .given .1) (c .before .before .before .pre) }) (λ c κs. search needs)
-    (λ c. search needs) (λ c. search needs) (λ c. search needs) (λ c κs. search needs)
+    (λ c. search needs) (λ c κs. search needs)
     returns returns-2 returns-3 returns-4 returns-5 returns-6)

@@ -34,8 +34,7 @@ returns-4 : tie.Need-returns-4
 returns-4 c = by-case stepValues steppedOf (c .before .before .s4 .given .1) (told1 (c .one3 .ensures) (toZ-pos w64 (search needs)))
 
 returns-5 : tie.Need-returns-5
-returns-5 c =
-    by-case stepValues steppedOf (c .before .before .before .before .s5 .given .1) (told2 (c .two2 .ensures) (toZ-pos w64 (search needs)) (toZ-pos w64 (search needs)))
+returns-5 c = by-case stepValues steppedOf (c .before .before .s5 .given .1) (c .cut .ensures)
 
 returns-6 : tie.Need-returns-6
 returns-6 c = by-case stepValues steppedOf (c .before .before .s6 .given .1) (told1 (c .one4 .ensures) (toZ-pos w64 (search needs)))
@@ -48,6 +47,6 @@ stepped-spec =
     (λ c. search needs) (λ c. record { sfits = small (c .before .s2 .given .1) (c .before .before .before .pre) }) (λ c κs. search needs)
     (λ c. search needs) (λ c. record { sfits = small (c .before .s3 .given .1) (c .before .before .before .pre) }) (λ c κs. search needs)
     (λ c. search needs) (λ c. search needs) (λ c κs. search needs)
-    (λ c. search needs) (λ c. search needs) (λ c. search needs) (λ c κs. search needs)
+    (λ c. search needs) (λ c κs. search needs)
     (λ c. search needs) (λ c. search needs) (λ c κs. search needs)
     returns returns-2 returns-3 returns-4 returns-5 returns-6)

@@ -10,7 +10,7 @@ use Rattle.operand.proofs.Judging.{done}
 use Rattle.sight.proofs.Rooming.{no-room-for}
 use Rattle.unlister.specs.Unlisted.{imageText}
 use Rattle.unlister.proofs.Lines.{image-length}
-use Rattle.unlister.proofs.Refusals.{put-shown}
+use Rattle.refusals.proofs.Putting.{put-shown}
 use Rattle.unlister.proofs.line.put_image.Statement.{statement}
 use Rattle.unlister.proofs.line.put_image.Tie as tie
 

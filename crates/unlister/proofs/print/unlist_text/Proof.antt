@@ -48,7 +48,7 @@ returns-2 c =
     let t = w .before .before .before in
     let r = t .before .before .before .before in
     let a = start r .args in
-    said _ _ (refused-print (a .text .now) (a .length) _ _ (image-is r) (marks-are r) 1 _ (ap restoredOf (sym (t .n .given .1)) ∙ r .read-back .ensures .0)) _ _ (a .room .now) (w .put-refusal .ensures)
+    said _ _ (refused-print (a .text .now) (a .length) _ _ (image-is r) (marks-are r) 1 _ (ap restoredOf (sym (t .n .given .1)) ∙ r .read-back .ensures .0)) _ _ (a .room .now) (w .put-value .ensures)
 
 returns-3 : tie.Need-returns-3
 returns-3 c =
@@ -56,7 +56,7 @@ returns-3 c =
     let t = w .before .before .before in
     let r = t .before .before .before .before in
     let a = start r .args in
-    said _ _ (refused-print (a .text .now) (a .length) _ _ (image-is r) (marks-are r) 2 _ (ap restoredOf (sym (t .n2 .given .1)) ∙ r .read-back .ensures .0)) _ _ (a .room .now) (w .put-refusal2 .ensures)
+    said _ _ (refused-print (a .text .now) (a .length) _ _ (image-is r) (marks-are r) 2 _ (ap restoredOf (sym (t .n2 .given .1)) ∙ r .read-back .ensures .0)) _ _ (a .room .now) (w .put-value2 .ensures)
 
 returns-4 : tie.Need-returns-4
 returns-4 c =
@@ -64,7 +64,7 @@ returns-4 c =
     let t = w .before .before .before in
     let r = t .before .before .before .before in
     let a = start r .args in
-    said _ _ (refused-print (a .text .now) (a .length) _ _ (image-is r) (marks-are r) 11 _ (ap restoredOf (sym (t .n3 .given .1)) ∙ r .read-back .ensures .0)) _ _ (a .room .now) (w .put-refusal3 .ensures)
+    said _ _ (refused-print (a .text .now) (a .length) _ _ (image-is r) (marks-are r) 11 _ (ap restoredOf (sym (t .n3 .given .1)) ∙ r .read-back .ensures .0)) _ _ (a .room .now) (w .put-value3 .ensures)
 
 returns-5 : tie.Need-returns-5
 returns-5 c =
@@ -72,7 +72,7 @@ returns-5 c =
     let t = w .before .before .before in
     let r = t .before .before .before .before in
     let a = start r .args in
-    said _ _ (refused-print (a .text .now) (a .length) _ _ (image-is r) (marks-are r) 15 _ (ap restoredOf (sym (t .k .given .1)) ∙ r .read-back .ensures .0)) _ _ (a .room .now) (w .put-refusal4 .ensures)
+    said _ _ (refused-print (a .text .now) (a .length) _ _ (image-is r) (marks-are r) 15 _ (ap restoredOf (sym (t .k .given .1)) ∙ r .read-back .ensures .0)) _ _ (a .room .now) (w .put-value4 .ensures)
 
 returns-6 : tie.Need-returns-6
 returns-6 c =
@@ -80,7 +80,7 @@ returns-6 c =
     let t = w .before .before .before in
     let r = t .before .before .before .before in
     let a = start r .args in
-    said _ _ (refused-print (a .text .now) (a .length) _ _ (image-is r) (marks-are r) 16 _ (ap restoredOf (sym (t .k2 .given .1)) ∙ r .read-back .ensures .0)) _ _ (a .room .now) (w .put-refusal5 .ensures)
+    said _ _ (refused-print (a .text .now) (a .length) _ _ (image-is r) (marks-are r) 16 _ (ap restoredOf (sym (t .k2 .given .1)) ∙ r .read-back .ensures .0)) _ _ (a .room .now) (w .put-value5 .ensures)
 
 pub unlist-text-spec : {M : Type 1} → statement M
 unlist-text-spec =

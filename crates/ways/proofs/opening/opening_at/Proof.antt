@@ -35,6 +35,14 @@ add-next c =
     let k = c .before .before .if2 .left in
     record { fits = omega (arith, next-is c, s, h, k) }
 
+-- less than a whole instruction is missing
+cast-new : tie.Need-cast-new
+cast-new c =
+    let b = c .before in
+    let s = size-short (image b) (p b) (λ n. b .before .shared-slice-known2 .given n .fits) .1 in
+    let h = b .before .before .if2 .left in
+    record { fits = omega (arith, next-is b, s, h) }
+
 returns-3 : tie.Need-returns-3
 returns-3 c =
     let t = c .before in
@@ -56,4 +64,4 @@ pub opening-at-spec : {M : Type 1} → statement M
 opening-at-spec =
     tie.close
     (tie.spec (λ c. past-limit _ _ (c .if1 .taken)) (λ c. past-end _ _ (c .if2 .taken)) (λ c. search needs) (λ c κs. search needs) add-next
-    (λ c. search needs) (λ c κs. search needs) returns-3 flow-of-requires returns-4)
+    (λ c. search needs) (λ c. search needs) cast-new (λ c κs. search needs) returns-3 flow-of-requires returns-4)

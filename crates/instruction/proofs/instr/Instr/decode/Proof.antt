@@ -2,20 +2,24 @@
 -- Assumes nothing.
 use mathlib.Core.Path.{_≡_, _∙_, ap}
 use mathlib.Core.List.{List}
-use Prim.Native.Nat.{ℕ, _<_}
+use Prim.Native.Nat.{ℕ, _-_, _<_}
+use native.Mathlib.Omega.{arith}
 use borrow.Author.Needs.{needs}
-use lib.ListN.{getD}
+use lib.ListN.{length, getD}
 use mir.Syntax.{w32}
 use mir.Val.{toZ, ofZ}
+use Rattle.operand.specs.Answer.{refused}
+use Rattle.operand.specs.CutOff.{cutValues}
+use Rattle.operand.specs.declared.answer.CutOff.{CutOff}
 use Rattle.operand.specs.declared.kind.Shape.{Shape}
 use Rattle.field.specs.Layout.{fieldsBy}
 use Rattle.field.specs.declared.layout.Fields.{Fields}
 use Rattle.instruction.specs.Forms.{formAt, formOf, sizeOf}
 use Rattle.instruction.specs.Parts.{madeOf}
-use Rattle.instruction.proofs.Decoding.{nothing, cut, found}
+use Rattle.instruction.proofs.Decoding.{nothing, cut, cut-from-start, found}
 use Rattle.instruction.proofs.Reading.{make3, formed, by-shape}
 use Rattle.instruction.proofs.Rule.{rule-is}
-use Rattle.instruction.proofs.Shapes.{sized}
+use Rattle.instruction.proofs.Shapes.{sized, size-range}
 use Rattle.instruction.proofs.instr.Instr.decode.Statement.{statement}
 use Rattle.instruction.proofs.instr.Instr.decode.Tie as tie
 
@@ -40,12 +44,24 @@ returns c = nothing (c .before .before .args .bytes .now) (c .if1 .taken)
 shape-of-requires : tie.Need-shape-of-requires
 shape-of-requires c κs = c .lookup .ensures .1
 
+-- a form has at most three bytes
+few : (c : tie.After-size) → c .size .result < 4
+few c =
+    let l = c .before .before in omega (arith, needed c, size-range (l .lookup .result) (l .lookup .ensures .1) .1)
+
+sub-new : tie.Need-sub-new
+sub-new c = omega (arith, few (c .before), c .if2 .taken)
+
+cast-new : tie.Need-cast-new
+cast-new c = record { fits = omega (arith, few (c .before), c .if2 .taken) }
+
 returns-2 : tie.Need-returns-2
 returns-2 c =
     let n = c .before .before in
     let l = n .before .before in
-    rw (c .new .ensures .0, c .new .ensures .1)
-    (cut (bytes l) (l .before .before .if1 .left) (l .lookup .result) (by-pattern l) (rw (needed n) at (c .before .if2 .taken)))
+    ap (λ (d : CutOff). refused 5 (cutValues d)) (cut-from-start (bytes l) (c .new .result) (c .new .ensures .0) (c .new .ensures .1)
+    (c .new .ensures .2 ∙ ap (λ (k : ℕ). k - length (bytes l)) (needed n ∙ ap (λ (k : ℕ). sizeOf (formAt k)) (by-pattern l))))
+    ∙ cut (bytes l) (l .before .before .if1 .left) (l .lookup .result) (by-pattern l) (rw (needed n) at (c .before .if2 .taken))
 
 build-requires : tie.Need-build-requires
 build-requires c κs = c .before .before .before .before .before .before .before .lookup .ensures .1
@@ -67,5 +83,5 @@ returns-3 c =
 pub decode-spec : {M : Type 1} → statement M
 decode-spec =
     tie.close
-    (tie.spec returns (λ c. search needs) (λ c κs. search needs) shape-of-requires (λ c κs. search needs) (λ c κs. search needs) returns-2
+    (tie.spec returns (λ c. search needs) (λ c κs. search needs) shape-of-requires (λ c κs. search needs) sub-new cast-new (λ c κs. search needs) returns-2
     (λ c κs. search needs) build-requires returns-3)

@@ -6,10 +6,10 @@ use native.Mathlib.Omega.{arith}
 use borrow.Author.Needs.{needs}
 use lib.ListN.{length, length-set}
 use lib.Seq.{sets}
-use Rattle.unlister.specs.Decimal.{lowest}
-use Rattle.unlister.proofs.Decimals.{last-first, none-left}
-use Rattle.unlister.proofs.decimal.put.Statement.{statement}
-use Rattle.unlister.proofs.decimal.put.Tie as tie
+use Rattle.refusals.specs.Decimal.{lowest}
+use Rattle.refusals.proofs.Decimals.{last-first, none-left}
+use Rattle.refusals.proofs.decimal.put.Statement.{statement}
+use Rattle.refusals.proofs.decimal.put.Tie as tie
 
 abbrev Inv-loop : tie.InvT-loop
 Inv-loop n k room₀ at left₀ i₀ room left i = (i ≤ k) × (length room ≡ length room₀) × (sets room at (lowest i left) ≡ sets room₀ at (lowest k n))

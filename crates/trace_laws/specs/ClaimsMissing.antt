@@ -1,0 +1,18 @@
+-- Document 02, W2: where step or run answers 5, one or two bytes are missing.
+-- Assumes nothing.
+use Prim.Native.Nat.{ℕ}
+use mathlib.Core.List.{List}
+use mathlib.Core.Path.{_≡_}
+use lib.IntN.{ℤ}
+use Rattle.operand.specs.Answer.{refused}
+use Rattle.instruction_laws.specs.Missing.{OneOrTwo}
+use Rattle.trace.specs.Run.{runAnswer}
+use Rattle.trace.specs.Step.{stepAnswer}
+use Rattle.trace_laws.specs.ClaimsImages.{Bytes}
+
+abbrev pub StepMissing : Type 0
+StepMissing = (image m : List ℕ) (p : ℕ) (vs : List ℤ) → Bytes image → stepAnswer image m p ≡ refused 5 vs → OneOrTwo vs
+
+abbrev pub RunMissing : Type 0
+RunMissing =
+    (image marks order entries : List ℕ) (limit : ℕ) (vs : List ℤ) → Bytes image → runAnswer image marks order entries limit ≡ refused 5 vs → OneOrTwo vs
