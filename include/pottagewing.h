@@ -39,13 +39,14 @@
  * there is no refusal. All other calls need less than 1 KiB. No call allocates
  * memory.
  *
- * The numbers of the refusals, with the values in answer[0], answer[1]:
+ * The numbers of the refusals, with the values in answer[0] to answer[2]:
  *
  *    1  the image is longer than 65,536: its length
  *    2  the marks are shorter than the image: their length
  *    3  the order list is shorter than the image: its length
  *    4  the position is not waiting: its mark, 0 if it is not inside the image
- *    5  the instruction is cut off by the end: position, first byte
+ *    5  the instruction is cut off by the end: position, first byte, and how
+ *       many of its bytes are missing, 1 or 2
  *    6  a mark is damaged: its position
  *    7  a number does not fit its field: operand, counted from 1, and the number
  *    8  not an address, 0 to 65,535: the number
@@ -71,7 +72,7 @@ extern "C" {
 /* The instruction at the beginning of n bytes.
  * 0: form (0 to 69, in the order of the enum), size in bytes, and the three
  *    operands, 0 where there is none. Bytes after the instruction are ignored.
- * 12 where n is 0; 5 with position 0 and the first byte.
+ * 12 where n is 0; 5 with position 0, the first byte and how many are missing.
  */
 uint32_t pw_decode(const uint8_t *bytes, size_t n, int64_t answer[5]);
 
@@ -208,7 +209,8 @@ uint32_t pw_listing(const uint8_t *image, size_t image_length,
  * 32 bytes of the image, two hex digits each, and all of them up to 16,384.
  * Digits are upper case. Each line ends with byte 10, which the last may lack.
  * Printed is the listing without arrivals; or one line of `R`, a tab and 13
- * where the text is not of this kind, or 5 where an instruction is cut off.
+ * where the text is not of this kind, or 5 where an instruction is cut off, and
+ * then a tab and how many of its bytes are missing, 1 or 2.
  * 0: the number of bytes written, also where they are an `R` line.
  * 11, and no other.
  */
