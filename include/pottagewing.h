@@ -32,6 +32,11 @@
  * stays as it was. What they show stands at the beginning of the room; the
  * rest of it stays as it was.
  *
+ * A packed map is the mask with one bit for each position, 1 on each byte of a
+ * traced instruction: position p is bit p % 64, counted from the lowest, of
+ * word p / 64. An image of n bytes needs (n + 63) / 64 words. There may be
+ * more; those beyond change no answer and stay as they were.
+ *
  * Stack: pw_listing, pw_list_text and pw_read_back hold tables for the longest
  * image on the stack, however short the image. A thread that calls either of
  * the first two needs a stack of 512 KiB; pw_read_back holds 192 KiB and needs
@@ -52,12 +57,15 @@
  *    8  not an address, 0 to 65,535: the number
  *    9  a short offset is not -128 to 127: the offset
  *   10  the top four bits differ: the base's, the address's
- *   11  no room: the number of bytes, or of positions, needed
+ *   11  no room: the number of bytes, of positions or of words needed
  *   12  nothing to decode: 0
  *   14  the base, or the position after the instruction, is over 65,536: that
  *       number
  *   15  a line of a listing is malformed or out of order: its number, from 1
  *   16  a line of a listing reaches past the image's length: its number
+ *   17  the stretch or the position is not inside the image, the stretch is
+ *       turned round, or an update at a position that is not traced: the
+ *       position, or the stretch's start
  */
 #ifndef POTTAGEWING_H
 #define POTTAGEWING_H
@@ -235,6 +243,59 @@ uint32_t pw_list_text(const uint8_t *text, size_t text_length,
 uint32_t pw_read_back(const uint8_t *text, size_t text_length, uint32_t length,
                       uint8_t *image, size_t image_length,
                       uint8_t *marks, size_t marks_length, int64_t answer[5]);
+
+/* The packed map, built from the marks into the beginning of words. Bits past
+ * the image in the last word needed become 0; further words stay as they were.
+ * 0: the number of words written.
+ * 1, 2, 6, 11 with the number of words needed: the words stay as they were.
+ */
+uint32_t pw_map_build(const uint8_t *image, size_t image_length,
+                      const uint8_t *marks, size_t marks_length,
+                      uint64_t *words, size_t words_length, int64_t answer[5]);
+
+/* The three queries take the words and the image's length, and answer by the
+ * bits as lent: over words that pw_map_build wrote, and pw_map_update kept up,
+ * as the mask would; over other words by what stands there. Bits past the
+ * image do not count.
+ *
+ * Whether a position is code.
+ * 0: 1 where its bit is 1, otherwise 0.
+ * 1 with `length`, 11 with the number of words needed, 17 with the position
+ * where it is not below `length`.
+ */
+uint32_t pw_map_test(const uint64_t *words, size_t words_length,
+                     uint32_t length, uint32_t position, int64_t answer[5]);
+
+/* The code bytes of a stretch, from `begin` on and before `end`, which may be
+ * `length`.
+ * 0: how many. A stretch of no bytes has 0.
+ * 1 with `length`, 11 with the number of words needed, 17 with `begin` where
+ * `end` is below `begin` or above `length`.
+ */
+uint32_t pw_map_count(const uint64_t *words, size_t words_length,
+                      uint32_t length, uint32_t begin, uint32_t end,
+                      int64_t answer[5]);
+
+/* The first data byte at a position or after it.
+ * 0: its position; `length` where no data byte is left.
+ * 1 with `length`, 11 with the number of words needed, 17 with the position
+ * where it is not below `length`.
+ */
+uint32_t pw_map_first_data(const uint64_t *words, size_t words_length,
+                           uint32_t length, uint32_t position,
+                           int64_t answer[5]);
+
+/* Keeps the map up after a step: sets the bits of the instruction at the
+ * position that was taken up, over the marks as the step left them. A map built
+ * before the step is then the one that pw_map_build would write.
+ * 0: the number of bits set, which is the instruction's size, 1 to 3.
+ * 1, 2, 6, 11 with the number of words needed, 17 with the position where it is
+ * not inside the image or not traced: the words stay as they were.
+ */
+uint32_t pw_map_update(const uint8_t *image, size_t image_length,
+                       const uint8_t *marks, size_t marks_length,
+                       uint64_t *words, size_t words_length,
+                       uint32_t position, int64_t answer[5]);
 
 #ifdef __cplusplus
 }

@@ -3,6 +3,7 @@
 // hands over is worked out in the crates of replies below.
 pub mod codec;
 pub mod listed;
+pub mod mapped;
 pub mod tracing;
 pub mod viewing;
 
@@ -13,6 +14,11 @@ pub use codec::pw_targets;
 pub use listed::pw_list_text;
 pub use listed::pw_listing;
 pub use listed::pw_read_back;
+pub use mapped::pw_map_build;
+pub use mapped::pw_map_count;
+pub use mapped::pw_map_first_data;
+pub use mapped::pw_map_test;
+pub use mapped::pw_map_update;
 pub use tracing::pw_run;
 pub use tracing::pw_start;
 pub use tracing::pw_step;

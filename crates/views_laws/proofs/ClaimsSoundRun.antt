@@ -67,7 +67,8 @@ module _ (image : List ℕ) where
   abbrev Good : List ℕ → Type 0
   Good m = (q : ℕ) → q < n → Fine q (getD m q 0)
 
-  step-good : (m : List ℕ) (p : ℕ) → n ≤ length m → Ready (tracerOf image) m p → Good m → Good (took (tracerOf image) m p)
+  -- no step damages a mark
+  pub step-good : (m : List ℕ) (p : ℕ) → n ≤ length m → Ready (tracerOf image) m p → Good m → Good (took (tracerOf image) m p)
   step-good m p l R g q h = by (moved (tracerOf image) m p q l (R .inside))
     where
       by : Moved (tracerOf image) m p q → Fine q (getD (took (tracerOf image) m p) q 0)

@@ -1,0 +1,92 @@
+-- The search for the first data byte, word by word.
+-- Assumes nothing.
+use mathlib.Core.Path.{_≡_, refl, ap, _∙_}
+use mathlib.Core.Bool.{Bool, true, false, not}
+use mathlib.Core.List.{List}
+use Prim.Native.Nat.{ℕ, _+_, _*_, _-_, _/_, _%_, _<_, _≤_}
+use native.Mathlib.Omega.{arith}
+use lib.Dec.{ltb}
+use lib.ListN.{getD}
+use borrow.Author.Tests.{lt-ltb, ltb-true, ltb-false}
+use Rattle.word.specs.Bits.{one, firstIn, firstZero}
+use Rattle.word.proofs.Stretches.{ones-one}
+use Rattle.map.specs.Words.{codeAt, dataAt, Full}
+use Rattle.map.proofs.Runs.{first-is, first-none}
+use Rattle.map.proofs.InWords.{bit-at, zero-le, quiet, hit-from, hit-data}
+
+-- ---- words of ones alone
+
+module _ (ws : List ℕ) (to q : ℕ) where
+  pub Skips : ℕ → Type 0
+  Skips r = Full ws to q r × (r % 64 ≡ 0)
+
+  pub skips-start : q % 64 ≡ 0 → q < to + 64 → Skips q
+  unfolding Skips
+  skips-start aligned h = (record { from = omega arith; near = h; code = λ i l k. absurd (omega arith) }, aligned)
+
+  -- a word more
+  pub skips-next : (r : ℕ) → Skips r → r + 64 ≤ to → getD ws (r / 64) 0 ≡ 0xFFFFFFFFFFFFFFFF → Skips (r + 64)
+  unfolding Skips
+  skips-next r s h e =
+      (record { from = omega (arith, s .0 .from); near = omega arith; code = λ i l k. by i l k (ltb i r) refl }, omega (arith, s .1))
+    where
+      by : (i : ℕ) → q ≤ i → i < r + 64 → (b : Bool) → ltb i r ≡ b → codeAt ws i ≡ true
+      by i l k true t = s .0 .code i l (ltb-true i r t)
+      by i l k false t =
+          let g : r ≤ i = ltb-false i r t in
+          ap (codeAt ws) (let f : i ≡ 64 * (r / 64) + (i - r) = omega (arith, s .1) in f)
+          ∙ bit-at ws (r / 64) (i - r) (omega arith)
+          ∙ ap (λ (w : ℕ). one w (i - r)) e
+          ∙ ones-one 64 (i - r)
+          ∙ lt-ltb (i - r) 64 (omega arith)
+
+  pub skips-full : (r : ℕ) → Skips r → Full ws to q r
+  unfolding Skips
+  skips-full r s = s .0
+
+-- ---- the first data byte
+
+module _ (ws : List ℕ) (from to : ℕ) where
+  -- no position from `from` on and before q is data
+  pub None : ℕ → Type 0
+  None q = (i : ℕ) → from ≤ i → i < q → dataAt ws i ≡ false
+
+  pub none-yet : None from
+  unfolding None
+  none-yet i l h = absurd (omega arith)
+
+  abbrev Is : ℕ → Type 0
+  Is r = r ≡ firstIn (dataAt ws) (to - from) from
+
+  pub all-code : from ≤ to → (q : ℕ) → to ≤ q → None q → Is to
+  unfolding None
+  all-code l q h N =
+      (let e : to ≡ from + (to - from) = omega arith in e) ∙ first-none (dataAt ws) (to - from) from (λ i m k. N i m (omega arith))
+
+  module _ (l : from ≤ to) (q : ℕ) (f : from ≤ q) (N : None q) (z : ℕ) (e : z ≡ firstZero (getD ws (q / 64) 0) (q % 64)) where
+    -- none before the first zero of the word
+    pub none-before : None (q / 64 * 64 + z)
+    unfolding None
+    none-before i m h = by (ltb i q) refl
+      where
+        by : (b : Bool) → ltb i q ≡ b → dataAt ws i ≡ false
+        by true t = N i m (ltb-true i q t)
+        by false t = quiet ws q i (ltb-false i q t) (omega arith)
+
+    pub found : z < 64 → q / 64 * 64 + z < to → Is (q / 64 * 64 + z)
+    unfolding None
+    found h k =
+        let g = hit-from ws q (omega arith) in
+        first-is (dataAt ws) (to - from) from (q / 64 * 64 + z) (omega arith) (omega arith) none-before (rw e (hit-data ws q (omega arith)))
+
+    pub past-to : to ≤ q / 64 * 64 + z → Is to
+    past-to h = all-code l (q / 64 * 64 + z) h none-before
+
+    -- none in the word, nor in what was skipped after it
+    pub none-skipped : 64 ≤ z → (r : ℕ) → Full ws to (q / 64 * 64 + 64) r → None r
+    unfolding None
+    none-skipped h r s i m j = let k = zero-le ws q in by (ltb i (q / 64 * 64 + 64)) refl
+      where
+        by : (b : Bool) → ltb i (q / 64 * 64 + 64) ≡ b → dataAt ws i ≡ false
+        by true t = let l = ltb-true i (q / 64 * 64 + 64) t in none-before i m (omega arith)
+        by false t = ap not (s .code i (ltb-false i (q / 64 * 64 + 64) t) j)

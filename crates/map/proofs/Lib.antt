@@ -1,0 +1,5 @@
+pub mod Runs
+pub mod InWords
+pub mod Telling
+pub mod Finding
+pub mod Asking

@@ -1,0 +1,40 @@
+-- `ask::first_data` meets its contract.
+-- Assumes nothing.
+use borrow.Author.Needs.{needs}
+use borrow.Author.Tests.{le-leb, lt-leb}
+use Rattle.map.specs.Ask.{firstAnswer}
+use Rattle.map.proofs.Asking.{long, no-room, outside, told}
+use Rattle.map.proofs.ask.first_data.Statement.{statement}
+use Rattle.map.proofs.ask.first_data.Tie as tie
+
+returns : tie.Need-returns
+unfolding firstAnswer
+returns c = let a = c .before .before .args in long (a .words .now) (a .length) _ (a .p) _ (c .if1 .taken)
+
+returns-2 : tie.Need-returns-2
+unfolding firstAnswer
+returns-2 c =
+    let e = c .before in
+    let a = e .before .before .args in
+    no-room (a .words .now) (a .length) _ (a .p) _ (e .if1 .left) (c .if2 .taken)
+
+returns-3 : tie.Need-returns-3
+unfolding firstAnswer
+returns-3 c =
+    let r = c .before in
+    let e = r .before in
+    let a = e .before .before .args in
+    outside (a .words .now) (a .length) _ (a .p) _ (e .if1 .left) (r .if2 .left) (le-leb (a .length) (a .p) (c .if3 .taken))
+
+returns-4 : tie.Need-returns-4
+unfolding firstAnswer
+returns-4 c =
+    let o = c .before in
+    let r = o .before in
+    let e = r .before in
+    let a = e .before .before .args in
+    told (a .words .now) (a .length) _ (a .p) _ (e .if1 .left) (r .if2 .left) _ (c .next-data .ensures) (lt-leb (a .length) (a .p) (o .if3 .left))
+
+pub first-data-spec : {M : Type 1} → statement M
+first-data-spec =
+    tie.close (tie.spec returns (λ c. search needs) returns-2 returns-3 (λ c. search needs) (λ c κs. search needs) returns-4)

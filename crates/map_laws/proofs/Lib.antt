@@ -1,0 +1,5 @@
+pub mod ClaimsAnswersApart
+pub mod Built
+pub mod ClaimsMapAnswers
+pub mod Stepped
+pub mod ClaimsMapUpdate

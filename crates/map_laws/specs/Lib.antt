@@ -1,0 +1,2 @@
+pub mod ClaimsMap
+pub mod ClaimsAnswers

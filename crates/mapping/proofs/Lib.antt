@@ -1,0 +1,5 @@
+pub mod Packing
+pub mod Covering
+pub mod Sounding
+pub mod Marking
+pub mod Updating

@@ -1,0 +1,3 @@
+pub mod Packed
+pub mod Build
+pub mod Update
