@@ -4,6 +4,7 @@
 use crate::games;
 use crate::plain::listing::Lister;
 use crate::plain::trace::{Ended, Tracer};
+use crate::plain::{maps, views};
 use compare::random::Random;
 use waterbear::budget::{self, Ended as Original};
 use waterbear::disasm::probe::{self, Graph};
@@ -19,6 +20,9 @@ pub struct Case {
     pub marks: Vec<u8>,
     /// The positions taken up, in their order.
     pub order: Vec<u32>,
+    /// 1 for each byte of code, and the same in words.
+    pub mask: Vec<u8>,
+    pub map: Vec<u64>,
     /// Without arrivals.
     pub listing: Vec<u8>,
     pub graph: Graph,
@@ -48,6 +52,9 @@ impl Case {
         let visits = budget::spent();
         let mut lister = Lister::default();
         lister.list(&image, &tracer.marks, false);
+        let (mut mask, mut map) = (vec![], vec![]);
+        views::mask(&image, &tracer.marks, &mut mask);
+        maps::build(&image, &tracer.marks, &mut map);
         let sampled = (0..SAMPLED).map(|turn| match turn % 4 {
             0 => random.below(image.len() as u64) as u32,
             _ => random.pick(&tracer.order),
@@ -57,6 +64,8 @@ impl Case {
             entries: entries.to_vec(),
             marks: tracer.marks,
             order: tracer.order,
+            mask,
+            map,
             listing: lister.text,
             image,
             graph,
@@ -77,4 +86,14 @@ pub fn games(count: usize, length: usize, random: &mut Random) -> (Vec<Case>, us
         }
     }
     (cases, left_out)
+}
+
+/// So many images of a length whose data comes late.
+pub fn late(count: usize, length: usize, random: &mut Random) -> Vec<Case> {
+    let one = |_| {
+        let image = games::straight(length, random);
+        let case = Case::new(image, &[0], VISITS * length as u64, random);
+        case.expect("each position is taken up once")
+    };
+    (0..count).map(one).collect()
 }

@@ -6,10 +6,11 @@ use crate::plain::back::{Reader, Refused};
 use crate::plain::decode::decode;
 use crate::plain::listing::Lister;
 use crate::plain::trace::{Ended, TRACED, Tracer, is_traced};
-use crate::plain::views;
+use crate::plain::{maps, views};
 use crate::rows::LONGEST_LISTING;
 use compare::answer::Answer;
 use compare::original::{self, listed, viewed};
+use compare::paper::map;
 use waterbear::disasm::probe;
 
 /// What a byte of a listing is changed to.
@@ -24,6 +25,7 @@ pub fn check(cases: &[Case]) -> Result<(), &'static str> {
         overlapping(case)?;
         listing(case, false)?;
         reading_back(case)?;
+        mapping(case)?;
     }
     Ok(())
 }
@@ -113,6 +115,29 @@ fn overlapping(case: &Case) -> Result<(), &'static str> {
         same(room[..count] == theirs, "overlaps")?;
     }
     Ok(())
+}
+
+/// The map is the original's mask, packed; what is asked of it is what that mask says.
+pub fn mapping(case: &Case) -> Result<(), &'static str> {
+    let mask = viewed::mask(&case.graph, &case.image);
+    let words = map::packed(&mask);
+    let mut room = vec![9; words.len()];
+    let answer = ours::map_build(&case.image, &case.marks, &mut room);
+    let written = Answer::new(Answer::DONE, &[words.len() as i64]);
+    same(answer == written && room == words, "map build")?;
+    same(case.mask == mask, "the plain mask")?;
+    same(case.map == words, "the plain map")?;
+    let length = mask.len() as u32;
+    let code = mask.iter().filter(|byte| **byte == 1).count();
+    let data = mask.iter().position(|byte| *byte == 0);
+    let data = data.unwrap_or(mask.len());
+    let told = |value: usize| Answer::new(Answer::DONE, &[value as i64]);
+    let count = ours::map_count(&words, length, 0, length);
+    same(count == told(code), "map count")?;
+    same(maps::count(&mask) as usize == code, "the plain count")?;
+    let first = ours::map_first_data(&words, length, 0);
+    same(first == told(data), "map first data")?;
+    same(maps::first_data(&mask) == data, "the plain first data")
 }
 
 /// The listing gives the image and the traced positions back; changed, both readers say the same of it.

@@ -94,6 +94,23 @@ pub fn image(length: usize, random: &mut Random) -> Vec<u8> {
     maker.image
 }
 
+/// Instructions that go on, one after the other from 0, then Ret and bytes of data.
+pub fn straight(length: usize, random: &mut Random) -> Vec<u8> {
+    let mut maker = Maker {
+        random,
+        image: vec![],
+        routines: vec![],
+        calls: vec![],
+    };
+    while maker.image.len() < length - length / 64 {
+        let first = maker.weighted(&PLAIN);
+        maker.instruction(first);
+    }
+    maker.image.push(RET);
+    maker.image.resize(length, 0xFF);
+    maker.image
+}
+
 struct Maker<'a> {
     random: &'a mut Random,
     image: Vec<u8>,

@@ -44,14 +44,21 @@ fn main() -> ExitCode {
 }
 
 fn all(random: &mut Random) -> Result<(), &'static str> {
-    let mut lengths = vec![];
+    let (mut lengths, mut late) = (vec![], vec![]);
     for (length, count) in LENGTHS {
         let (cases, left_out) = cases::games(count, length, random);
         report::images(&cases, left_out);
         check::check(&cases)?;
         lengths.push(cases);
     }
+    for (length, count) in LENGTHS {
+        let cases = cases::late(count, length, random);
+        report::late(&cases);
+        cases.iter().try_for_each(check::mapping)?;
+        late.push(cases);
+    }
     let whole: Vec<&[Case]> = lengths.iter().map(Vec::as_slice).collect();
+    let late: Vec<&[Case]> = late.iter().map(Vec::as_slice).collect();
     let few: Vec<&[Case]> = whole
         .iter()
         .zip(FEW)
@@ -62,6 +69,7 @@ fn all(random: &mut Random) -> Result<(), &'static str> {
     }
     let table = ROWS.map(|(row, _)| match row {
         Row::ListingWithArrivals => rows::measure(row, &few),
+        Row::MapFirstData => rows::measure(row, &late),
         _ => rows::measure(row, &whole),
     });
     report::table(&table, &whole);

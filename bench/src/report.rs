@@ -2,6 +2,7 @@
 
 use crate::cases::Case;
 use crate::clock::Times;
+use crate::plain::maps;
 use crate::rows::{ROWS, Row};
 
 /// Of each row the times at the lengths that it was measured at.
@@ -23,6 +24,18 @@ pub fn images(cases: &[Case], left_out: usize) {
         taken(cases),
         100.0 * covered as f64 / (length * count) as f64,
         visits as f64 / count as f64 / taken(cases),
+    );
+}
+
+/// Of images whose data comes late: where it begins.
+pub fn late(cases: &[Case]) {
+    let count = cases.len();
+    let length = cases[0].image.len();
+    let firsts = cases.iter().map(|case| maps::first_data(&case.mask));
+    let first = firsts.sum::<usize>() as f64 / count as f64;
+    println!(
+        "{} KiB, data late: {count} images, the first data byte at {first:.0}",
+        length / 1024,
     );
 }
 
@@ -88,9 +101,9 @@ fn ratio(one: Option<f64>, other: Option<f64>) -> String {
     }
 }
 
-/// The aims, by the worst of the lengths.
+/// The aims, by the worst of the lengths where none is named.
 pub fn aims(table: &Table) {
-    println!("\naims, by the worst of the lengths");
+    println!("\naims, by the worst of the lengths where none is named");
     let figures = |row: Row, one: usize, other: usize| -> Vec<f64> {
         let index = ROWS.iter().position(|(known, _)| *known == row);
         let times = table[index.expect("a row")].iter();
@@ -108,9 +121,22 @@ pub fn aims(table: &Table) {
         let most = figures(row, 0, 2).into_iter().fold(0.0, f64::max);
         aim(words, most, most <= limit);
     }
+    for (words, row) in [
+        (
+            "map count of 64 KiB, plain/ours, at least 20",
+            Row::MapCount,
+        ),
+        (
+            "map first data of 64 KiB, plain/ours, at least 20",
+            Row::MapFirstData,
+        ),
+    ] {
+        let longest = figures(row, 2, 0).pop().expect("a figure for each length");
+        aim(words, longest, longest >= 20.0);
+    }
 }
 
 fn aim(words: &str, figure: f64, reached: bool) {
     let verdict = if reached { "reached" } else { "NOT REACHED" };
-    println!("{words:<38} {figure:>7.2}  {verdict}");
+    println!("{words:<50} {figure:>7.2}  {verdict}");
 }

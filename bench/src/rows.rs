@@ -7,7 +7,7 @@ use crate::plain::back::Reader;
 use crate::plain::decode::decode;
 use crate::plain::listing::Lister;
 use crate::plain::trace::Tracer;
-use crate::plain::views;
+use crate::plain::{maps, views};
 use std::hint::black_box;
 use std::io::Write;
 use waterbear::disasm::{self, probe};
@@ -32,9 +32,14 @@ pub enum Row {
     Whole,
     /// The listing without arrivals, back into an image and marks.
     ReadBack,
+    MapBuild,
+    /// The code bytes of the whole image, by its map and by its byte mask.
+    MapCount,
+    /// The first data byte from 0 on, in the same way, of images whose data comes late.
+    MapFirstData,
 }
 
-pub const ROWS: [(Row, &str); 10] = [
+pub const ROWS: [(Row, &str); 13] = [
     (Row::Decode, "decode at every position"),
     (Row::Run, "run"),
     (Row::Mask, "mask"),
@@ -45,6 +50,9 @@ pub const ROWS: [(Row, &str); 10] = [
     (Row::ListingWithArrivals, "listing with arrivals"),
     (Row::Whole, "run and listing"),
     (Row::ReadBack, "read back"),
+    (Row::MapBuild, "map build"),
+    (Row::MapCount, "map count"),
+    (Row::MapFirstData, "map first data"),
 ];
 
 /// The times for each group of cases.
@@ -64,6 +72,9 @@ pub fn sides(row: Row) -> Sides<'static, Case> {
         Row::ListingWithArrivals => listing(true),
         Row::Whole => whole(),
         Row::ReadBack => reading_back(),
+        Row::MapBuild => mapping(),
+        Row::MapCount => counting(),
+        Row::MapFirstData => finding_data(),
     }
 }
 
@@ -256,6 +267,48 @@ fn reading_back() -> Sides<'static, Case> {
             let (image, marks) = (&mut plain_image[..length], &mut plain_marks[..length]);
             let answer = reader.read(&case.listing, image, marks);
             black_box((answer.is_ok(), image, marks));
+        })),
+    ]
+}
+
+/// The original has no map.
+fn mapping() -> Sides<'static, Case> {
+    let mut room = vec![0; 1_024];
+    let mut words = vec![];
+    [
+        Some(Box::new(move |case| {
+            black_box(ours::map_build(&case.image, &case.marks, &mut room));
+        })),
+        None,
+        Some(Box::new(move |case| {
+            maps::build(&case.image, &case.marks, &mut words);
+            black_box(&words);
+        })),
+    ]
+}
+
+fn counting() -> Sides<'static, Case> {
+    [
+        Some(Box::new(|case| {
+            let length = case.image.len() as u32;
+            black_box(ours::map_count(&case.map, length, 0, length));
+        })),
+        None,
+        Some(Box::new(|case| {
+            black_box(maps::count(&case.mask));
+        })),
+    ]
+}
+
+fn finding_data() -> Sides<'static, Case> {
+    [
+        Some(Box::new(|case| {
+            let length = case.image.len() as u32;
+            black_box(ours::map_first_data(&case.map, length, 0));
+        })),
+        None,
+        Some(Box::new(|case| {
+            black_box(maps::first_data(&case.mask));
         })),
     ]
 }

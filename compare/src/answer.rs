@@ -25,6 +25,7 @@ impl Answer {
     pub const BASE_OUTSIDE: u32 = 14;
     pub const MALFORMED: u32 = 15;
     pub const PAST_END: u32 = 16;
+    pub const OUTSIDE: u32 = 17;
 
     /// The values that are not given are 0.
     pub fn new(number: u32, given: &[i64]) -> Answer {

@@ -7,6 +7,7 @@ mod decode;
 mod encode;
 mod lent;
 mod listing;
+mod maps;
 mod ours;
 mod resolve;
 mod room;
@@ -43,6 +44,7 @@ fn main() -> ExitCode {
     traces::compare(&mut tally, &mut random);
     views::compare(&mut tally, &mut random);
     back::compare(&mut tally, &mut random);
+    maps::compare(&mut tally, &mut random);
     match tally.report() {
         true => ExitCode::SUCCESS,
         false => ExitCode::FAILURE,

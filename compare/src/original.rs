@@ -64,7 +64,8 @@ pub fn decode(bytes: &[u8]) -> Answer {
 /// How many bytes an instruction that is cut off lacks. The original does not say; it is asked again with
 /// more and more bytes behind, until it finds an instruction.
 pub fn missing(bytes: &[u8]) -> u8 {
-    let whole = |more: &u8| Instr::decode(&[bytes, &vec![0; usize::from(*more)]].concat()).is_some();
+    let whole =
+        |more: &u8| Instr::decode(&[bytes, &vec![0; usize::from(*more)]].concat()).is_some();
     (0..).find(whole).expect("a form has an end")
 }
 

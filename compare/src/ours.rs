@@ -111,6 +111,47 @@ unsafe extern "C" {
         marks_length: usize,
         answer: *mut [i64; 5],
     ) -> u32;
+    fn pw_map_build(
+        image: *const u8,
+        image_length: usize,
+        marks: *const u8,
+        marks_length: usize,
+        words: *mut u64,
+        words_length: usize,
+        answer: *mut [i64; 5],
+    ) -> u32;
+    fn pw_map_test(
+        words: *const u64,
+        words_length: usize,
+        length: u32,
+        position: u32,
+        answer: *mut [i64; 5],
+    ) -> u32;
+    fn pw_map_count(
+        words: *const u64,
+        words_length: usize,
+        length: u32,
+        begin: u32,
+        end: u32,
+        answer: *mut [i64; 5],
+    ) -> u32;
+    fn pw_map_first_data(
+        words: *const u64,
+        words_length: usize,
+        length: u32,
+        position: u32,
+        answer: *mut [i64; 5],
+    ) -> u32;
+    fn pw_map_update(
+        image: *const u8,
+        image_length: usize,
+        marks: *const u8,
+        marks_length: usize,
+        words: *mut u64,
+        words_length: usize,
+        position: u32,
+        answer: *mut [i64; 5],
+    ) -> u32;
 }
 
 pub fn decode(bytes: &[u8]) -> Answer {
@@ -249,6 +290,47 @@ pub fn read_back(text: &[u8], length: u32, image: &mut [u8], marks: &mut [u8]) -
             n,
             table,
             count,
+            values,
+        )
+    })
+}
+
+pub fn map_build(image: &[u8], marks: &[u8], words: &mut [u64]) -> Answer {
+    let (at, n) = (words.as_mut_ptr(), words.len());
+    let (table, count) = (marks.as_ptr(), marks.len());
+    answered(|values| unsafe {
+        pw_map_build(image.as_ptr(), image.len(), table, count, at, n, values)
+    })
+}
+
+pub fn map_test(words: &[u64], length: u32, position: u32) -> Answer {
+    let (at, n) = (words.as_ptr(), words.len());
+    answered(|values| unsafe { pw_map_test(at, n, length, position, values) })
+}
+
+/// The stretch excludes its end.
+pub fn map_count(words: &[u64], length: u32, begin: u32, end: u32) -> Answer {
+    let (at, n) = (words.as_ptr(), words.len());
+    answered(|values| unsafe { pw_map_count(at, n, length, begin, end, values) })
+}
+
+pub fn map_first_data(words: &[u64], length: u32, position: u32) -> Answer {
+    let (at, n) = (words.as_ptr(), words.len());
+    answered(|values| unsafe { pw_map_first_data(at, n, length, position, values) })
+}
+
+pub fn map_update(image: &[u8], marks: &[u8], words: &mut [u64], position: u32) -> Answer {
+    let (at, n) = (words.as_mut_ptr(), words.len());
+    let (table, count) = (marks.as_ptr(), marks.len());
+    answered(|values| unsafe {
+        pw_map_update(
+            image.as_ptr(),
+            image.len(),
+            table,
+            count,
+            at,
+            n,
+            position,
             values,
         )
     })

@@ -7,6 +7,7 @@ pub mod fields;
 pub mod flow;
 pub mod input;
 pub mod listing;
+pub mod map;
 pub mod tracer;
 pub mod views;
 

@@ -83,7 +83,7 @@ fn lent(random: &mut Random, image: &[u8]) -> usize {
 }
 
 /// How often the original may take a position up before it is given up.
-fn visits(image: &[u8]) -> u64 {
+pub fn visits(image: &[u8]) -> u64 {
     1_000 + 16 * image.len() as u64
 }
 

@@ -5,8 +5,13 @@ use crate::answer::Answer;
 
 #[derive(PartialEq, Debug)]
 pub enum End {
-    Finished { steps: usize, noted: usize },
-    Stopped { steps: usize },
+    Finished {
+        steps: usize,
+        noted: usize,
+    },
+    Stopped {
+        steps: usize,
+    },
     CutOff {
         position: u32,
         first: u8,

@@ -19,9 +19,14 @@ pub enum Call {
     DataRun,
     Listing,
     ReadBack,
+    MapBuild,
+    MapTest,
+    MapCount,
+    MapFirstData,
+    MapUpdate,
 }
 
-const CALLS: [(Call, &str); 14] = [
+const CALLS: [(Call, &str); 19] = [
     (Call::Decode, "decode"),
     (Call::Encode, "encode"),
     (Call::Resolve, "resolve"),
@@ -36,7 +41,23 @@ const CALLS: [(Call, &str); 14] = [
     (Call::DataRun, "data run"),
     (Call::Listing, "listing"),
     (Call::ReadBack, "read back"),
+    (Call::MapBuild, "map build"),
+    (Call::MapTest, "map test"),
+    (Call::MapCount, "map count"),
+    (Call::MapFirstData, "map first data"),
+    (Call::MapUpdate, "map update"),
 ];
+
+impl Call {
+    /// The document that defines it.
+    fn document(self) -> &'static str {
+        match self {
+            Call::ReadBack | Call::MapBuild | Call::MapTest | Call::MapCount => "document 02",
+            Call::MapFirstData | Call::MapUpdate => "document 02",
+            _ => "document 01",
+        }
+    }
+}
 
 /// Who says what the answer is to be.
 #[derive(Clone, Copy, PartialEq)]
@@ -151,10 +172,9 @@ impl Tally {
     ) {
         let differ = expected != ours;
         if differ {
-            let who = match (judge, call) {
-                (Judge::Original, _) => "the original",
-                (Judge::Document, Call::ReadBack) => "document 02",
-                (Judge::Document, _) => "document 01",
+            let who = match judge {
+                Judge::Original => "the original",
+                Judge::Document => call.document(),
             };
             self.show(|| format!("{}\n  {who}: {expected:?}\n  ours: {ours:?}", input()));
         }
@@ -175,6 +195,12 @@ impl Tally {
     /// Notes that the plain reader does not give back what was listed.
     pub fn reader_differs(&mut self, what: impl FnOnce() -> String) {
         self.show(|| format!("the plain reader against what was listed: {}", what()));
+        self.all.differ += 1;
+    }
+
+    /// Notes that the plain map does not answer what its byte mask says, or is not the one built afresh.
+    pub fn map_differs(&mut self, what: impl FnOnce() -> String) {
+        self.show(|| format!("the plain map against the byte mask: {}", what()));
         self.all.differ += 1;
     }
 
@@ -220,13 +246,13 @@ impl Tally {
     }
 
     fn report_numbers(&self) {
-        println!("call          number    compared  ours alone  differ");
+        println!("call           number    compared  ours alone  differ");
         for (call, name) in CALLS {
             for (number, counts) in self.by_number[call as usize].iter().enumerate() {
                 let (compared, alone) = (counts.compared, counts.alone);
                 if compared + alone > 0 {
                     let differ = counts.differ;
-                    println!("{name:<13} {number:>6}  {compared:>10}  {alone:>10}  {differ:>6}");
+                    println!("{name:<14} {number:>6}  {compared:>10}  {alone:>10}  {differ:>6}");
                 }
             }
         }

@@ -124,7 +124,7 @@ fn any_marks(tally: &mut Tally, random: &mut Random, image: &[u8]) {
 }
 
 /// Marks of any content; three times in four they are mended, and at times damaged again in one place.
-fn marks(random: &mut Random, image: &[u8]) -> Vec<u8> {
+pub fn marks(random: &mut Random, image: &[u8]) -> Vec<u8> {
     let length = match random.below(24) {
         0 => image.len().saturating_sub(1 + random.below(2) as usize),
         1..12 => image.len(),

@@ -7,6 +7,7 @@ use crate::paper;
 #[derive(Clone, Copy)]
 pub struct Label(usize);
 
+#[derive(Default)]
 pub struct Assembler {
     pub bytes: Vec<u8>,
     placed: Vec<Option<usize>>,
@@ -27,14 +28,6 @@ pub fn form(name: &str) -> usize {
 }
 
 impl Assembler {
-    pub fn new() -> Assembler {
-        Assembler {
-            bytes: vec![],
-            placed: vec![],
-            uses: vec![],
-        }
-    }
-
     pub fn label(&mut self) -> Label {
         self.placed.push(None);
         Label(self.placed.len() - 1)

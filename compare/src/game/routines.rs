@@ -61,7 +61,7 @@ impl Routines {
         let jumps = |form| matches!(flow_of(form), Flow::Jumps(_));
         let mut random = Random(seed);
         Routines {
-            code: Assembler::new(),
+            code: Assembler::default(),
             all: vec![],
             called: HashSet::new(),
             plain: Deck::new(&mut random, goes_on),

@@ -16,7 +16,7 @@ fn is_damaged(image: &[u8], marks: &[u8], at: usize) -> bool {
 }
 
 /// Refusals 1, 2 and 6.
-fn refusal(image: &[u8], marks: &[u8]) -> Option<Answer> {
+pub(super) fn refusal(image: &[u8], marks: &[u8]) -> Option<Answer> {
     tracer::sizes(image, marks).or_else(|| {
         let lowest = (0..image.len()).find(|at| is_damaged(image, marks, *at));
         lowest.map(|at| Answer::new(Answer::DAMAGED, &[at as i64]))
@@ -46,14 +46,17 @@ fn traced(image: &[u8], marks: &[u8]) -> impl Iterator<Item = usize> {
     (0..image.len()).filter(|at| tracer::is_traced(marks[*at]))
 }
 
+/// The mask, of marks that are not damaged.
+pub fn mask_of(image: &[u8], marks: &[u8]) -> Vec<u8> {
+    let mut mask = vec![0; image.len()];
+    for at in traced(image, marks) {
+        mask[at..at + flow::size(image[at])].fill(1);
+    }
+    mask
+}
+
 pub fn mask(image: &[u8], marks: &[u8], room: &mut [u8]) -> Answer {
-    show(image, marks, room, || {
-        let mut mask = vec![0; image.len()];
-        for at in traced(image, marks) {
-            mask[at..at + flow::size(image[at])].fill(1);
-        }
-        mask
-    })
+    show(image, marks, room, || mask_of(image, marks))
 }
 
 /// What the instruction at a position names: of a jump, branch or call the first target.
