@@ -1,6 +1,7 @@
 pub mod Every
 pub mod Table
 pub mod Rest
+pub mod Rows
 pub mod Known
 pub mod Shapes
 pub mod Reading

@@ -29,9 +29,13 @@ grid =
     ("Rolc" ∷ "Xor_i8" ∷ "Xor_d9" ∷ "Xor_Ri" ∷ "Set1" ∷ []) ∷
     []
 
+-- the number of the form that stands in a row and a column
+abbrev pub entry : ℕ → ℕ → ℕ
+entry row col = numberOf (getD (getD grid row []) col "")
+
 abbrev pub column : ℕ → ℕ
 column low = cond (leb 8 low) 4 (cond (leb 4 low) 3 (cond (leb 2 low) 2 low))
 
--- the number of the form that stands in the row and the column of a first byte
+-- in those of a first byte
 unfoldable pub ruleOf : ℕ → ℕ
-ruleOf x = numberOf (getD (getD grid (x / 16) []) (column (x % 16)) "")
+ruleOf x = entry (x / 16) (column (x % 16))

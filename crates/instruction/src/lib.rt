@@ -6,6 +6,7 @@ pub mod decode;
 pub mod encode;
 pub mod flow;
 mod form;
+mod grid;
 pub mod instr;
 pub mod mnemonic;
 pub mod resolve;

@@ -1,0 +1,31 @@
+-- `grid::directs` meets its contract, row by row.
+-- Assumes nothing.
+use mathlib.Core.Path.{refl}
+use Rattle.instruction.specs.Forms.{forms, numberOf}
+use Rattle.instruction.specs.Grid.{grid}
+use Rattle.instruction.proofs.Rest.{only}
+use Rattle.instruction.proofs.Rows.{arm}
+use Rattle.instruction.proofs.grid.directs.Statement.{statement}
+use Rattle.instruction.proofs.grid.directs.Tie as tie
+
+pub directs-spec : {M : Type 1} → statement M
+unfolding grid numberOf forms
+directs-spec =
+    tie.close
+    (tie.spec
+    (λ c. arm 2 0 _ (c .match .keys1) refl)
+    (λ c. arm 2 1 _ (c .match .keys2) refl)
+    (λ c. arm 2 2 _ (c .match .keys3) refl)
+    (λ c. arm 2 3 _ (c .match .keys4) refl)
+    (λ c. arm 2 4 _ (c .match .keys5) refl)
+    (λ c. arm 2 5 _ (c .match .keys6) refl)
+    (λ c. arm 2 6 _ (c .match .keys7) refl)
+    (λ c. arm 2 7 _ (c .match .keys8) refl)
+    (λ c. arm 2 8 _ (c .match .keys9) refl)
+    (λ c. arm 2 9 _ (c .match .keys10) refl)
+    (λ c. arm 2 10 _ (c .match .keys11) refl)
+    (λ c. arm 2 11 _ (c .match .keys12) refl)
+    (λ c. arm 2 12 _ (c .match .keys13) refl)
+    (λ c. arm 2 13 _ (c .match .keys14) refl)
+    (λ c. arm 2 14 _ (c .match .keys15) refl)
+    (λ c. arm 2 15 _ (only 15 (c .before .args .row) (c .match .rest) (c .before .pre)) refl))
