@@ -22,7 +22,7 @@ use Rattle.ways.specs.Targets.{addressOf, addressIn, targetsIn, targetsAnswer}
 use Rattle.ways.specs.Ways.{nameOf}
 use Rattle.reach.specs.Mark.{tracedMark}
 use Rattle.reach.specs.Tracer.{held}
-use Rattle.trace.specs.Tracer.{exemptHere}
+use Rattle.marking.specs.Tracer.{exemptHere}
 use Rattle.sight.specs.Positions.{upFrom, some, kept}
 use Rattle.views.specs.DataRun.{leading, runLength, dataRun}
 use Rattle.views.specs.Labels.{labelled, labelsOf}

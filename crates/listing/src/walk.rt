@@ -5,7 +5,7 @@ ghost use lib.ListN.{length};
 ghost use Rattle.listing.specs.Puts.{Puts, Needed};
 ghost use Rattle.listing.specs.Walk.{codeLines, printed, passed, walk};
 use crate::lines;
-use trace::Mark;
+use marking::Mark;
 
 // The bytes that a position has at most, without arrivals.
 const MOST: usize = 60;

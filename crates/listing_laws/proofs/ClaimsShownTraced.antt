@@ -28,7 +28,7 @@ use Rattle.reach.specs.ClaimsOrder.{Final}
 use Rattle.reach.specs.Mark.{tracedMark, cleared}
 use Rattle.trace.specs.Run.{outcomeOf}
 use Rattle.trace.specs.Step.{damaged}
-use Rattle.trace.specs.Tracer.{tracerOf}
+use Rattle.marking.specs.Tracer.{tracerOf}
 use Rattle.trace_laws.proofs.ClaimsImagesOrder.{image-run-final}
 use Rattle.sight.specs.Positions.{tracedAt}
 use Rattle.sight.specs.View.{offJmpf, misplaced, damagedHere}

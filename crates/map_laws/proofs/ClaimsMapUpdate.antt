@@ -10,7 +10,7 @@ use Rattle.operand.specs.Answer.{accepted}
 use Rattle.ways.specs.At.{sizeHere}
 use Rattle.reach.specs.Tracer.{took}
 use Rattle.trace.specs.Step.{stepMarks}
-use Rattle.trace.specs.Tracer.{tracerOf}
+use Rattle.marking.specs.Tracer.{tracerOf}
 use Rattle.trace_laws.proofs.Accepted.{Went, went}
 use Rattle.word.specs.Bits.{between}
 use Rattle.map.specs.Words.{wordsFor}

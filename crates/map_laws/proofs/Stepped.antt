@@ -14,7 +14,7 @@ use Rattle.reach.specs.Takes.{Ready}
 use Rattle.reach.specs.Tracer.{mark, took}
 use Rattle.reach.proofs.Mark.{traced-test}
 use Rattle.reach.proofs.Took.{Moved, itself, kept, called, moved, mark-traced, length-took}
-use Rattle.trace.specs.Tracer.{tracerOf}
+use Rattle.marking.specs.Tracer.{tracerOf}
 use Rattle.word.specs.Bits.{between}
 use Rattle.views.specs.Mask.{under, covers, masked}
 use Rattle.sight.specs.Positions.{upFrom, some}

@@ -7,7 +7,7 @@ ghost use lib.ListN.{length, getD, replicate, drop};
 ghost use Rattle.reach.specs.Mark.{tracedMark};
 ghost use Rattle.ways.specs.At.{sizeHere, fitsHere};
 ghost use Rattle.mapping.specs.Packed.{covered};
-use trace::Mark;
+use marking::Mark;
 
 // So many words cleared; the rest stays.
 pub fn clear(words: &mut [u64], need: usize)

@@ -3,8 +3,8 @@ ghost use mathlib.Core.Path.{_≡_};
 ghost use Rattle.sight.specs.View.{viewedOf};
 ghost use Rattle.mapping.specs.Update.{updatedOf, updateAnswer, updateWords};
 use crate::cover;
+use marking::Mark;
 use sight::Viewed;
-use trace::Mark;
 
 pub enum Updated {
     // How many bits were set: the instruction's bytes.

@@ -8,7 +8,7 @@ use lib.Dec.{eqb, ltb}
 use lib.ListN.{length}
 use Rattle.ways.specs.Ways.{isWhole}
 use Rattle.reach.specs.Tracer.{held}
-use Rattle.trace.specs.Tracer.{tracerOf}
+use Rattle.marking.specs.Tracer.{tracerOf}
 use Rattle.sight.specs.Positions.{upFrom, positions, some, kept, tracedAt}
 
 -- the targets that the traced position q had when it was taken up. No step takes up an instruction that is cut off, nor any in an image

@@ -2,7 +2,7 @@
 ghost use mathlib.Core.Path.{_≡_};
 ghost use Rattle.ways.specs.Ways.{placesIn};
 ghost use Rattle.meetings.specs.Arrivals.{heldAt};
-use trace::Mark;
+use marking::Mark;
 use ways::Places;
 use ways::Ways;
 

@@ -7,9 +7,9 @@ ghost use lib.Seq.{sets};
 ghost use Rattle.text.specs.Bytes.{bytesOf};
 ghost use Rattle.reading.specs.Line.{positionOn, recordOf};
 ghost use Rattle.restoring.specs.Sheet.{fits, listedOn, agree, reach, markedBy};
+use marking::Mark;
 use reading::Record;
 use text::hex;
-use trace::Mark;
 
 // Whether a byte contradicts nothing listed before.
 fn fits(cell: u16, byte: u8) -> bool

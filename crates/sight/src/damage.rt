@@ -6,7 +6,7 @@ ghost use lib.ListN.{length};
 ghost use Rattle.ways.specs.At.{fitsHere};
 ghost use Rattle.sight.specs.Positions.{upFrom, some};
 ghost use Rattle.sight.specs.View.{offJmpf, misplaced, damagedHere, wrong, wrongAt};
-use trace::Mark;
+use marking::Mark;
 
 // Whether the end cuts the instruction at p off.
 fn is_cut(image: &[u8], p: u32) -> bool

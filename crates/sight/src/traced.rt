@@ -1,7 +1,7 @@
 // Traced positions.
 ghost use mathlib.Core.Path.{_≡_};
 ghost use Rattle.sight.specs.Positions.{tracedAt};
-use trace::Mark;
+use marking::Mark;
 
 // Whether a position inside the image is traced.
 pub fn is_traced_at(image: &[u8], marks: &[u8], p: usize) -> bool

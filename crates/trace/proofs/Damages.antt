@@ -15,7 +15,7 @@ use Rattle.reach.specs.Mark.{tracedMark}
 use Rattle.reach.specs.Tracer.{targets}
 use Rattle.reach.proofs.Exempt.{targets-plain, targets-exempt}
 use Rattle.trace.specs.Step.{damaged, damages, damageRefusals}
-use Rattle.trace.specs.Tracer.{tracerOf, exemptHere}
+use Rattle.marking.specs.Tracer.{tracerOf, exemptHere}
 use Rattle.ways.proofs.Ands.{both, not-first, not-second}
 use Rattle.ways.specs.At.{flashHere, waysHere}
 

@@ -11,7 +11,7 @@ use Rattle.reach.specs.Queue as queue
 use Rattle.reach.specs.Tracer.{found}
 use Rattle.trace.specs.Taken.{TakenUp}
 use Rattle.ways.specs.Ways.{placesIn}
-use Rattle.trace.specs.Tracer.{tracerOf}
+use Rattle.marking.specs.Tracer.{tracerOf}
 use Rattle.trace.specs.declared.take.Taken.{Taken}
 
 -- ps written into o from its end t on, which leaves o′ and the end t′

@@ -19,7 +19,7 @@ use Rattle.reach.proofs.Noted.{noted-long}
 use Rattle.reach.proofs.Order.{cleared-base}
 use Rattle.reach.proofs.Run.{run-takes}
 use Rattle.trace.specs.Run.{outcomeOf, endOf, ranOf, ranAnswer, RanTo, StepsTied}
-use Rattle.trace.specs.Tracer.{tracerOf}
+use Rattle.marking.specs.Tracer.{tracerOf}
 use Rattle.trace.specs.declared.run.Counts.{Counts}
 use Rattle.trace.specs.declared.run.Ran.{Ran}
 use Rattle.trace.specs.declared.run.Ran.the-variants.{Finished, Stopped, Cut}

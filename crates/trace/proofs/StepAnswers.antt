@@ -16,7 +16,7 @@ use Rattle.operand.proofs.Judging.{pass, stop}
 use Rattle.instruction.specs.Decode.{cutAt}
 use Rattle.reach.specs.Tracer.{took}
 use Rattle.trace.specs.Step.{idle, damaged, damageRefusals, stepRefusals, Said, saidOf, stepAnswer, stepMarks}
-use Rattle.trace.specs.Tracer.{tracerOf}
+use Rattle.marking.specs.Tracer.{tracerOf}
 use Rattle.ways.specs.At.{fitsHere}
 use Rattle.trace.proofs.Sizing as sizing
 use Rattle.trace.proofs.Stepping.{Inner}

@@ -11,7 +11,7 @@ use Rattle.ways.specs.declared.place.Places.the-variants.{Nothing}
 use Rattle.reach.specs.Note.{note, fresh}
 use Rattle.reach.proofs.Exempt.{mark-plain, took-plain, found-plain, mark-exempt, took-exempt, found-exempt}
 use Rattle.trace.specs.Taken.{TakenUp}
-use Rattle.trace.specs.Tracer.{exemptHere, tracerOf}
+use Rattle.marking.specs.Tracer.{exemptHere, tracerOf}
 use Rattle.trace.specs.declared.take.Taken.{Taken}
 
 module _ (image m : List ℕ) (p : ℕ) where

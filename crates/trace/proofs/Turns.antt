@@ -10,7 +10,7 @@ use Rattle.operand.specs.declared.answer.CutOff.{CutOff}
 use Rattle.instruction.specs.Decode.{cutAt}
 use Rattle.reach.specs.Queue.{TakenUp}
 use Rattle.trace.specs.Run.{Turned}
-use Rattle.trace.specs.Tracer.{tracerOf}
+use Rattle.marking.specs.Tracer.{tracerOf}
 use Rattle.ways.specs.At.{fitsHere}
 use Rattle.trace.specs.declared.run.Turn.the-variants.{On, Off}
 

@@ -15,7 +15,7 @@ use Rattle.reach.specs.Mark.{cleared, tracedMark, count}
 use Rattle.reach.specs.Queue.{TakenUp}
 use Rattle.reach.specs.Run.{End, finished, stopped, cutOff, Outcome, steps, noted, ordered, runOf}
 use Rattle.trace.specs.Start.{sizeRefusals}
-use Rattle.trace.specs.Tracer.{tracerOf}
+use Rattle.marking.specs.Tracer.{tracerOf}
 use Rattle.ways.specs.At.{fitsHere}
 use Rattle.trace.specs.declared.run.Turn.{Turn}
 use Rattle.trace.specs.declared.run.Turn.the-variants.{On, Off}

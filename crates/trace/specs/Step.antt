@@ -12,7 +12,7 @@ use Rattle.operand.specs.CutOff.{cutValues}
 use Rattle.instruction.specs.Decode.{cutAt}
 use Rattle.reach.specs.Tracer.{targets, mark, took, found}
 use Rattle.trace.specs.Start.{sizeRefusals}
-use Rattle.trace.specs.Tracer.{tracerOf}
+use Rattle.marking.specs.Tracer.{tracerOf}
 use Rattle.ways.specs.At.{fitsHere, flashHere}
 use Rattle.trace.specs.declared.damage.Hurt.{Hurt}
 use Rattle.trace.specs.declared.damage.Hurt.the-variants.{Sound, At}

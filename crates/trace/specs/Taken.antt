@@ -5,7 +5,7 @@ use mathlib.Core.List.{List}
 use mathlib.Core.Path.{_≡_}
 use Rattle.ways.specs.Ways.{placesIn}
 use Rattle.reach.specs.Tracer.{mark, took, found}
-use Rattle.trace.specs.Tracer.{tracerOf}
+use Rattle.marking.specs.Tracer.{tracerOf}
 use Rattle.trace.specs.declared.take.Taken.{Taken}
 
 -- the position p taken up, with the marks m before and m′ after: its mark, what it found, and the marks

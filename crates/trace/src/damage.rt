@@ -9,7 +9,7 @@ ghost use Rattle.operand.specs.Answer.{judge};
 ghost use Rattle.trace.specs.Step.{damaged, damages, damageRefusals, hurtOf};
 ghost use Rattle.ways.specs.Ways.{placesIn};
 ghost use Rattle.ways.specs.At.{waysHere};
-use crate::mark::Mark;
+use marking::Mark;
 use ways::Places;
 
 pub enum Hurt {

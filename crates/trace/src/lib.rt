@@ -2,21 +2,15 @@
 // Ported from src/disasm.rs of wtetzner/waterbear (Apache-2.0, see NOTICE), and changed: the marks take the place of the graph's map of
 // instructions, and a lent list that of its worklist.
 mod damage;
-pub mod exempt;
-pub mod mark;
 mod note;
 mod queue;
 pub mod run;
 pub mod start;
 pub mod step;
 mod take;
-pub mod wipe;
 
-pub use exempt::is_exempt;
-pub use mark::Mark;
 pub use run::Counts;
 pub use run::Ran;
 pub use start::Started;
 pub use step::Advance;
 pub use step::Stepped;
-pub use wipe::clear;

@@ -6,8 +6,7 @@ ghost use Prim.Native.Nat.{_+_, _≤_, _<_};
 ghost use lib.ListN.{length};
 ghost use Rattle.reach.specs.Tracer.{found};
 ghost use Rattle.trace.specs.Run.{ranOf, runAnswer, runMarks, runOrder, RanTo, StepsTied, Turned};
-ghost use Rattle.trace.specs.Tracer.{tracerOf};
-use crate::note;
+ghost use Rattle.marking.specs.Tracer.{tracerOf};
 use crate::queue;
 use crate::take;
 use operand::CutOff;
@@ -72,7 +71,7 @@ fn run_on(image: &[u8], marks: &mut [u8], order: &mut [u32], entries: &[u32], li
     ensures { λ r. ⌜ RanTo (now (image .entry)) (now (marks .entry)) (now (order .entry)) (now (entries .entry)) limit r (now (marks .exit)) (now (order .exit)) ⌝ }
 {
     let n = image.len();
-    note::clear(marks, n);
+    marking::clear(marks, n);
     let most = limit as usize;
     let mut tail = queue::put_entries(marks, order, n, entries);
     let mut head: usize = 0;

@@ -41,6 +41,6 @@ pub fn start(image: &[u8], marks: &mut [u8], entries: &[u32]) -> Started
     if marks.len() < n {
         return Started::ShortMarks(marks.len());
     }
-    note::clear(marks, n);
+    marking::clear(marks, n);
     Started::Set(note_entries(marks, n, entries) as u32)
 }

@@ -7,9 +7,8 @@ ghost use mathlib.Core.List.{[], _∷_};
 ghost use Rattle.ways.specs.Ways.{placesIn};
 ghost use Rattle.trace.specs.Taken.{TakenUp};
 ghost use Rattle.ways.specs.At.{waysHere};
-use crate::exempt;
-use crate::mark::Mark;
 use crate::note;
+use marking::Mark;
 use ways::Places;
 
 pub struct Taken {
@@ -60,7 +59,7 @@ pub fn take_up(image: &[u8], marks: &mut [u8], p: u32, to: Places) -> Taken
 {
     let n = image.len();
     let at = p as usize;
-    if exempt::is_exempt(image, marks, p) {
+    if marking::is_exempt(image, marks, p) {
         marks[at] = Mark::FLASH;
         return Taken {
             mark: Mark::FLASH,

@@ -15,7 +15,7 @@ use Rattle.instruction_laws.proofs.Accepting.{passed}
 use Rattle.reach.specs.Takes.{Ready}
 use Rattle.reach.specs.Tracer.{targets, took}
 use Rattle.trace.specs.Step.{idle, damaged, damages, damageRefusals, stepRefusals, Said, saidOf, stepAnswer, stepMarks}
-use Rattle.trace.specs.Tracer.{tracerOf}
+use Rattle.marking.specs.Tracer.{tracerOf}
 use Rattle.ways.specs.At.{fitsHere, flashHere}
 use Rattle.trace.proofs.StepAnswers.{idle-marks, whole}
 

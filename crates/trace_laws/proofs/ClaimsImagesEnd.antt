@@ -14,7 +14,7 @@ use Rattle.reach.proofs.Count.{count-under}
 use Rattle.reach.proofs.Took.{count-took}
 use Rattle.trace_laws.specs.ClaimsImages.{Steps, stay, further, Still, ImageCanEnd}
 use Rattle.trace.specs.Step.{Said, stepAnswer, stepMarks}
-use Rattle.trace.specs.Tracer.{tracerOf}
+use Rattle.marking.specs.Tracer.{tracerOf}
 use Rattle.trace_laws.proofs.Accepted.{went}
 
 module _ (image : List ℕ) where

@@ -24,7 +24,7 @@ use Rattle.trace_laws.specs.ClaimsImages as claims
 use Rattle.trace.specs.Run.{outcomeOf}
 use Rattle.trace.specs.Start.{startAnswer, startMarks}
 use Rattle.trace.specs.Step.{saidOf}
-use Rattle.trace.specs.Tracer.{tracerOf}
+use Rattle.marking.specs.Tracer.{tracerOf}
 use Rattle.trace_laws.proofs.Accepted.{went, Sound, ready-accepted}
 use Rattle.trace_laws.proofs.Unflashed.{plain}
 

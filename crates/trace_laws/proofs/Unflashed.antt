@@ -11,7 +11,7 @@ use borrow.Author.Tests.{eqb-true, ltb-true, ltb-false}
 use Rattle.instruction.specs.Forms.{numberOf}
 use Rattle.reach.specs.ClaimsOrder.{Plain}
 use Rattle.trace_laws.specs.ClaimsImages.{Bytes, Clean}
-use Rattle.trace.specs.Tracer.{tracerOf, exemptHere}
+use Rattle.marking.specs.Tracer.{tracerOf, exemptHere}
 use Rattle.ways.specs.At.{formHere, flashHere}
 use Rattle.ways.proofs.Ands.{first-part, second-part}
 use Rattle.ways.proofs.Jmpf.{jmpf-by-byte, two-before}

@@ -12,7 +12,7 @@ use Rattle.reach.specs.Run.{finished}
 use Rattle.trace.specs.Run.{outcomeOf}
 use Rattle.trace.specs.Start.{startAnswer, startMarks}
 use Rattle.trace.specs.Step.{Said, stepAnswer, stepMarks}
-use Rattle.trace.specs.Tracer.{tracerOf}
+use Rattle.marking.specs.Tracer.{tracerOf}
 
 -- an image is a list of bytes
 abbrev pub Bytes : List ℕ → Type 0

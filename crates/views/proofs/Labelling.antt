@@ -11,8 +11,8 @@ use lib.ListN.{length, getD, set, take, drop, replicate, length-map, length-repl
 use lib.Seq.{getD-set-same, getD-set-other, getD-take, ext-getD, length-take-le, drop-set-lt, drop-at}
 use borrow.Author.Tests.{le-ltb, ltb-true, ltb-false, eqb-true, eqb-false}
 use Rattle.reach.specs.Mark.{cleared, tracedMark}
-use Rattle.trace.specs.Clear.{wiped}
-use Rattle.trace.specs.Tracer.{exemptHere}
+use Rattle.marking.specs.Clear.{wiped}
+use Rattle.marking.specs.Tracer.{exemptHere}
 use Rattle.ways.specs.Ways.{nameOf}
 use Rattle.sight.specs.Positions.{upFrom, positions, some, bit}
 use Rattle.sight.proofs.Ors.{or-second, or-start}

@@ -8,7 +8,7 @@ use lib.Dec.{eqb, ltb}
 use lib.ListN.{getD, set}
 use Rattle.ways.specs.Ways.{nameOf}
 use Rattle.reach.specs.Mark.{tracedMark}
-use Rattle.trace.specs.Tracer.{exemptHere}
+use Rattle.marking.specs.Tracer.{exemptHere}
 use Rattle.sight.specs.Positions.{positions, some, bit}
 
 -- what the position p names if it is traced and not under the exception; 65,536 is outside every image

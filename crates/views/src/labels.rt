@@ -6,8 +6,8 @@ ghost use Prim.Native.Nat.{_≤_, _<_};
 ghost use lib.ListN.{length, drop};
 ghost use Rattle.sight.specs.View.{viewedOf, viewAnswer, viewRoom};
 ghost use Rattle.views.specs.Labels.{labelsOf, namedFrom, labelAt};
+use marking::Mark;
 use sight::Viewed;
-use trace::Mark;
 use ways::Image;
 
 // What a traced position names, or a position outside every image.
@@ -18,7 +18,7 @@ fn named_from(image: &[u8], marks: &[u8], p: u32) -> u32
     if !Mark::is_traced(marks[p as usize]) {
         return Image::NOWHERE;
     }
-    if trace::is_exempt(image, marks, p) {
+    if marking::is_exempt(image, marks, p) {
         return Image::NOWHERE;
     }
     ways::name_at(image, p)
@@ -40,7 +40,7 @@ fn write_labels(image: &[u8], marks: &[u8], room: &mut [u8])
     ensures { λ _. ⌜ now (room .exit) ≡ labelsOf (now (image .entry)) (now (marks .entry)) ++ drop (length (now (image .entry))) (now (room .entry)) ⌝ }
 {
     let n = image.len();
-    trace::clear(room, n);
+    marking::clear(room, n);
     let mut p: usize = 0;
     while p < n {
         let t = named_from(image, marks, p as u32);

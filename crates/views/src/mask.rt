@@ -6,8 +6,8 @@ ghost use Prim.Native.Nat.{_≤_, _<_};
 ghost use lib.ListN.{length, drop};
 ghost use Rattle.sight.specs.View.{viewedOf, viewAnswer, viewRoom};
 ghost use Rattle.views.specs.Mask.{maskOf, endWith};
+use marking::Mark;
 use sight::Viewed;
-use trace::Mark;
 
 // Where the code up to and with p ends, if what stands before p ends there.
 fn end_with(image: &[u8], marks: &[u8], p: u32, end: usize) -> usize

@@ -17,7 +17,7 @@ use Rattle.reach.specs.ClaimsOrder.{Final}
 use Rattle.reach.specs.Mark.{traced, flash, tracedMark, cleared}
 use Rattle.reach.specs.Reach.{Reach}
 use Rattle.reach.proofs.Cleared.{cleared-at}
-use Rattle.trace.specs.Tracer.{tracerOf}
+use Rattle.marking.specs.Tracer.{tracerOf}
 use Rattle.trace_laws.proofs.ClaimsImagesOrder.{image-run-final}
 use Rattle.sight.specs.Positions.{bit, tracedAt}
 use Rattle.sight.proofs.Ups.{up-at}

@@ -20,7 +20,7 @@ use Rattle.reach.specs.Note.{isOpen, note, fresh}
 use Rattle.reach.specs.Run.{runFrom, runOf}
 use Rattle.reach.specs.Tracer.{targets, mark, took, found}
 use Rattle.trace.specs.Run.{outcomeOf, runMarks, runOrder}
-use Rattle.trace.specs.Tracer.{exemptHere}
+use Rattle.marking.specs.Tracer.{exemptHere}
 use Rattle.sight.specs.Positions.{upFrom, some}
 use Rattle.views.specs.Labels.{labelled, labelsOf}
 use Rattle.views_laws.specs.Edges.{Edges}

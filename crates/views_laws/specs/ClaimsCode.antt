@@ -10,7 +10,7 @@ use Rattle.operand.specs.Answer.{accepted}
 use Rattle.ways.specs.At.{sizeHere, fitsHere, waysHere}
 use Rattle.reach.specs.Reach.{Reach}
 use Rattle.trace.specs.Run.{Said, runAnswer, runMarks}
-use Rattle.trace.specs.Tracer.{tracerOf}
+use Rattle.marking.specs.Tracer.{tracerOf}
 use Rattle.trace_laws.specs.ClaimsImages.{Bytes, Clean}
 use Rattle.views.specs.Mask.{maskOf}
 

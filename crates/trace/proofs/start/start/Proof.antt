@@ -1,12 +1,13 @@
 -- `start::start` meets its contract.
 -- Assumes nothing.
-use mathlib.Core.Path.{_≡_}
+use mathlib.Core.Path.{_≡_, _∙_}
 use Prim.Native.Nat.{_≤_}
 use native.Mathlib.Omega.{arith}
 use borrow.Author.Needs.{needs}
 use lib.ListN.{length}
 use Rattle.reach.specs.Note.{fresh}
 use Rattle.reach.proofs.FreshCount.{fresh-le}
+use Rattle.marking.proofs.Clearing.{wiped-is}
 use Rattle.trace.proofs.Starting.{long, short, set}
 use Rattle.trace.proofs.start.start.Statement.{statement}
 use Rattle.trace.proofs.start.start.Tie as tie
@@ -45,7 +46,7 @@ returns-3 c =
     let d = o .before .before .before .before in
     let e = d .before .before in
     let a = entry (e .before) .args in
-    set (a .image .now) (a .marks .now) (a .entries .now) (e .before .if1 .left) (e .if2 .left) (d .clear .last .0) (d .clear .ensures) (o .note-entries .result) _ (o .note-entries .ensures)
+    set (a .image .now) (a .marks .now) (a .entries .now) (e .before .if1 .left) (e .if2 .left) (d .clear .last .0) (d .clear .ensures ∙ wiped-is _ (a .marks .now) (e .if2 .left)) (o .note-entries .result) _ (o .note-entries .ensures)
 
 pub start-spec : {M : Type 1} → statement M
 start-spec =

@@ -3,9 +3,9 @@
 use lib.ListN.{length}
 use borrow.Author.Needs.{needs}
 use borrow.Author.Tests.{lt-ltb, le-ltb}
-use Rattle.trace.specs.Clear.{wiped}
-use Rattle.trace.proofs.wipe.clear.Statement.{statement}
-use Rattle.trace.proofs.wipe.clear.Tie as tie
+use Rattle.marking.specs.Clear.{wiped}
+use Rattle.marking.proofs.wipe.clear.Statement.{statement}
+use Rattle.marking.proofs.wipe.clear.Tie as tie
 
 returns : tie.Need-returns
 unfolding wiped
@@ -16,7 +16,7 @@ unfolding wiped
 returns-2 c =
     let k = c .before .before in
     let e = k .before .before in
-    rw (le-ltb (length (e .before .before .args .room .now)) (e .before .before .args .n) (e .if1 .left)) (k .clear .ensures)
+    rw (le-ltb (length (e .before .before .args .room .now)) (e .before .before .args .n) (e .if1 .left)) (k .clear-all .ensures)
 
 pub clear-spec : {M : Type 1} → statement M
 clear-spec = tie.close (tie.spec returns (λ c κs. search needs) (λ c. search needs) returns-2)

@@ -1,4 +1,4 @@
--- `note::clear` meets its contract: the marks passed are cleared.
+-- `wipe::clear_all` meets its contract: the bytes passed are cleared.
 -- Assumes nothing.
 use mathlib.Core.Path.{_≡_, refl, ap, _∙_}
 use Prim.Native.Nat.{_≤_, _-_}
@@ -7,20 +7,20 @@ use native.Mathlib.Nat.{le-antisymm}
 use lib.ListN.{length, length-set}
 use Rattle.reach.specs.Mark.{cleared}
 use Rattle.reach.proofs.Cleared.{cleared-none, cleared-more}
-use Rattle.trace.proofs.note.clear.Statement.{statement}
-use Rattle.trace.proofs.note.clear.Tie as tie
+use Rattle.marking.proofs.wipe.clear_all.Statement.{statement}
+use Rattle.marking.proofs.wipe.clear_all.Tie as tie
 
 abbrev Inv-loop : tie.InvT-loop
-Inv-loop marks₀ n i₀ marks i = (i ≤ n) × (length marks ≡ length marks₀) × (marks ≡ cleared i marks₀)
+Inv-loop room₀ n i₀ room i = (i ≤ n) × (length room ≡ length room₀) × (room ≡ cleared i room₀)
 
 abbrev μ-loop : tie.MeasureT-loop
-μ-loop marks₀ n i₀ marks i = n - i
+μ-loop room₀ n i₀ room i = n - i
 
 loop-holds : tie.Need-loop-holds Inv-loop μ-loop
 loop-holds c = (omega arith, refl, cleared-none _)
 
-slice-write-marks : tie.Need-slice-write-marks Inv-loop μ-loop
-slice-write-marks c = omega arith
+slice-write-room : tie.Need-slice-write-room Inv-loop μ-loop
+slice-write-room c = omega arith
 
 add-i : tie.Need-add-i Inv-loop μ-loop
 add-i c = omega arith
@@ -37,7 +37,7 @@ same-length : tie.Need-same-length Inv-loop μ-loop
 same-length c = c .before .loop .inv .1
 
 returns : tie.Need-returns Inv-loop μ-loop
-returns c = c .before .loop .inv .2 ∙ ap (λ n. cleared n (c .before .before .args .marks .now)) (le-antisymm (c .before .loop .inv .0) (c .loop-test .left))
+returns c = c .before .loop .inv .2 ∙ ap (λ n. cleared n (c .before .before .args .room .now)) (le-antisymm (c .before .loop .inv .0) (c .loop-test .left))
 
-pub clear-spec : {M : Type 1} → statement M
-clear-spec = tie.close (tie.spec Inv-loop μ-loop loop-holds slice-write-marks add-i loop-less loop-again same-length returns)
+pub clear-all-spec : {M : Type 1} → statement M
+clear-all-spec = tie.close (tie.spec Inv-loop μ-loop loop-holds slice-write-room add-i loop-less loop-again same-length returns)

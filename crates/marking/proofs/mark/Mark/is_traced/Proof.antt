@@ -5,8 +5,8 @@ use mathlib.Core.Bool.{Bool, _||_}
 use lib.Dec.{eqb}
 use borrow.Author.Tests.{eq-eqb, ne-eqb}
 use Rattle.reach.specs.Mark.{flash, tracedMark}
-use Rattle.trace.proofs.mark.Mark.is_traced.Statement.{statement}
-use Rattle.trace.proofs.mark.Mark.is_traced.Tie as tie
+use Rattle.marking.proofs.mark.Mark.is_traced.Statement.{statement}
+use Rattle.marking.proofs.mark.Mark.is_traced.Tie as tie
 
 returns : tie.Need-returns
 unfolding tracedMark

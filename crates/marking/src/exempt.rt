@@ -1,6 +1,6 @@
 // The exception: a Jmpf with no target.
 ghost use mathlib.Core.Path.{_≡_};
-ghost use Rattle.trace.specs.Tracer.{exemptHere};
+ghost use Rattle.marking.specs.Tracer.{exemptHere};
 use crate::mark::Mark;
 
 // Whether a Jmpf stands at p with B8 0D before it, where these marks say that p - 2 is traced.

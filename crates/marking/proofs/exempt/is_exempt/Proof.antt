@@ -10,9 +10,9 @@ use Rattle.ways.specs.At.{flashHere}
 use Rattle.ways.proofs.Ands.{not-first, not-second}
 use Rattle.ways.proofs.Jmpf.{two-before}
 use Rattle.reach.specs.Mark.{tracedMark}
-use Rattle.trace.specs.Tracer.{exemptHere}
-use Rattle.trace.proofs.exempt.is_exempt.Statement.{statement}
-use Rattle.trace.proofs.exempt.is_exempt.Tie as tie
+use Rattle.marking.specs.Tracer.{exemptHere}
+use Rattle.marking.proofs.exempt.is_exempt.Statement.{statement}
+use Rattle.marking.proofs.exempt.is_exempt.Tie as tie
 
 abbrev start : tie.After-is-flash → tie.Start
 start c = c .before .before .before

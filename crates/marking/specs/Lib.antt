@@ -1,0 +1,2 @@
+pub mod Tracer
+pub mod Clear
