@@ -1,7 +1,6 @@
 pub mod Every
-pub mod Table
 pub mod Rest
-pub mod Rows
+pub mod Bytes
 pub mod Known
 pub mod Shapes
 pub mod Reading

@@ -123,8 +123,3 @@ matching (w ∷ ws) x = let k : ℕ = matching ws x in cond (agrees (getD (bits 
 
 unfoldable pub formOf : ℕ → ℕ
 formOf x = matching forms x
-
--- the shape with a number, in the order of their declaration
-unfoldable pub shapeAt : ℕ → Shape
-shapeAt n =
-    getD (Bare ∷ Imm ∷ D9 ∷ Ri ∷ ImmD9 ∷ ImmRi ∷ D9B3 ∷ A12 ∷ A16 ∷ R16 ∷ R8 ∷ D9B3R8 ∷ D9R8 ∷ RiR8 ∷ ImmR8 ∷ RiImmR8 ∷ []) n Bare

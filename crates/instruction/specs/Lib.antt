@@ -1,6 +1,7 @@
 pub mod Forms
 pub mod Parts
 pub mod Grid
+pub mod Eights
 pub mod Decode
 pub mod Encode
 pub mod Resolve

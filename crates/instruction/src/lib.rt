@@ -3,10 +3,10 @@
 // derived functions are a table and fields written out, and every answer is an enum.
 mod build;
 pub mod decode;
+mod eights;
 pub mod encode;
 pub mod flow;
 mod form;
-mod grid;
 pub mod instr;
 pub mod mnemonic;
 pub mod resolve;

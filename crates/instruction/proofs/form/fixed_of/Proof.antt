@@ -1,19 +1,24 @@
--- `form::fixed_of` meets its contract: antt computes the fixed bits of each pattern and compares the list with the table.
+-- `form::fixed_of` meets its contract.
 -- Assumes nothing.
-use mathlib.Core.List.{[]}
-use lib.ListN.{getD, List·getD-map}
+use mathlib.Core.Path.{_≡_}
+use Prim.Native.Nat.{ℕ, _*_, _/_, _%_, _^_, _<_}
+use native.Mathlib.Omega.{arith}
 use borrow.Author.Needs.{needs}
-use Rattle.instruction.specs.Forms.{forms, formAt, bits}
-use Rattle.field.specs.Pattern.{value, pattern, bytesOf, onto, given, next}
+use Rattle.field.specs.Pattern.{pattern, bytesOf, onto, given, next}
+use Rattle.instruction.specs.Eights.{eight, fixedAt}
+use Rattle.instruction.specs.Forms.{forms, formAt}
+use Rattle.instruction.proofs.Bytes.{read}
 use Rattle.instruction.proofs.form.fixed_of.Statement.{statement}
 use Rattle.instruction.proofs.form.fixed_of.Tie as tie
 
-array-read-result : tie.Need-array-read-result
-array-read-result c = search needs
+there : (k w r : ℕ) → k < 70 → w ≡ eight fixedAt (k / 8) → r ≡ w / 2 ^ (8 * (k % 8)) % 256 → r ≡ fixedAt k
+unfolding fixedAt formAt forms pattern bytesOf onto given next
+there k w r h = read fixedAt 9 tt k (omega arith) w r
 
 returns : tie.Need-returns
-unfolding formAt forms pattern bytesOf onto given next
-returns c = List·getD-map (λ w. value (getD (bits w) 0 []) []) forms (c .args .form) _
+unfolding fixedAt
+returns c =
+    let f = c .before in there (f .before .args .form) _ _ (f .before .pre) (f .fixed .ensures) (c .byte-of .ensures)
 
 pub fixed-of-spec : {M : Type 1} → statement M
-fixed-of-spec = tie.close (tie.spec array-read-result returns)
+fixed-of-spec = tie.close (tie.spec (λ c κs. search needs) (λ c κs. search needs) returns)

@@ -1,36 +1,27 @@
--- `form::shape_of` meets its contract: antt compares the operands of each form with the table.
+-- `form::shape_of` meets its contract.
 -- Assumes nothing.
-use mathlib.Core.Path.{_≡_, refl, ap, _∙_}
-use Prim.Native.Nat.{ℕ, _<_}
+use mathlib.Core.Path.{_≡_, refl, ap, sym, subst, _∙_}
+use mathlib.Core.List.{[], _∷_}
+use Prim.Native.Nat.{ℕ, _*_, _/_, _%_, _^_, _<_}
+use native.Mathlib.Omega.{arith}
 use lib.Dec.{lit<}
-use lib.ListN.{List·getD-map}
+use lib.ListN.{getD}
 use borrow.Author.Needs.{needs}
 use Rattle.operand.specs.declared.kind.Shape.{Shape}
 use Rattle.operand.specs.declared.kind.Shape.the-variants.{Bare, Imm, D9, Ri, ImmD9, ImmRi, D9B3, A12, A16, R16, R8, D9B3R8, D9R8, RiR8, ImmR8, RiImmR8}
-use Rattle.instruction.specs.Forms.{forms, formAt, shapeAt}
+use Rattle.instruction.specs.Eights.{eight, place, placeAt}
+use Rattle.instruction.specs.Forms.{forms, formAt}
+use Rattle.instruction.proofs.Bytes.{read}
 use Rattle.instruction.proofs.form.shape_of.Statement.{statement}
 use Rattle.instruction.proofs.form.shape_of.Tie as tie
 
-place : Shape → ℕ
-place Bare = 0
-place Imm = 1
-place D9 = 2
-place Ri = 3
-place ImmD9 = 4
-place ImmRi = 5
-place D9B3 = 6
-place A12 = 7
-place A16 = 8
-place R16 = 9
-place R8 = 10
-place D9B3R8 = 11
-place D9R8 = 12
-place RiR8 = 13
-place ImmR8 = 14
-place RiImmR8 = 15
+-- the shape with a place
+back : ℕ → Shape
+back n =
+    getD (Bare ∷ Imm ∷ D9 ∷ Ri ∷ ImmD9 ∷ ImmRi ∷ D9B3 ∷ A12 ∷ A16 ∷ R16 ∷ R8 ∷ D9B3R8 ∷ D9R8 ∷ RiR8 ∷ ImmR8 ∷ RiImmR8 ∷ []) n Bare
 
-shown : (s : Shape) → (place s < 16) × (shapeAt (place s) ≡ s)
-unfolding place shapeAt
+shown : (s : Shape) → (place s < 16) × (back (place s) ≡ s)
+unfolding back
 shown Bare = (lit< tt, refl)
 shown Imm = (lit< tt, refl)
 shown D9 = (lit< tt, refl)
@@ -48,21 +39,23 @@ shown RiR8 = (lit< tt, refl)
 shown ImmR8 = (lit< tt, refl)
 shown RiImmR8 = (lit< tt, refl)
 
-small : (k n : ℕ) → n ≡ place (formAt k .shape) → n < 16
-small k n e = rw e (shown (formAt k .shape) .0)
+same : (s t : Shape) → place s ≡ place t → s ≡ t
+same s t e = sym (shown s .1) ∙ ap back e ∙ shown t .1
 
-array-read-numbered : tie.Need-array-read-numbered
-array-read-numbered c = search needs
+there : (k w r : ℕ) → k < 70 → w ≡ eight placeAt (k / 8) → r ≡ w / 2 ^ (8 * (k % 8)) % 256 → r ≡ placeAt k
+unfolding placeAt formAt forms
+there k w r h = read placeAt 9 tt k (omega arith) w r
+
+read-place : (c : tie.After-byte-of) → c .byte-of .result ≡ place (formAt (c .before .before .args .form) .shape)
+unfolding placeAt
+read-place c =
+    let s = c .before in there (s .before .args .form) _ _ (s .before .pre) (s .shapes .ensures) (c .byte-of .ensures)
 
 numbered-requires : tie.Need-numbered-requires
-unfolding formAt forms place
-numbered-requires c κs = small (c .args .form) _ (List·getD-map (λ w. place (w .shape)) forms (c .args .form) _)
+numbered-requires c κs = subst (λ (n : ℕ). n < 16) (sym (read-place c)) (shown (formAt (c .before .before .args .form) .shape) .0)
 
 returns : tie.Need-returns
-unfolding formAt forms place
-returns c =
-    let k : ℕ = c .before .args .form in
-    c .numbered .ensures ∙ ap shapeAt (List·getD-map (λ w. place (w .shape)) forms k _) ∙ shown (formAt k .shape) .1
+returns c = same _ _ (sym (c .numbered .ensures) ∙ read-place (c .before))
 
 pub shape-of-spec : {M : Type 1} → statement M
-shape-of-spec = tie.close (tie.spec array-read-numbered numbered-requires returns)
+shape-of-spec = tie.close (tie.spec (λ c κs. search needs) (λ c κs. search needs) numbered-requires returns)

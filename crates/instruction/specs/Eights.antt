@@ -1,0 +1,50 @@
+-- Bytes of a table in words of eight, the first lowest. Document 02, W4.
+-- Assumes nothing.
+use Prim.Native.Nat.{ℕ, zero, suc, _+_, _*_, _/_, _%_}
+use mathlib.Core.List.{[]}
+use lib.ListN.{getD}
+use Rattle.field.specs.Pattern.{value}
+use Rattle.operand.specs.declared.kind.Shape.{Shape}
+use Rattle.operand.specs.declared.kind.Shape.the-variants.{Bare, Imm, D9, Ri, ImmD9, ImmRi, D9B3, A12, A16, R16, R8, D9B3R8, D9R8, RiR8, ImmR8, RiImmR8}
+use Rattle.instruction.specs.Forms.{formAt, bits}
+use Rattle.instruction.specs.Grid.{entry}
+
+-- n bytes of the table f from its place k on
+abbrev pub bytesFrom : (ℕ → ℕ) → ℕ → ℕ → ℕ
+bytesFrom f zero k = 0
+bytesFrom f (suc n) k = f k + 256 * bytesFrom f n (suc k)
+
+-- its word with a number
+unfoldable pub eight : (ℕ → ℕ) → ℕ → ℕ
+eight f w = bytesFrom f 8 (8 * w)
+
+-- the forms by first byte: column after column of sixteen rows each
+unfoldable pub byColumn : ℕ → ℕ
+byColumn k = entry (k % 16) (k / 16)
+
+-- the fixed bits of the first byte of a form
+unfoldable pub fixedAt : ℕ → ℕ
+fixedAt k = value (getD (bits (formAt k)) 0 []) []
+
+-- a shape's place in the order of their declaration
+abbrev pub place : Shape → ℕ
+place Bare = 0
+place Imm = 1
+place D9 = 2
+place Ri = 3
+place ImmD9 = 4
+place ImmRi = 5
+place D9B3 = 6
+place A12 = 7
+place A16 = 8
+place R16 = 9
+place R8 = 10
+place D9B3R8 = 11
+place D9R8 = 12
+place RiR8 = 13
+place ImmR8 = 14
+place RiImmR8 = 15
+
+-- that of the operands of a form
+unfoldable pub placeAt : ℕ → ℕ
+placeAt k = place (formAt k .shape)
