@@ -1,4 +1,4 @@
--- What is asked of a packed map. Change request W3, and refusals 1, 11, 17 in this order: the queries lend the image's length and the words.
+-- What is asked of a packed map. Document 02, W3, and refusals 1, 11, 17 in this order: the queries lend the image's length and the words.
 -- Assumes nothing.
 use Prim.Native.Nat.{ℕ, _-_}
 use mathlib.Core.Bool.{Bool, _||_}

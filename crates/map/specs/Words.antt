@@ -1,4 +1,4 @@
--- The packed map. Change request W3: one bit per image byte in 64-bit words, bit 0 of word 0 for position 0, and zero bits past the image.
+-- The packed map. Document 02, W3: one bit per image byte in 64-bit words, bit 0 of word 0 for position 0, and zero bits past the image.
 -- Assumes nothing.
 use Prim.Native.Nat.{ℕ, _+_, _/_, _%_, _<_, _≤_}
 use mathlib.Core.Bool.{Bool, true, not}

@@ -1,4 +1,4 @@
--- What is claimed of a packed map. Change request W3: 'a map built before a step and then updated equals the one built afresh, and each answer
+-- What is claimed of a packed map. Document 02, W3: 'a map built before a step and then updated equals the one built afresh, and each answer
 -- over a built map equals the one worked out from the byte mask'.
 -- Assumes nothing.
 use Prim.Native.Nat.{ℕ, _+_, _*_, _-_, _<_, _≤_}

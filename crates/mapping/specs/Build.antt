@@ -1,4 +1,4 @@
--- The map built from the marks. Change request W3, and refusals 1, 2, 6, 11 in the order of a view: what is shown is the packing of the byte
+-- The map built from the marks. Document 02, W3, and refusals 1, 2, 6, 11 in the order of a view: what is shown is the packing of the byte
 -- mask, and 11 carries how many words are needed.
 -- Assumes nothing.
 use Prim.Native.Nat.{ℕ}

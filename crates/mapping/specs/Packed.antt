@@ -1,4 +1,4 @@
--- The packing of a byte mask, and bits set in it. Change request W3: one bit per image byte in 64-bit words, bit 0 of word 0 for position 0,
+-- The packing of a byte mask, and bits set in it. Document 02, W3: one bit per image byte in 64-bit words, bit 0 of word 0 for position 0,
 -- and zero bits past the image.
 -- Assumes nothing.
 use Prim.Native.Nat.{ℕ, zero, suc, _+_, _*_, _/_, _%_}

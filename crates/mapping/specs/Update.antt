@@ -1,4 +1,4 @@
--- The map kept up after a step. Change request W3, and refusals 1, 2, 6, 11, 17 in this order: 17 for a position that is not inside the image or
+-- The map kept up after a step. Document 02, W3, and refusals 1, 2, 6, 11, 17 in this order: 17 for a position that is not inside the image or
 -- is untraced. Damage is that of a view, anywhere.
 -- Assumes nothing.
 use Prim.Native.Nat.{ℕ}

@@ -1,4 +1,4 @@
--- The bits of a 64-bit word. Change request W3, 'A packed map beside the mask': bit 0 is the lowest.
+-- The bits of a 64-bit word. Document 02, W3, 'A packed map beside the mask': bit 0 is the lowest.
 -- Assumes nothing.
 use Prim.Native.Nat.{ℕ, zero, suc, _+_, _*_, _/_, _%_, _^_}
 use mathlib.Core.Bool.{Bool, true, false, cond, not, _&&_, _||_}
