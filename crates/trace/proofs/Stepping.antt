@@ -12,7 +12,6 @@ use Rattle.trace.specs.Step.{damageRefusals, Said, saidOf, steppedOf}
 use Rattle.trace.specs.Taken.{TakenUp}
 use Rattle.ways.specs.Ways.{placesIn}
 use Rattle.marking.specs.Tracer.{tracerOf}
-use Rattle.ways.specs.declared.here.Here.{Here}
 use Rattle.trace.specs.declared.step.Advance.{Advance}
 use Rattle.trace.specs.declared.step.Stepped.the-variants.{Traced}
 use Rattle.trace.specs.declared.take.Taken.{Taken}
