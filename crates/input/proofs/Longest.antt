@@ -10,9 +10,10 @@ use lib.Dec.{ltb}
 use lib.IntN.{pos}
 use lib.ListN.{length, length-map}
 use borrow.Author.Tests.{ltb-false, not-false}
-use Rattle.operand.specs.Answer.{Answer, accepted, refused, Refusal, judge}
-use Rattle.operand.proofs.Judging.{pass, stop, first-of}
-use Rattle.operand.proofs.Sign.{never}
+use Rattle.operand.specs.Answer.{Answer, accepted, refused, judge}
+use Rattle.operand.proofs.Judging.{first-of}
+use Rattle.operand.proofs.Accepting.{passed}
+use Rattle.operand.proofs.Neither.{neither}
 use Rattle.text.specs.Bytes.{bytesOf, isBytes}
 use Rattle.text.specs.Cut.{lines, fields}
 use Rattle.text.specs.Four.{fourOf}
@@ -25,31 +26,16 @@ use Rattle.input.specs.declared.parsed.Input.{Input}
 use Rattle.input.proofs.Totals.{total, all-there, with-first, longest-first}
 use Rattle.input.proofs.Turns.{more-bytes, no-bytes}
 
--- where all is accepted, the first test does not hold
-passed : (r : Refusal) (rs : List Refusal) (c d : Input) → judge (r ∷ rs) c ≡ accepted d → (r .holds ≡ false) × (judge rs c ≡ accepted d)
-passed r rs c d e = by (r .holds) refl
-  where
-    by : (t : Bool) → r .holds ≡ t → (r .holds ≡ false) × (judge rs c ≡ accepted d)
-    by true f = let g = sym (stop r rs c f) ∙ e in let z : _≡_ {A = ℕ} 0 1 = cc in absurd (omega arith)
-    by false f = (f, sym (pass r rs c f) ∙ e)
-
-or-left : (a b : Bool) → (a || b) ≡ false → a ≡ false
-or-left true b e = absurd (never e)
-or-left false b e = refl
-
-or-right : (a b : Bool) → (a || b) ≡ false → b ≡ false
-or-right true b e = absurd (never e)
-or-right false b e = e
-
 -- a line of n bytes takes at most 3 * n bytes
 pub image-most : (k n : ℕ) (ls : List (List ℕ)) (c d : Input) → n ≤ 16384 → judge (imageRefusals k n ls) c ≡ accepted d → (total ls + n * 3 ≤ 49152) × (n + length (bytesIn ls) ≤ 16384)
 unfolding imageRefusals
 image-most k n [] c d h e = (omega arith, omega (arith, ap length no-bytes))
 image-most k n (l ∷ ls) c d h e =
     let m = length (bytesOf l) in
-    let p = passed _ _ c d e in
-    let g = not-false (isBytes 32 l) (or-left (not (isBytes 32 l)) (ltb 16384 (n + m)) (p .0)) in
-    let o = ltb-false 16384 (n + m) (or-right (not (isBytes 32 l)) (ltb 16384 (n + m)) (p .0)) in
+    let p = passed _ _ c e in
+    let t = neither (not (isBytes 32 l)) (ltb 16384 (n + m)) (p .0) in
+    let g = not-false (isBytes 32 l) (t .0) in
+    let o = ltb-false 16384 (n + m) (t .1) in
     let r = image-most (suc k) (n + m) ls c d o (p .1) in
     let b = bytes-parts 32 l g in
     (omega (arith, r .0, b .0, b .1), omega (arith, r .1, more-bytes l ls))
@@ -58,7 +44,7 @@ module _ (text : List ℕ) (v : Valid text) where
   parts : (isEntries (entryLine text) ≡ true) × (judge (imageRefusals 2 0 (imageLines text)) (countsOf text) ≡ accepted (countsOf text))
   unfolding lineRefusals
   parts =
-      let p = passed _ _ (countsOf text) (countsOf text) v in (not-false (isEntries (entryLine text)) (p .0), p .1)
+      let p = passed _ _ (countsOf text) v in (not-false (isEntries (entryLine text)) (p .0), p .1)
 
   most-image : (total (imageLines text) + 0 * 3 ≤ 49152) × (0 + length (bytesIn (imageLines text)) ≤ 16384)
   most-image = image-most 2 0 (imageLines text) (countsOf text) (countsOf text) (omega arith) (parts .1)

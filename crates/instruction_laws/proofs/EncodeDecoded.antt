@@ -16,7 +16,7 @@ use Rattle.instruction.proofs.Encoding.{writes}
 use Rattle.instruction.proofs.Reading.{make3}
 use Rattle.instruction.proofs.Shapes.{sized, size-range}
 use Rattle.instruction_laws.specs.RoundTrips.{Stands, EncodeDecoded}
-use Rattle.instruction_laws.proofs.Accepting.{passed, ended}
+use Rattle.operand.proofs.Accepting.{passed, ended}
 use Rattle.instruction_laws.proofs.AllBytes.{bytes, firsts}
 use Rattle.instruction_laws.proofs.FormReads.{formFirst, FormReads, form-reads}
 use Rattle.instruction_laws.proofs.Numbers.{shapeOf, fit-by, bytes-by}

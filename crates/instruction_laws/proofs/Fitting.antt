@@ -9,7 +9,7 @@ use Rattle.instruction.specs.declared.instr.Instr.{Instr}
 use Rattle.instruction.specs.declared.instr.Parts.{Parts}
 use Rattle.instruction.proofs.Known.{known}
 use Rattle.instruction_laws.specs.PartsMade.{usedIn}
-use Rattle.instruction_laws.proofs.Accepting.{passed}
+use Rattle.operand.proofs.Accepting.{passed}
 use Rattle.instruction_laws.proofs.EveryKind.{law}
 use Rattle.instruction_laws.proofs.Numbers.{shapeOf, Numbers}
 use Rattle.instruction_laws.proofs.PartsMade.{parted}

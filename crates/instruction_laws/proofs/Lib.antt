@@ -11,7 +11,6 @@ pub mod Forth
 pub mod Back
 pub mod Filled
 pub mod AllBytes
-pub mod Accepting
 pub mod FormReads
 pub mod Fitting
 pub mod EncodedBytes

@@ -20,7 +20,7 @@ use Rattle.instruction.proofs.Encoding.{fits}
 use Rattle.instruction.proofs.Known.{known}
 use Rattle.instruction_laws.specs.PartsMade.{used, usedIn}
 use Rattle.instruction_laws.specs.Resolving.{ResolvedFits}
-use Rattle.instruction_laws.proofs.Accepting.{passed, ended}
+use Rattle.operand.proofs.Accepting.{passed, ended}
 use Rattle.instruction_laws.proofs.EveryKind.{law}
 use Rattle.instruction_laws.proofs.Fields.{limit}
 use Rattle.instruction_laws.proofs.Numbers.{shapeOf}

@@ -9,7 +9,7 @@ use lib.Dec.{ltb}
 use lib.ListN.{length, getD, drop, List·getD-append}
 use borrow.Author.Tests.{lt-ltb, le-ltb, ltb-false}
 use Rattle.operand.specs.Answer.{Answer, accepted, Refusal, judge}
-use Rattle.instruction_laws.proofs.Accepting.{passed}
+use Rattle.operand.proofs.Accepting.{passed}
 use Rattle.word.specs.Bits.{one}
 use Rattle.word.proofs.Digits.{one-digits}
 use Rattle.map.specs.Words.{wordsFor, codeAt}

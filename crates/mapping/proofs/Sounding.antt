@@ -10,7 +10,7 @@ use lib.ListN.{length, getD}
 use borrow.Author.Tests.{eqb-true, eqb-false, leb-true}
 use Rattle.operand.specs.Answer.{Answer, accepted, Refusal, judge}
 use Rattle.operand.proofs.Sign.{never}
-use Rattle.instruction_laws.proofs.Accepting.{passed}
+use Rattle.operand.proofs.Accepting.{passed}
 use Rattle.ways.specs.At.{sizeHere, fitsHere}
 use Rattle.reach.specs.Mark.{tracedMark}
 use Rattle.trace.specs.Step.{damaged}

@@ -1,11 +1,11 @@
 -- Stepping through a list of refusals.
 -- Assumes nothing.
-use mathlib.Core.Path.{_≡_, refl, _∙_}
+use mathlib.Core.Path.{_≡_, refl, subst, _∙_}
 use mathlib.Core.Bool.{Bool, true, false, cond}
 use Prim.Native.Nat.{ℕ}
 use native.Mathlib.Omega.{arith}
 use lib.IntN.{ℤ}
-use mathlib.Core.List.{List, [], _∷_, _++_}
+use mathlib.Core.List.{List, [], _∷_, _++_, append-nil}
 use Rattle.operand.specs.Answer.{accepted, refused, Refusal, judge}
 
 module _ {A : Type 0} where
@@ -59,6 +59,14 @@ module _ {A B : Type 0} (qs : List Refusal) (a : A) (b : B) where
       by : (t : Bool) → r .holds ≡ t → cond t (refused (r .number) (r .values)) (judge rs a) ≡ accepted a → (judge rs a ≡ accepted a → judge (rs ++ qs) b ≡ judge qs b) → judge (r ∷ (rs ++ qs)) b ≡ judge qs b
       by true p f rest = let z : _≡_ {A = ℕ} 0 1 = cc in absurd (omega arith)
       by false p f rest = pass r (rs ++ qs) b p ∙ rest f
+
+-- a list of refusals speaks alike, whatever the value
+module _ {A B : Type 0} (rs : List Refusal) (a : A) (b : B) where
+  pub refuses-too : (n : ℕ) (vs : List ℤ) → judge rs a ≡ refused n vs → judge rs b ≡ refused n vs
+  refuses-too n vs e = subst (λ (qs : List Refusal). judge qs b ≡ refused n vs) (append-nil rs) (first-of [] a b rs n vs e)
+
+  pub accepts-too : judge rs a ≡ accepted a → judge rs b ≡ accepted b
+  accepts-too e = subst (λ (qs : List Refusal). judge qs b ≡ accepted b) (append-nil rs) (past-all [] a b rs e ∙ done b)
 
 -- what is accepted is the value
 pub accepts : {A : Type 0} (rs : List Refusal) (a b : A) → judge rs a ≡ accepted b → a ≡ b

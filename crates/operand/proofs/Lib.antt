@@ -1,2 +1,5 @@
 pub mod Sign
+pub mod Neither
 pub mod Judging
+pub mod Accepting
+pub mod Carried

@@ -1,3 +1,3 @@
 pub mod Wider
 pub mod Told
-pub mod Carried
+pub mod Fitting

@@ -18,7 +18,7 @@ use Rattle.ways.specs.Targets.{nextOf, targetsOf, targetsAnswer}
 use Rattle.ways.specs.declared.target.Targets.{Targets}
 use Rattle.ways.specs.declared.target.Targets.the-variants as targets
 use Rattle.reply_codec.specs.Counts.{countIn, nextIn}
-use Rattle.reply.proofs.Carried.{carries}
+use Rattle.operand.proofs.Carried.{carries}
 
 pub size-small : (i : Instr) → sizeOf (formIn i) < 2 ^ 63
 size-small i = let h : sizeOf (formIn i) < 4 = size-range (partsOf i .form) (known i .small) .1 in omega arith

@@ -1,18 +1,17 @@
 -- The lengths that the answers of the packed map carry are those of lent slices and of the words needed: each fits a value of a reply.
 -- Assumes nothing.
 use mathlib.Core.Path.{_≡_, refl, sym}
-use mathlib.Core.Bool.{Bool, false}
+use mathlib.Core.Bool.{Bool}
 use mathlib.Core.List.{List, [], _∷_}
 use Prim.Native.Nat.{ℕ, _<_, _^_}
 use native.Mathlib.Omega.{arith}
-use lib.Dec.{eqb}
-use lib.IntN.{ℤ, pos}
+use lib.IntN.{pos}
 use lib.ListN.{length}
 use Rattle.operand.specs.Answer.{Refusal, judge}
 use Rattle.operand.proofs.Judging.{accepts}
-use Rattle.operand.proofs.Sign.{never}
-use Rattle.sight.specs.Positions.{positions}
-use Rattle.sight.specs.View.{damageIn, viewRefusals, roomAnswer, viewAnswer}
+use Rattle.operand.proofs.Carried.{Each, each-append, carries}
+use Rattle.sight.specs.View.{viewRefusals, roomAnswer, viewAnswer}
+use Rattle.sight.proofs.Carrying.{view-each}
 use Rattle.views.specs.Mask.{maskOf}
 use Rattle.ways.specs.At.{sizeHere}
 use Rattle.map.specs.Words.{wordsFor}
@@ -25,15 +24,8 @@ use Rattle.mapping.specs.Update.{updatedOf, updateAnswer}
 use Rattle.mapping.specs.declared.update.Updated.{Updated}
 use Rattle.mapping.specs.declared.update.Updated.the-variants as updated
 use Rattle.mapping.proofs.Marking.{packed-length}
-use Rattle.reply.proofs.Carried.{Each, each-append, carries}
+use Rattle.reply.proofs.Fitting.{Fits, this, six}
 use Rattle.reply_map.specs.Counts.{lengthInAsked, lengthInUpdated}
-
--- the one value of every refusal but 6 fits
-abbrev Fits : ℕ → List ℤ → Type 0
-Fits n vs = eqb n 6 ≡ false → (k : ℕ) → vs ≡ pos k ∷ [] → k < 2 ^ 63
-
-this : (n : ℕ) {a : ℕ} → a < 2 ^ 63 → Fits n (pos a ∷ [])
-this n {a} h g k e = let p : a ≡ k = cc in rw (← p) h
 
 few-words : {n : ℕ} → n < 2 ^ 63 → wordsFor n < 2 ^ 63
 few-words h = omega arith
@@ -58,21 +50,16 @@ answer-small rs v each h (updated.Damaged p) e = omega arith
 answer-small rs v each h (updated.NoRoom n) e = carries Fits _ _ 11 (pos n ∷ []) each e refl n refl
 answer-small rs v each h (updated.Outside p) e = omega arith
 
-damage-each : (image m ps : List ℕ) → Each Fits (damageIn image m ps)
-damage-each image m [] = tt
-damage-each image m (p ∷ ps) = (λ g k e. absurd (never g), damage-each image m ps)
-
 module _ (image m : List ℕ) (i : length image < 2 ^ 63) (k : length m < 2 ^ 63) (ws : List ℕ) where
-  view-each : Each Fits (viewRefusals image m)
-  unfolding viewRefusals
-  view-each = (this 1 i, (this 2 k, damage-each image m (positions image)))
+  viewed : Each Fits (viewRefusals image m)
+  viewed = view-each Fits six image m (this 1 i) (this 2 k)
 
   pub built-small : (u : Updated) → updatedOf u ≡ buildAnswer image m ws → lengthInUpdated u < 2 ^ 63
   unfolding viewAnswer roomAnswer
   built-small =
       let o : length (packed (maskOf image m)) < 2 ^ 63 = rw (packed-length image m) (few-words i) in
-      answer-small _ _ (each-append Fits (viewRefusals image m) _ view-each (this 11 o, tt)) o
+      answer-small _ _ (each-append Fits (viewRefusals image m) _ viewed (this 11 o, tt)) o
 
   pub updated-small : (p : ℕ) → p < 2 ^ 63 → sizeHere image p < 2 ^ 63 → (u : Updated) → updatedOf u ≡ updateAnswer image m ws p → lengthInUpdated u < 2 ^ 63
   unfolding updateAnswer
-  updated-small p h s = answer-small _ _ (each-append Fits (viewRefusals image m) _ view-each (this 11 (few-words i), (this 17 h, tt))) s
+  updated-small p h s = answer-small _ _ (each-append Fits (viewRefusals image m) _ viewed (this 11 (few-words i), (this 17 h, tt))) s

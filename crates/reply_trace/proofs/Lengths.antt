@@ -18,7 +18,7 @@ use Rattle.trace.specs.declared.start.Started.the-variants as started
 use Rattle.trace.specs.declared.step.Stepped.{Stepped}
 use Rattle.trace.specs.declared.step.Stepped.the-variants as stepped
 use Rattle.reply_trace.specs.Counts.{lengthInStarted, lengthInStepped, lengthInRan}
-use Rattle.reply.proofs.Carried.{Each, carries}
+use Rattle.operand.proofs.Carried.{Each, carries}
 
 -- the one value of a refusal below 4 fits
 abbrev Small : ℕ → List ℤ → Type 0

@@ -1,41 +1,29 @@
 -- The lengths that the views' answers carry are those of lent slices and of what is shown: each fits a value of a reply.
 -- Assumes nothing.
 use mathlib.Core.Path.{_≡_, refl, sym, _∙_}
-use mathlib.Core.Bool.{false}
 use mathlib.Core.List.{List, [], _∷_, _++_}
 use mathlib.Core.Logic.{⊎-elim}
 use Prim.Native.Nat.{ℕ, _+_, _<_, _≤_, _^_}
 use native.Mathlib.Omega.{arith}
-use lib.Dec.{eqb, ltb}
-use lib.IntN.{ℤ, pos}
+use lib.Dec.{ltb}
+use lib.IntN.{pos}
 use lib.ListN.{length}
 use Rattle.operand.specs.Answer.{Refusal, refuse}
 use Rattle.operand.proofs.Judging.{accepts}
-use Rattle.operand.proofs.Sign.{never}
+use Rattle.operand.proofs.Carried.{Each, each-append, carries}
 use Rattle.reach.proofs.Cases.{lt-or-le}
 use Rattle.trace.proofs.Sizing.{long-image}
 use Rattle.trace_laws.specs.ClaimsImages.{Bytes}
-use Rattle.sight.specs.Positions.{positions}
-use Rattle.sight.specs.View.{damageIn, viewRefusals, viewedOf, roomAnswer, viewAnswer}
+use Rattle.sight.specs.View.{viewRefusals, viewedOf, roomAnswer, viewAnswer}
 use Rattle.sight.specs.declared.view.Viewed.{Viewed}
 use Rattle.sight.specs.declared.view.Viewed.the-variants.{Written, LongImage, ShortMarks, Damaged, NoRoom}
+use Rattle.sight.proofs.Carrying.{view-each}
 use Rattle.listing.specs.Walk.{listingOf}
 use Rattle.listing.specs.declared.tabbed.Arrivals.{Arrivals}
 use Rattle.listing.specs.declared.tabbed.Arrivals.the-variants.{Chosen, Declined}
 use Rattle.listing_laws.proofs.ClaimsRoomBound.{listing-bound, chosen-bound}
+use Rattle.reply.proofs.Fitting.{Fits, this, six}
 use Rattle.reply_views.specs.Counts.{lengthInViewed}
-use Rattle.reply.proofs.Carried.{Each, each-append, carries}
-
--- the one value of every refusal but 6 fits
-abbrev Fits : ℕ → List ℤ → Type 0
-Fits n vs = eqb n 6 ≡ false → (k : ℕ) → vs ≡ pos k ∷ [] → k < 2 ^ 63
-
-this : (n : ℕ) {a : ℕ} → a < 2 ^ 63 → Fits n (pos a ∷ [])
-this n {a} h g k e = let p : a ≡ k = cc in rw (← p) h
-
-damage-each : (image m ps : List ℕ) → Each Fits (damageIn image m ps)
-damage-each image m [] = tt
-damage-each image m (p ∷ ps) = (λ g k e. absurd (never g), damage-each image m ps)
 
 -- what is shown in a room after refusals whose values fit
 module _ (rs : List Refusal) (each : Each Fits rs) (out room : List ℕ) (o : length out < 2 ^ 63) where
@@ -51,13 +39,9 @@ module _ (rs : List Refusal) (each : Each Fits rs) (out room : List ℕ) (o : le
   room-small (NoRoom n) e = carries Fits _ _ 11 (pos n ∷ []) room-each e refl n refl
 
 module _ (image m : List ℕ) (i : length image < 2 ^ 63) (k : length m < 2 ^ 63) where
-  view-each : Each Fits (viewRefusals image m)
-  unfolding viewRefusals
-  view-each = (this 1 i, (this 2 k, damage-each image m (positions image)))
-
   pub viewed-small : (out room : List ℕ) → length out < 2 ^ 63 → (v : Viewed) → viewedOf v ≡ viewAnswer image m out room → lengthInViewed v < 2 ^ 63
   unfolding viewAnswer
-  viewed-small out room o = room-small (viewRefusals image m) view-each out room o
+  viewed-small out room o = room-small (viewRefusals image m) (view-each Fits six image m (this 1 i) (this 2 k)) out room o
 
   -- an image past its limit is refused whatever is shown, so that the length of that counts only within the limit
   past-limit : (out room : List ℕ) → 65536 < length image → viewAnswer image m out room ≡ viewAnswer image m [] room

@@ -8,3 +8,4 @@ pub mod Fronts
 pub mod Kept
 pub mod Laid
 pub mod TracedAt
+pub mod Carrying

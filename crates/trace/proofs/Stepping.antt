@@ -1,12 +1,12 @@
 -- The one answer of step and the one content of its marks, from the tests of the code.
 -- Assumes nothing.
-use mathlib.Core.Path.{_≡_, refl, sym, ap, ap₂, subst, _∙_}
-use mathlib.Core.List.{List, [], _∷_, append-nil}
+use mathlib.Core.Path.{_≡_, refl, sym, ap, ap₂, _∙_}
+use mathlib.Core.List.{List, [], _∷_}
 use Prim.Native.Nat.{ℕ}
-use lib.IntN.{ℤ, pos}
+use lib.IntN.{pos}
 use lib.ListN.{length}
-use Rattle.operand.specs.Answer.{Answer, accepted, refused, Refusal, judge, after}
-use Rattle.operand.proofs.Judging.{done, first-of, past-all}
+use Rattle.operand.specs.Answer.{Answer, accepted, refused, judge, after}
+use Rattle.operand.proofs.Judging.{refuses-too, accepts-too}
 use Rattle.reach.specs.Tracer.{took}
 use Rattle.trace.specs.Step.{damageRefusals, Said, saidOf, steppedOf}
 use Rattle.trace.specs.Taken.{TakenUp}
@@ -15,14 +15,6 @@ use Rattle.marking.specs.Tracer.{tracerOf}
 use Rattle.trace.specs.declared.step.Advance.{Advance}
 use Rattle.trace.specs.declared.step.Stepped.the-variants.{Traced}
 use Rattle.trace.specs.declared.take.Taken.{Taken}
-
--- a list of refusals speaks alike, whatever the value
-module _ {A B : Type 0} (rs : List Refusal) (a : A) (b : B) where
-  refuses-too : (n : ℕ) (vs : List ℤ) → judge rs a ≡ refused n vs → judge rs b ≡ refused n vs
-  refuses-too n vs e = subst (λ (qs : List Refusal). judge qs b ≡ refused n vs) (append-nil rs) (first-of [] a b rs n vs e)
-
-  accepts-too : judge rs a ≡ accepted a → judge rs b ≡ accepted b
-  accepts-too e = subst (λ (qs : List Refusal). judge qs b ≡ accepted b) (append-nil rs) (past-all [] a b rs e ∙ done b)
 
 module _ (image m : List ℕ) (p : ℕ) where
   abbrev taken : List ℕ

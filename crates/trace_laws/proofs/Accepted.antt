@@ -11,12 +11,13 @@ use borrow.Author.Tests.{le-ltb, ltb-true, ltb-false, leb-false, eqb-true, eqb-f
 use Rattle.operand.specs.Answer.{Answer, accepted, judge, after}
 use Rattle.operand.proofs.Judging.{pass, done}
 use Rattle.operand.proofs.Sign.{never}
-use Rattle.instruction_laws.proofs.Accepting.{passed}
+use Rattle.operand.proofs.Accepting.{passed}
 use Rattle.reach.specs.Takes.{Ready}
 use Rattle.reach.specs.Tracer.{targets, took}
 use Rattle.trace.specs.Step.{idle, damaged, damages, damageRefusals, stepRefusals, Said, saidOf, stepAnswer, stepMarks}
 use Rattle.marking.specs.Tracer.{tracerOf}
 use Rattle.ways.specs.At.{fitsHere, flashHere}
+use Rattle.ways.proofs.Ands.{not-second}
 use Rattle.trace.proofs.StepAnswers.{idle-marks, whole}
 
 -- what an accepted step says
@@ -58,10 +59,6 @@ went image m p s e =
 abbrev pub Sound : List ℕ → List ℕ → Type 0
 Sound image m = (q : ℕ) → q < length image → getD m q 0 ≤ 3
 
-and-false : (a b : Bool) → b ≡ false → (a && b) ≡ false
-and-false true b e = e
-and-false false b e = refl
-
 module _ (image m : List ℕ) (S : Sound image m) where
   no-damage : {A : Type 0} (a : A) (ts : List ℕ) → judge (damages (length image) m ts) a ≡ accepted a
   unfolding damages
@@ -69,14 +66,14 @@ module _ (image m : List ℕ) (S : Sound image m) where
   no-damage a (t ∷ ts) = pass _ _ _ (by (ltb t (length image)) refl) ∙ no-damage a ts
     where
       by : (b : Bool) → ltb t (length image) ≡ b → (ltb t (length image) && damaged (getD m t 0)) ≡ false
-      by true e = and-false (ltb t (length image)) (damaged (getD m t 0)) (le-ltb 3 (getD m t 0) (S t (ltb-true t (length image) e)))
+      by true e = not-second (ltb t (length image)) (damaged (getD m t 0)) (le-ltb 3 (getD m t 0) (S t (ltb-true t (length image) e)))
       by false e = rw e
 
   sound-said : (p : ℕ) → p < length image → judge (damageRefusals image m p) (saidOf image m p) ≡ accepted (saidOf image m p)
   unfolding damageRefusals
   sound-said p h =
       let k : p - 2 < length image = omega arith in
-      pass _ _ _ (and-false (flashHere image p) (damaged (getD m (p - 2) 0)) (le-ltb 3 (getD m (p - 2) 0) (S (p - 2) k))) ∙ no-damage (saidOf image m p) (targets (tracerOf image) m p)
+      pass _ _ _ (not-second (flashHere image p) (damaged (getD m (p - 2) 0)) (le-ltb 3 (getD m (p - 2) 0) (S (p - 2) k))) ∙ no-damage (saidOf image m p) (targets (tracerOf image) m p)
 
   pub ready-accepted : length image ≤ 65536 → length image ≤ length m → (p : ℕ) → Ready (tracerOf image) m p → stepAnswer image m p ≡ accepted (saidOf image m p)
   ready-accepted s l p r =

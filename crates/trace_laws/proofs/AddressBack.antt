@@ -16,7 +16,7 @@ use Rattle.field.specs.Code.{codeOf}
 use Rattle.field.specs.Resolve.{noAddress, top, wrapped, operandRefusals, fieldOf}
 use Rattle.field.proofs.Resolving.{address-is, wraps-is}
 use Rattle.instruction_laws.specs.PartsMade.{used}
-use Rattle.instruction_laws.proofs.Accepting.{passed}
+use Rattle.operand.proofs.Accepting.{passed}
 use Rattle.ways.specs.Targets.{addressOf}
 
 -- a sum that wraps undoes a difference that wraps

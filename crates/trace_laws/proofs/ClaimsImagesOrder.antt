@@ -8,7 +8,7 @@ use mathlib.Core.List.{List}
 use lib.ListN.{length, getD}
 use borrow.Author.Tests.{ltb-false}
 use Rattle.operand.specs.Answer.{Answer, accepted, after}
-use Rattle.instruction_laws.proofs.Accepting.{passed}
+use Rattle.operand.proofs.Accepting.{passed}
 use Rattle.reach.specs.Mark.{cleared, IsTraced}
 use Rattle.reach.specs.Note.{note}
 use Rattle.reach.specs.Takes.{Takes, stay, up, ToEnd}

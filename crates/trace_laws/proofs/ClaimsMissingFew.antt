@@ -14,7 +14,7 @@ use Rattle.operand.proofs.Judging.{other-passed, this-spoke, done}
 use Rattle.operand.proofs.Sign.{never}
 use Rattle.instruction.specs.Decode.{cutAt}
 use Rattle.instruction_laws.specs.Missing.{OneOrTwo}
-use Rattle.instruction_laws.proofs.Accepting.{passed}
+use Rattle.operand.proofs.Accepting.{passed}
 use Rattle.instruction_laws.proofs.Missing.{cut-missing}
 use Rattle.reach.specs.Mark.{cleared}
 use Rattle.reach.specs.Run.{End, finished, stopped, cutOff, steps, noted}

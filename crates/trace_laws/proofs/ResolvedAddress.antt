@@ -19,7 +19,7 @@ use Rattle.instruction.specs.declared.instr.Parts.{Parts}
 use Rattle.instruction.proofs.Known.{known}
 use Rattle.instruction.proofs.Shapes.{size-range}
 use Rattle.instruction_laws.specs.PartsMade.{used, usedIn}
-use Rattle.instruction_laws.proofs.Accepting.{passed}
+use Rattle.operand.proofs.Accepting.{passed}
 use Rattle.instruction_laws.proofs.PartsMade.{parted}
 use Rattle.trace_laws.specs.ClaimsTargets.{lastIn}
 use Rattle.ways.specs.Targets.{addressOf, addressIn}

@@ -18,7 +18,7 @@ use Rattle.reading.specs.Order.{start, placeAfter}
 use Rattle.restoring.specs.Sheet.{Sheet, blank, noted}
 use Rattle.reading.specs.declared.place.Place.{Place}
 use Rattle.restoring.proofs.Counting.{lines-few, after-most, accepted-short}
-use Rattle.reply.proofs.Carried.{Each, carries}
+use Rattle.operand.proofs.Carried.{Each, carries}
 use Rattle.refusals.specs.Decimal.{width}
 use Rattle.unlister.specs.Unlisted.{valueOf, zeros, printed, unlistedOf}
 use Rattle.unlister.proofs.Lines.{image-length}

@@ -6,7 +6,7 @@ use Rattle.operand.specs.Answer.{accepted}
 use Rattle.instruction.specs.Encode.{fitAnswer}
 use Rattle.instruction.specs.declared.instr.Instr.{Instr}
 use Rattle.instruction.proofs.Encoding.{Unfit1, Unfit2, Unfit3}
-use Rattle.instruction_laws.proofs.Accepting.{passed}
+use Rattle.operand.proofs.Accepting.{passed}
 
 pub record InRange (i : Instr) : Type 0 where
   pub first : Unfit1 i false
