@@ -1,61 +1,51 @@
 -- `ask::count` meets its contract.
 -- Assumes nothing.
-use mathlib.Core.Path.{_≡_, ap, _∙_}
-use mathlib.Core.Bool.{Bool, true, false, _||_}
+use mathlib.Core.Path.{sym, _∙_}
+use mathlib.Core.Bool.{Bool, _||_}
+use native.Mathlib.Omega.{arith}
 use borrow.Author.Needs.{needs}
-use borrow.Author.Tests.{lt-ltb, le-ltb}
+use borrow.Author.Tests.{not-true, not-false, ltb-false}
 use lib.Dec.{ltb}
+use Rattle.operand.proofs.Neither.{neither}
 use Rattle.map.specs.Ask.{countAnswer}
-use Rattle.map.proofs.Asking.{long, no-room, outside, told}
+use Rattle.map.proofs.Asking.{Good, good, refused-all, told-all}
 use Rattle.map.proofs.ask.count.Statement.{statement}
 use Rattle.map.proofs.ask.count.Tie as tie
 
-first : (a b : Bool) → a ≡ true → (a || b) ≡ true
-first a b e = ap (λ (t : Bool). t || b) e
+abbrev start : tie.After-is-told → tie.Start
+start c = c .before .before .before
 
-second : (a b : Bool) → a ≡ false → (a || b) ≡ b
-second a b e = ap (λ (t : Bool). t || b) e
+abbrev out : tie.After-is-told → Bool
+out c = let a = start c .args in ltb (a .end) (a .begin) || ltb (a .length) (a .end)
 
 returns : tie.Need-returns
 unfolding countAnswer
-returns c = let a = c .before .before .args in long (a .words .now) (a .length) _ (a .begin) _ (c .if1 .taken)
+returns c =
+    let w = c .before in
+    let a = start w .args in
+    refused-all (a .words .now) (a .length) (out w) (a .begin) _ (w .before .check .result) (w .before .check .ensures) (sym (w .is-told .ensures) ∙ not-true _ (c .if1 .taken))
+
+accepted : (c : tie.Else1) → let a = start (c .before) .args in Good (a .words .now) (a .length) (out (c .before))
+accepted c =
+    let w = c .before in
+    let a = start w .args in
+    good (a .words .now) (a .length) (out w) (a .begin) (w .before .check .result) (w .before .check .ensures) (sym (w .is-told .ensures) ∙ not-false _ (c .if1 .left))
+
+ones-in-requires : tie.Need-ones-in-requires
+ones-in-requires c κs =
+    let a = start (c .before) .args in
+    let g = accepted c in
+    let t = neither (ltb (a .end) (a .begin)) (ltb (a .length) (a .end)) (g .inside) in
+    let h = ltb-false (a .length) (a .end) (t .1) in
+    (ltb-false (a .end) (a .begin) (t .0), omega (arith, g .room), omega (arith, g .fits))
 
 returns-2 : tie.Need-returns-2
 unfolding countAnswer
 returns-2 c =
     let e = c .before in
-    let a = e .before .before .args in
-    no-room (a .words .now) (a .length) _ (a .begin) _ (e .if1 .left) (c .if2 .taken)
-
-returns-3 : tie.Need-returns-3
-unfolding countAnswer
-returns-3 c =
-    let r = c .before in
-    let e = r .before in
-    let a = e .before .before .args in
-    outside (a .words .now) (a .length) _ (a .begin) _ (e .if1 .left) (r .if2 .left) (first (ltb (a .end) (a .begin)) _ (lt-ltb (a .end) (a .begin) (c .if3 .taken)))
-
-returns-4 : tie.Need-returns-4
-unfolding countAnswer
-returns-4 c =
-    let o = c .before in
-    let r = o .before in
-    let e = r .before in
-    let a = e .before .before .args in
-    outside (a .words .now) (a .length) _ (a .begin) _ (e .if1 .left) (r .if2 .left)
-    (second (ltb (a .end) (a .begin)) _ (le-ltb (a .end) (a .begin) (o .if3 .left)) ∙ lt-ltb (a .length) (a .end) (c .if4 .taken))
-
-returns-5 : tie.Need-returns-5
-unfolding countAnswer
-returns-5 c =
-    let i = c .before in
-    let o = i .before in
-    let r = o .before in
-    let e = r .before in
-    let a = e .before .before .args in
-    told (a .words .now) (a .length) _ (a .begin) _ (e .if1 .left) (r .if2 .left) _ (c .ones-in .ensures)
-    (second (ltb (a .end) (a .begin)) _ (le-ltb (a .end) (a .begin) (o .if3 .left)) ∙ le-ltb (a .length) (a .end) (i .if4 .left))
+    let w = e .before in
+    let a = start w .args in
+    told-all (a .words .now) (a .length) (out w) (a .begin) _ (accepted e) _ (c .ones-in .ensures)
 
 pub count-spec : {M : Type 1} → statement M
-count-spec =
-    tie.close (tie.spec returns (λ c. search needs) returns-2 returns-3 returns-4 (λ c κs. search needs) returns-5)
+count-spec = tie.close (tie.spec (λ c κs. search needs) (λ c κs. search needs) returns ones-in-requires returns-2)
