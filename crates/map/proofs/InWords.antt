@@ -1,6 +1,6 @@
 -- The positions of a map and the bits of its words.
 -- Assumes nothing.
-use mathlib.Core.Path.{_≡_, refl, sym, ap, ap₂, _∙_}
+use mathlib.Core.Path.{_≡_, sym, ap, ap₂, _∙_}
 use mathlib.Core.Bool.{Bool, true, false, not, _&&_}
 use mathlib.Core.List.{List}
 use Prim.Native.Nat.{ℕ, _+_, _*_, _-_, _/_, _%_, _^_, _<_, _≤_}
@@ -9,19 +9,11 @@ use lib.Count.{ones}
 use lib.Dec.{ltb, leb}
 use lib.ListN.{getD}
 use borrow.Author.Tests.{lt-ltb, le-ltb, le-leb, lt-leb, leb-true}
-use Rattle.operand.proofs.Sign.{never}
+use Rattle.ways.proofs.Ands.{not-second, first-alone, first-part, second-part}
 use Rattle.word.specs.Bits.{one, between, countIn, onesBetween, firstZero}
 use Rattle.word.proofs.Digits.{digits-all, ones-digits}
 use Rattle.map.specs.Words.{codeAt, dataAt}
 use Rattle.map.proofs.Runs.{count-add, count-none, count-moved, first-in, first-before, first-hit}
-
-and-false : (a b : Bool) → b ≡ false → (a && b) ≡ false
-and-false true b e = e
-and-false false b e = refl
-
-and-true : (a b : Bool) → b ≡ true → (a && b) ≡ a
-and-true true b e = e
-and-true false b e = refl
 
 module _ (ws : List ℕ) where
   -- bit i of word j
@@ -48,14 +40,14 @@ module _ (ws : List ℕ) where
         f i = one w i && between a e i
 
         before : (i : ℕ) → 0 ≤ i → i < 0 + a → f i ≡ false
-        before i l m = and-false (one w i) (between a e i) (ap (λ (b : Bool). b && ltb i e) (lt-leb a i (omega arith)))
+        before i l m = not-second (one w i) (between a e i) (ap (λ (b : Bool). b && ltb i e) (lt-leb a i (omega arith)))
 
         past : (i : ℕ) → 0 + a + (e - a) ≤ i → i < 0 + a + (e - a) + (64 - e) → f i ≡ false
-        past i l m = and-false (one w i) (between a e i) (and-false (leb a i) (ltb i e) (le-ltb i e (omega arith)))
+        past i l m = not-second (one w i) (between a e i) (not-second (leb a i) (ltb i e) (le-ltb i e (omega arith)))
 
         inside : (i : ℕ) → i < e - a → f (0 + a + i) ≡ codeAt ws (64 * j + a + i)
         inside i l =
-            and-true (one w (0 + a + i)) (between a e (0 + a + i)) (ap₂ (λ (b c : Bool). b && c) (le-leb a (0 + a + i) (omega arith)) (lt-ltb (0 + a + i) e (omega arith)))
+            first-alone (one w (0 + a + i)) (between a e (0 + a + i)) (ap₂ (λ (b c : Bool). b && c) (le-leb a (0 + a + i) (omega arith)) (lt-ltb (0 + a + i) e (omega arith)))
             ∙ sym (bit-at j (0 + a + i) (omega arith))
             ∙ ap (codeAt ws) (let g : 64 * j + (0 + a + i) ≡ 64 * j + a + i = omega arith in g)
 
@@ -95,14 +87,10 @@ module _ (ws : List ℕ) where
     unfolding firstZero
     hits h = first-hit (λ (k : ℕ). leb (q % 64) k && not (one (getD ws (q / 64) 0) k)) 64 0 (omega arith)
 
-    both : (a b : Bool) → (a && b) ≡ true → (a ≡ true) × (b ≡ true)
-    both true b e = (refl, e)
-    both false b e = absurd (never (sym e))
-
     pub hit-from : zero-bit < 64 → q ≤ base + zero-bit
-    hit-from h = let k = leb-true (q % 64) zero-bit (both (leb (q % 64) zero-bit) (not (one (getD ws (q / 64) 0) zero-bit)) (hits h) .0) in omega arith
+    hit-from h = let k = leb-true (q % 64) zero-bit (first-part (leb (q % 64) zero-bit) (not (one (getD ws (q / 64) 0) zero-bit)) (hits h)) in omega arith
 
     pub hit-data : zero-bit < 64 → dataAt ws (base + zero-bit) ≡ true
     hit-data h =
         ap not (at-word (base + zero-bit) (omega arith) (omega arith) ∙ ap (one (getD ws (q / 64) 0)) (let e : base + zero-bit - base ≡ zero-bit = omega arith in e))
-        ∙ both (leb (q % 64) zero-bit) (not (one (getD ws (q / 64) 0) zero-bit)) (hits h) .1
+        ∙ second-part (leb (q % 64) zero-bit) (not (one (getD ws (q / 64) 0) zero-bit)) (hits h)

@@ -7,7 +7,7 @@ use native.Mathlib.Omega.{arith}
 use lib.Dec.{eqb}
 use borrow.Author.Tests.{eqb-true, eqb-false}
 use Rattle.operand.proofs.Sign.{never}
-use Rattle.word.specs.Bits.{digit, countIn, firstIn}
+use Rattle.word.specs.Bits.{bit, countIn, firstIn}
 use Rattle.word.proofs.Digits.{digit-le}
 
 pub count-add : (f : ℕ → Bool) (i j p : ℕ) → countIn f (i + j) p ≡ countIn f i p + countIn f j (p + i)
@@ -16,22 +16,22 @@ count-add f zero j p =
     ap₂ (λ (k q : ℕ). countIn f k q) (let e : 0 + j ≡ j = omega arith in e) (let e : p ≡ p + 0 = omega arith in e) ∙ (let e : countIn f j (p + 0) ≡ 0 + countIn f j (p + 0) = omega arith in e)
 count-add f (suc i) j p =
     ap (λ (k : ℕ). countIn f k p) (let e : suc i + j ≡ suc (i + j) = omega arith in e)
-    ∙ ap (λ (x : ℕ). digit (f p) + x) (count-add f i j (suc p))
-    ∙ (let e : digit (f p) + (countIn f i (suc p) + countIn f j (suc p + i)) ≡ digit (f p) + countIn f i (suc p) + countIn f j (suc p + i) = omega arith in e)
-    ∙ ap (λ (q : ℕ). digit (f p) + countIn f i (suc p) + countIn f j q) (let e : suc p + i ≡ p + suc i = omega arith in e)
+    ∙ ap (λ (x : ℕ). bit (f p) + x) (count-add f i j (suc p))
+    ∙ (let e : bit (f p) + (countIn f i (suc p) + countIn f j (suc p + i)) ≡ bit (f p) + countIn f i (suc p) + countIn f j (suc p + i) = omega arith in e)
+    ∙ ap (λ (q : ℕ). bit (f p) + countIn f i (suc p) + countIn f j q) (let e : suc p + i ≡ p + suc i = omega arith in e)
 
 pub count-none : (f : ℕ → Bool) (k p : ℕ) → ((i : ℕ) → p ≤ i → i < p + k → f i ≡ false) → countIn f k p ≡ 0
 unfolding countIn
 count-none f zero p h = refl
 count-none f (suc k) p h =
-    ap₂ (λ (b : Bool) (x : ℕ). digit b + x) (h p (omega arith) (omega arith)) (count-none f k (suc p) (λ i l j. h i (omega arith) (omega arith)))
+    ap₂ (λ (b : Bool) (x : ℕ). bit b + x) (h p (omega arith) (omega arith)) (count-none f k (suc p) (λ i l j. h i (omega arith) (omega arith)))
 
 -- the same from another place
 pub count-moved : (f g : ℕ → Bool) (k p q : ℕ) → ((i : ℕ) → i < k → f (p + i) ≡ g (q + i)) → countIn f k p ≡ countIn g k q
 unfolding countIn
 count-moved f g zero p q h = refl
 count-moved f g (suc k) p q h =
-    ap₂ (λ (b : Bool) (x : ℕ). digit b + x)
+    ap₂ (λ (b : Bool) (x : ℕ). bit b + x)
     (ap f (let e : p ≡ p + 0 = omega arith in e) ∙ h 0 (omega arith) ∙ ap g (let e : q + 0 ≡ q = omega arith in e))
     (count-moved f g k (suc p) (suc q)
     (λ i l. ap f (let e : suc p + i ≡ p + suc i = omega arith in e) ∙ h (suc i) (omega arith) ∙ ap g (let e : q + suc i ≡ suc q + i = omega arith in e)))

@@ -9,13 +9,12 @@ use lib.Dec.{eqb, ltb, leb}
 use lib.ListN.{length, getD, take, drop}
 use lib.Seq.{drop-at, drop-cons}
 use borrow.Author.Tests.{le-ltb, lt-leb}
-use Rattle.word.specs.Bits.{digit, countIn, firstIn}
+use Rattle.word.specs.Bits.{bit, countIn, firstIn}
 use Rattle.word.proofs.Digits.{first-same}
 use Rattle.map.specs.Words.{wordsFor, codeAt, dataAt}
 use Rattle.map.specs.Ask.{testAnswer, countAnswer, firstAnswer}
 use Rattle.map.proofs.Asking.{told}
 use Rattle.views.specs.Mask.{masked, maskOf}
-use Rattle.sight.specs.Positions.{bit}
 use Rattle.views.proofs.Masking.{mask-length}
 use Rattle.sight.proofs.Ups.{up-at}
 use Rattle.sight.proofs.Viewing.{small}
@@ -26,18 +25,14 @@ use Rattle.map_laws.proofs.Built.{built, bit-inside, bit-past}
 use lib.ListN.{length-append}
 
 -- the bytes of a mask of ones and zeros, summed, are its ones, counted
-summed : (f : ℕ → Bool) (mask : List ℕ) → ((q : ℕ) → q < length mask → getD mask q 0 ≡ digit (f q)) → (k b : ℕ) → b + k ≤ length mask → countIn f k b ≡ sum (take k (drop b mask))
+summed : (f : ℕ → Bool) (mask : List ℕ) → ((q : ℕ) → q < length mask → getD mask q 0 ≡ bit (f q)) → (k b : ℕ) → b + k ≤ length mask → countIn f k b ≡ sum (take k (drop b mask))
 unfolding countIn sum
 summed f mask e zero b h = refl
 summed f mask e (suc k) b h =
     ap₂ (λ (x y : ℕ). x + y) (sym (e b (omega arith))) (summed f mask e k (suc b) (omega arith))
     ∙ sym (ap (λ (xs : List ℕ). sum (take (suc k) xs)) (drop-cons mask b 0 (omega arith)))
 
-same-digit : (b : Bool) → bit b ≡ digit b
-same-digit true = refl
-same-digit false = refl
-
-zero-digit : (b : Bool) → not b ≡ eqb (digit b) 0
+zero-digit : (b : Bool) → not b ≡ eqb (bit b) 0
 zero-digit true = refl
 zero-digit false = refl
 
@@ -48,10 +43,10 @@ module _ (image m : List ℕ) where
   abbrev mask : List ℕ
   mask = maskOf image m
 
-  byte : (q : ℕ) → q < n → getD mask q 0 ≡ digit (masked image m q)
+  byte : (q : ℕ) → q < n → getD mask q 0 ≡ bit (masked image m q)
   unfolding maskOf
   byte q h =
-      up-at (λ (c : ℕ). bit (masked image m c)) n 0 q h ∙ ap (λ (c : ℕ). bit (masked image m c)) (let e : 0 + q ≡ q = omega arith in e) ∙ same-digit (masked image m q)
+      up-at (λ (c : ℕ). bit (masked image m c)) n 0 q h ∙ ap (λ (c : ℕ). bit (masked image m c)) (let e : 0 + q ≡ q = omega arith in e)
 
   module _ (rest : List ℕ) (fits : n ≤ 65536) where
     abbrev ws : List ℕ
@@ -60,13 +55,13 @@ module _ (image m : List ℕ) where
     room : wordsFor n ≤ length ws
     room = let e = length-append (packed mask) rest in let f = packed-length image m in omega arith
 
-    inside : (q : ℕ) → q < n → getD mask q 0 ≡ digit (codeAt ws q)
-    inside q h = byte q h ∙ ap digit (sym (bit-inside image m rest q h))
+    inside : (q : ℕ) → q < n → getD mask q 0 ≡ bit (codeAt ws q)
+    inside q h = byte q h ∙ ap bit (sym (bit-inside image m rest q h))
 
     answers : Answers mask ws n
     unfolding testAnswer countAnswer firstAnswer
     answers = record {
-      test = λ p h. sym (told ws n (leb n p) p (digit (codeAt ws p)) fits room _ (inside p h) (lt-leb n p h));
+      test = λ p h. sym (told ws n (leb n p) p (bit (codeAt ws p)) fits room _ (inside p h) (lt-leb n p h));
       count = λ b e l h. sym (told ws n (ltb e b || ltb n e) b (countIn (codeAt ws) (e - b) b) fits room _ (sym (counted b e l h)) (ap₂ (λ (x y : Bool). x || y) (le-ltb e b l) (le-ltb n e h)));
       first = λ p h. sym (told ws n (leb n p) p (firstIn (dataAt ws) (n - p) p) fits room _ (firsts p h) (lt-leb n p h));
     }

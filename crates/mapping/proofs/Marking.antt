@@ -10,16 +10,17 @@ use lib.ListN.{length, getD, drop, replicate, length-map, length-append, length-
 use lib.Seq.{ext-getD, drop-at}
 use borrow.Author.Tests.{lt-ltb, ltb-false}
 use Rattle.ways.specs.At.{sizeHere}
+use Rattle.ways.proofs.Ands.{not-second}
 use Rattle.reach.specs.Mark.{tracedMark}
-use Rattle.word.specs.Bits.{digit, digits, between}
+use Rattle.word.specs.Bits.{bit, digits, between}
 use Rattle.word.proofs.Digits.{digits-moved}
 use Rattle.map.specs.Words.{wordsFor}
 use Rattle.views.specs.Mask.{covers, masked, maskOf}
-use Rattle.sight.specs.Positions.{upFrom, some, bit}
+use Rattle.sight.specs.Positions.{upFrom, some}
 use Rattle.views.proofs.Masking.{mask-length}
 use Rattle.sight.proofs.Ups.{up-length, up-at, some-snoc, some-none}
 use Rattle.mapping.specs.Packed.{maskedAt, wordOf, packed, covered}
-use Rattle.mapping.proofs.Packing.{or-false, and-false, inside, mapBy, map-length, map-at, map-same, stretch-more, covered-append}
+use Rattle.mapping.proofs.Packing.{or-false, inside, mapBy, map-length, map-at, map-same, stretch-more, covered-append}
 
 -- ---- the packing of a mask
 
@@ -54,7 +55,7 @@ cleared-length k ws lent h e =
 digits-none : (f : ℕ → Bool) (k p : ℕ) → ((i : ℕ) → f i ≡ false) → digits f k p ≡ 0
 unfolding digits
 digits-none f zero p h = refl
-digits-none f (suc k) p h = ap₂ (λ (x : ℕ) (b : Bool). x * 2 + digit b) (digits-none f k (suc p) h) (h p)
+digits-none f (suc k) p h = ap₂ (λ (x : ℕ) (b : Bool). x * 2 + bit b) (digits-none f k (suc p) h) (h p)
 
 bit-back : (b : Bool) → not (eqb (bit b) 0) ≡ b
 bit-back true = refl
@@ -77,7 +78,7 @@ module _ (image m : List ℕ) where
 
   nothing : (q : ℕ) → inside n (before 0) q ≡ false
   unfolding inside
-  nothing q = ap (λ (b : Bool). ltb q n && b) (sym (some-none (covers image m q))) ∙ and-false (ltb q n)
+  nothing q = ap (λ (b : Bool). ltb q n && b) (sym (some-none (covers image m q))) ∙ not-second (ltb q n) false refl
 
   pub marked-start : replicate (wordsFor n) 0 ≡ Marked 0
   unfolding Marked

@@ -9,6 +9,7 @@ use lib.Dec.{eqb, ltb, leb}
 use lib.ListN.{length, getD, set, length-map, length-set, List·getD-append}
 use lib.Seq.{getD-set-same, getD-set-other, ext-getD, set-append-left}
 use borrow.Author.Tests.{lt-ltb, le-ltb, le-leb, lt-leb, ne-eqb, eqb-true, eqb-false, ltb-true, ltb-false, leb-true, leb-false}
+use Rattle.ways.proofs.Ands.{not-second}
 use Rattle.word.specs.Bits.{one, between, digits, withOnes}
 use Rattle.word.proofs.Digits.{one-digits, digits-moved}
 use Rattle.map.specs.Words.{wordsFor}
@@ -23,10 +24,6 @@ or-false false = refl
 or-and : (a b : Bool) → ((a && b) || false) ≡ (a && (b || false))
 or-and true b = refl
 or-and false b = refl
-
-pub and-false : (b : Bool) → (b && false) ≡ false
-and-false true = refl
-and-false false = refl
 
 or-assoc : (a b c : Bool) → ((a || b) || c) ≡ (a || (b || c))
 or-assoc true b c = refl
@@ -115,7 +112,7 @@ module _ (n : ℕ) where
             side true g d = ap (λ (a : Bool). a && ltb i (q % 64 + 1)) (lt-leb (q % 64) i (ltb-true i (q % 64) g))
             side false g d =
                 let k : q % 64 ≤ i = ltb-false i (q % 64) g in
-                ap (λ (a : Bool). leb (q % 64) i && a) (le-ltb i (q % 64 + 1) (omega arith)) ∙ and-false (leb (q % 64) i)
+                ap (λ (a : Bool). leb (q % 64) i && a) (le-ltb i (q % 64 + 1) (omega arith)) ∙ not-second (leb (q % 64) i) false refl
 
     word : ℕ → ℕ
     word j = withOnes (digits (inside n f) 64 (64 * j)) (q % 64) (q % 64 + 1)

@@ -6,6 +6,7 @@ use mathlib.Core.List.{List, [], _∷_}
 use lib.Dec.{ltb}
 use lib.ListN.{length, getD}
 use Rattle.reach.specs.Mark.{tracedMark}
+pub use Rattle.word.specs.Bits.{bit}
 
 -- k positions upward from p
 unfoldable pub upFrom : ℕ → ℕ → List ℕ
@@ -25,11 +26,6 @@ some f (p ∷ ps) = f p || some f ps
 unfoldable pub kept : (ℕ → Bool) → List ℕ → List ℕ
 kept f [] = []
 kept f (p ∷ ps) = cond (f p) (p ∷ kept f ps) (kept f ps)
-
--- 1 where a test passes, else 0
-abbrev pub bit : Bool → ℕ
-bit true = 1
-bit false = 0
 
 -- a position inside the image whose mark is 2 or 3
 abbrev pub tracedAt : List ℕ → List ℕ → ℕ → Bool

@@ -15,6 +15,10 @@ pub not-second : (a b : Bool) → b ≡ false → (a && b) ≡ false
 not-second true b e = e
 not-second false b e = refl
 
+pub first-alone : (a b : Bool) → b ≡ true → (a && b) ≡ a
+first-alone true b e = e
+first-alone false b e = refl
+
 pub first-part : (a b : Bool) → (a && b) ≡ true → a ≡ true
 first-part true b e = refl
 first-part false b e = absurd (never (sym e))

@@ -8,19 +8,20 @@ use lib.Dec.{eqb, ltb, leb}
 unfoldable pub one : ℕ → ℕ → Bool
 one w i = eqb (w / 2 ^ i % 2) 1
 
-abbrev pub digit : Bool → ℕ
-digit true = 1
-digit false = 0
+-- 1 where a test passes, else 0
+abbrev pub bit : Bool → ℕ
+bit true = 1
+bit false = 0
 
 -- the number whose k bits, the lowest first, are 1 where the k positions from p on pass the test
 unfoldable pub digits : (ℕ → Bool) → ℕ → ℕ → ℕ
 digits f zero p = 0
-digits f (suc k) p = digits f k (suc p) * 2 + digit (f p)
+digits f (suc k) p = digits f k (suc p) * 2 + bit (f p)
 
 -- how many of the k positions from p on pass the test
 unfoldable pub countIn : (ℕ → Bool) → ℕ → ℕ → ℕ
 countIn f zero p = 0
-countIn f (suc k) p = digit (f p) + countIn f k (suc p)
+countIn f (suc k) p = bit (f p) + countIn f k (suc p)
 
 -- the first of the k positions from p on that passes the test, or else where they end
 unfoldable pub firstIn : (ℕ → Bool) → ℕ → ℕ → ℕ
