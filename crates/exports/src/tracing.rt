@@ -1,7 +1,7 @@
 // The exported calls of the tracer.
 ghost use mathlib.Core.Path.{_≡_};
-ghost use Rattle.trace.specs.Start.{startAnswer, startMarks};
-ghost use Rattle.trace.specs.Step.{stepAnswer, stepMarks};
+ghost use Rattle.stepping.specs.Start.{startAnswer, startMarks};
+ghost use Rattle.stepping.specs.Step.{stepAnswer, stepMarks};
 ghost use Rattle.trace.specs.Run.{runAnswer, runMarks, runOrder};
 ghost use Rattle.reply.specs.Reply.{numberOf, valuesOf, countValues};
 ghost use Rattle.reply_trace.specs.Tracing.{stepValues, runValues};

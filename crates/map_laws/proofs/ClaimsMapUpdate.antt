@@ -9,7 +9,7 @@ use lib.ListN.{length, drop, length-append}
 use Rattle.operand.specs.Answer.{accepted}
 use Rattle.ways.specs.At.{sizeHere}
 use Rattle.reach.specs.Tracer.{took}
-use Rattle.trace.specs.Step.{stepMarks}
+use Rattle.stepping.specs.Step.{stepMarks}
 use Rattle.marking.specs.Tracer.{tracerOf}
 use Rattle.trace_laws.proofs.Accepted.{Went, went}
 use Rattle.word.specs.Bits.{between}

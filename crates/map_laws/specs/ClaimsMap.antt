@@ -9,7 +9,7 @@ use lib.Dec.{eqb}
 use lib.ListN.{length, getD, take, drop}
 use Rattle.operand.specs.Answer.{accepted}
 use Rattle.ways.specs.At.{sizeHere}
-use Rattle.trace.specs.Step.{Said, stepAnswer, stepMarks}
+use Rattle.stepping.specs.Step.{Said, stepAnswer, stepMarks}
 use Rattle.views.specs.Mask.{maskOf}
 use Rattle.word.specs.Bits.{firstIn}
 use Rattle.map.specs.Words.{wordsFor, codeAt}

@@ -13,7 +13,7 @@ use Rattle.operand.proofs.Sign.{never}
 use Rattle.operand.proofs.Accepting.{passed}
 use Rattle.ways.specs.At.{sizeHere, fitsHere}
 use Rattle.reach.specs.Mark.{tracedMark}
-use Rattle.trace.specs.Step.{damaged}
+use Rattle.marking.specs.Refusals.{damaged}
 use Rattle.sight.specs.Positions.{upFrom}
 use Rattle.sight.specs.View.{Sound, offJmpf, misplaced, damagedHere, damageIn, viewRefusals}
 

@@ -1,2 +1,3 @@
 pub mod Tracer
 pub mod Clear
+pub mod Refusals

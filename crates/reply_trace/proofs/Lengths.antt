@@ -9,14 +9,14 @@ use lib.ListN.{length}
 use Rattle.operand.specs.Answer.{Answer, accepted, refused}
 use Rattle.reach.specs.Run.{End, finished, stopped, cutOff, steps, noted}
 use Rattle.trace.specs.Run.{ranOf, runAnswer, runRefusals, runJudged, ranAnswer, outcomeOf, endOf, orElse, Said}
-use Rattle.trace.specs.Start.{startedOf, startAnswer}
-use Rattle.trace.specs.Step.{steppedOf, stepAnswer, stepRefusals, damageRefusals, damages}
+use Rattle.stepping.specs.Start.{startedOf, startAnswer}
+use Rattle.stepping.specs.Step.{steppedOf, stepAnswer, stepRefusals, damageRefusals, damages}
 use Rattle.trace.specs.declared.run.Ran.{Ran}
 use Rattle.trace.specs.declared.run.Ran.the-variants as ran
-use Rattle.trace.specs.declared.start.Started.{Started}
-use Rattle.trace.specs.declared.start.Started.the-variants as started
-use Rattle.trace.specs.declared.step.Stepped.{Stepped}
-use Rattle.trace.specs.declared.step.Stepped.the-variants as stepped
+use Rattle.stepping.specs.declared.start.Started.{Started}
+use Rattle.stepping.specs.declared.start.Started.the-variants as started
+use Rattle.stepping.specs.declared.step.Stepped.{Stepped}
+use Rattle.stepping.specs.declared.step.Stepped.the-variants as stepped
 use Rattle.reply_trace.specs.Counts.{lengthInStarted, lengthInStepped, lengthInRan}
 use Rattle.operand.proofs.Carried.{Each, carries}
 

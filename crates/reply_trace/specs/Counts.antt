@@ -2,10 +2,10 @@
 -- a sign, so that a length has to be below 2 ^ 63. Document 01, 'Numbers given when a call says no': refusals 1, 2 and 3.
 -- Assumes nothing.
 use Prim.Native.Nat.{ℕ}
-use Rattle.trace.specs.declared.start.Started.{Started}
-use Rattle.trace.specs.declared.start.Started.the-variants as started
-use Rattle.trace.specs.declared.step.Stepped.{Stepped}
-use Rattle.trace.specs.declared.step.Stepped.the-variants as stepped
+use Rattle.stepping.specs.declared.start.Started.{Started}
+use Rattle.stepping.specs.declared.start.Started.the-variants as started
+use Rattle.stepping.specs.declared.step.Stepped.{Stepped}
+use Rattle.stepping.specs.declared.step.Stepped.the-variants as stepped
 use Rattle.trace.specs.declared.run.Ran.{Ran}
 use Rattle.trace.specs.declared.run.Ran.the-variants as ran
 

@@ -3,7 +3,7 @@
 use mathlib.Core.Bool.{cond}
 use mathlib.Core.List.{List, [], _∷_}
 use lib.IntN.{ℤ, pos}
-use Rattle.trace.specs.Step as step
+use Rattle.stepping.specs.Step as step
 use Rattle.trace.specs.Run as run
 
 -- the new mark, and how many became 1

@@ -2,16 +2,16 @@
 // enums alone do not say so.
 ghost use mathlib.Core.Path.{_≡_};
 ghost use Prim.Native.Nat.{_<_, _^_};
-ghost use Rattle.trace.specs.Start.{startedOf};
-ghost use Rattle.trace.specs.Step.{steppedOf};
+ghost use Rattle.stepping.specs.Start.{startedOf};
+ghost use Rattle.stepping.specs.Step.{steppedOf};
 ghost use Rattle.trace.specs.Run.{ranOf};
 ghost use Rattle.reply.specs.Reply.{replyOf, countValues};
 ghost use Rattle.reply_trace.specs.Tracing.{stepValues, runValues};
 ghost use Rattle.reply_trace.specs.Counts.{lengthInStarted, lengthInStepped, lengthInRan};
 use reply::Reply;
+use stepping::Started;
+use stepping::Stepped;
 use trace::Ran;
-use trace::Started;
-use trace::Stepped;
 
 pub fn started(s: Started) -> Reply
     requires { ⌜ lengthInStarted s < 2 ^ 63 ⌝ }

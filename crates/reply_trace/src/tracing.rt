@@ -1,7 +1,7 @@
 // The calls of the tracer, answered by replies.
 ghost use mathlib.Core.Path.{_≡_};
-ghost use Rattle.trace.specs.Start.{startAnswer, startMarks};
-ghost use Rattle.trace.specs.Step.{stepAnswer, stepMarks};
+ghost use Rattle.stepping.specs.Start.{startAnswer, startMarks};
+ghost use Rattle.stepping.specs.Step.{stepAnswer, stepMarks};
 ghost use Rattle.trace.specs.Run.{runAnswer, runMarks, runOrder};
 ghost use Rattle.reply.specs.Reply.{replyOf, countValues};
 ghost use Rattle.reply_trace.specs.Tracing.{stepValues, runValues};
@@ -12,14 +12,14 @@ use reply::Reply;
 pub fn start(image: &[u8], marks: &mut [u8], entries: &[u32]) -> Reply
     ensures { λ r. ⌜ (r ≡ replyOf countValues (startAnswer (now (image .entry)) (now (marks .entry)) (now (entries .entry)))) × (now (marks .exit) ≡ startMarks (now (image .entry)) (now (marks .entry)) (now (entries .entry))) ⌝ }
 {
-    outcome::started(trace::start::start(image, marks, entries))
+    outcome::started(stepping::start::start(image, marks, entries))
 }
 
 // Accepted: the new mark, and how many positions became waiting.
 pub fn step(image: &[u8], marks: &mut [u8], p: u32) -> Reply
     ensures { λ r. ⌜ (r ≡ replyOf stepValues (stepAnswer (now (image .entry)) (now (marks .entry)) p)) × (now (marks .exit) ≡ stepMarks (now (image .entry)) (now (marks .entry)) p) ⌝ }
 {
-    outcome::stepped(trace::step::step(image, marks, p))
+    outcome::stepped(stepping::step::step(image, marks, p))
 }
 
 // Accepted: 1 where it finished or 0 where the limit stopped it, the steps, and the positions noted.

@@ -12,7 +12,7 @@ use Rattle.operand.specs.Answer.{Refusal, refuse}
 use Rattle.operand.proofs.Judging.{accepts}
 use Rattle.operand.proofs.Carried.{Each, each-append, carries}
 use Rattle.reach.proofs.Cases.{lt-or-le}
-use Rattle.trace.proofs.Sizing.{long-image}
+use Rattle.marking.proofs.Sizing.{long-image}
 use Rattle.trace_laws.specs.ClaimsImages.{Bytes}
 use Rattle.sight.specs.View.{viewRefusals, viewedOf, roomAnswer, viewAnswer}
 use Rattle.sight.specs.declared.view.Viewed.{Viewed}

@@ -13,7 +13,7 @@ use Rattle.ways.proofs.Ands.{not-first}
 use Rattle.ways.proofs.Jmpf.{jmpf-by-byte}
 use Rattle.ways.proofs.Within.{Small, size-short}
 use Rattle.reach.specs.Mark.{flash, tracedMark}
-use Rattle.trace.specs.Step.{damaged}
+use Rattle.marking.specs.Refusals.{damaged}
 use Rattle.sight.specs.Positions.{upFrom, some}
 use Rattle.sight.specs.View.{offJmpf, misplaced, damagedHere, wrongAt}
 use Rattle.sight.proofs.Ups.{none-some}

@@ -9,7 +9,7 @@ use lib.IntN.{pos}
 use lib.ListN.{length}
 use Rattle.operand.specs.Answer.{Answer, accepted, refused, judge}
 use Rattle.operand.proofs.Judging.{pass, stop, done}
-use Rattle.trace.proofs.Sizing.{long-image, short-marks, right-sizes}
+use Rattle.marking.proofs.Sizing.{long-image, short-marks, right-sizes}
 use Rattle.sight.specs.Positions.{upFrom, positions}
 use Rattle.sight.specs.View.{damagedHere, damageIn, viewRefusals}
 use Rattle.sight.proofs.Ups.{up-next, up-end, up-start}

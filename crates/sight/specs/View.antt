@@ -11,8 +11,8 @@ use Rattle.operand.specs.Answer.{Answer, accepted, refused, Refusal, refuse, ju
 use Rattle.instruction.specs.Forms.{numberOf}
 use Rattle.ways.specs.At.{formHere, fitsHere}
 use Rattle.reach.specs.Mark.{flash, tracedMark}
-use Rattle.trace.specs.Start.{sizeRefusals}
-use Rattle.trace.specs.Step.{damaged}
+use Rattle.marking.specs.Refusals.{sizeRefusals}
+use Rattle.marking.specs.Refusals.{damaged}
 use Rattle.sight.specs.Positions.{positions}
 use Rattle.sight.specs.declared.view.Viewed.{Viewed}
 use Rattle.sight.specs.declared.view.Viewed.the-variants.{Written, LongImage, ShortMarks, Damaged, NoRoom}

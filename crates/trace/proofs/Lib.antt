@@ -1,11 +1,5 @@
 pub mod Sizing
-pub mod OneNoted
-pub mod TakeUp
-pub mod Damages
-pub mod Stepping
-pub mod StepAnswers
 pub mod Queueing
 pub mod Turns
 pub mod Running
 pub mod RunAnswers
-pub mod Starting

@@ -9,10 +9,10 @@ use Rattle.reach.specs.Note.{note, fresh}
 use Rattle.reach.specs.Queue.{Noted}
 use Rattle.reach.specs.Queue as queue
 use Rattle.reach.specs.Tracer.{found}
-use Rattle.trace.specs.Taken.{TakenUp}
+use Rattle.taking.specs.Taken.{TakenUp}
 use Rattle.ways.specs.Ways.{placesIn}
 use Rattle.marking.specs.Tracer.{tracerOf}
-use Rattle.trace.specs.declared.take.Taken.{Taken}
+use Rattle.taking.specs.declared.take.Taken.{Taken}
 
 -- ps written into o from its end t on, which leaves o′ and the end t′
 abbrev pub Put : List ℕ → ℕ → List ℕ → List ℕ → ℕ → Type 0
@@ -28,7 +28,7 @@ module _ (o : List ℕ) (t : ℕ) (o′ : List ℕ) (t′ : ℕ) (ps : List ℕ)
   pub noted-put : {n : ℕ} {ts m m′ : List ℕ} → (ps ≡ fresh n ts m) × (m′ ≡ note n ts m) → Noted n ts m o t m′ o′ t′
   noted-put {n} {ts} {m} a = record { marks-are = a .1; order-is = put-order (fresh n ts m) (a .0); tail-is = put-tail (fresh n ts m) (a .0) }
 
-pub taken-put : (image m : List ℕ) (p : ℕ) (r : Taken) (m′ o : List ℕ) (t : ℕ) (o′ : List ℕ) (t′ : ℕ) → TakenUp image m p r m′ → Put o t (placesIn (r .noted)) o′ t′ → queue.TakenUp (tracerOf image) p m o t m′ o′ t′
+pub taken-put : (image m : List ℕ) (p : ℕ) (r : Taken) (m′ o : List ℕ) (t : ℕ) (o′ : List ℕ) (t′ : ℕ) → TakenUp (tracerOf image) m p r m′ → Put o t (placesIn (r .noted)) o′ t′ → queue.TakenUp (tracerOf image) p m o t m′ o′ t′
 taken-put image m p r m′ o t o′ t′ T P =
     record {
       marks-are = T .marks-are;

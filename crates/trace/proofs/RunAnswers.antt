@@ -11,7 +11,7 @@ use Rattle.operand.specs.Answer.{Answer, accepted, refused, Refusal, refuse}
 use Rattle.operand.proofs.Judging.{pass, stop, done}
 use Rattle.trace.specs.Run.{Said, ranOf, runJudged, runAnswer, runMarks, runOrder, RanTo, StepsTied}
 use Rattle.trace.specs.declared.run.Ran.{Ran}
-use Rattle.trace.proofs.Sizing as sizing
+use Rattle.marking.proofs.Sizing as sizing
 
 module _ (image marks order entries : List ℕ) (limit : ℕ) where
   abbrev n : ℕ

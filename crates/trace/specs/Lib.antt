@@ -1,4 +1,2 @@
-pub mod Taken
-pub mod Start
 pub mod Step
 pub mod Run

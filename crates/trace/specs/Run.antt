@@ -14,7 +14,7 @@ use Rattle.instruction.specs.Decode.{cutAt}
 use Rattle.reach.specs.Mark.{cleared, tracedMark, count}
 use Rattle.reach.specs.Queue.{TakenUp}
 use Rattle.reach.specs.Run.{End, finished, stopped, cutOff, Outcome, steps, noted, ordered, runOf}
-use Rattle.trace.specs.Start.{sizeRefusals}
+use Rattle.marking.specs.Refusals.{sizeRefusals}
 use Rattle.marking.specs.Tracer.{tracerOf}
 use Rattle.ways.specs.At.{fitsHere}
 use Rattle.trace.specs.declared.run.Turn.{Turn}

@@ -1,16 +1,8 @@
-// Tracing: from entries to the positions that control reaches, one mark a position.
+// A run: from entries to the positions that control reaches, one mark a position.
 // Ported from src/disasm.rs of wtetzner/waterbear (Apache-2.0, see NOTICE), and changed: the marks take the place of the graph's map of
 // instructions, and a lent list that of its worklist.
-mod damage;
-mod note;
 mod queue;
 pub mod run;
-pub mod start;
-pub mod step;
-mod take;
 
 pub use run::Counts;
 pub use run::Ran;
-pub use start::Started;
-pub use step::Advance;
-pub use step::Stepped;

@@ -5,7 +5,6 @@ ghost use lib.ListN.{length};
 ghost use lib.Seq.{sets};
 ghost use Rattle.reach.specs.Queue.{Noted};
 ghost use Rattle.ways.specs.Ways.{placesIn};
-use crate::take;
 use ways::Places;
 
 // Writes these positions at the list's end: its new end.
@@ -36,7 +35,7 @@ pub fn put_entries(marks: &mut [u8], order: &mut [u32], n: usize, entries: &[u32
     let mut tail: usize = 0;
     let mut i = 0;
     while i < entries.len() {
-        let noted = take::note_place(marks, n, entries[i]);
+        let noted = taking::note_place(marks, n, entries[i]);
         tail = put(order, tail, noted);
         i += 1;
     }

@@ -8,7 +8,6 @@ ghost use Rattle.reach.specs.Tracer.{found};
 ghost use Rattle.trace.specs.Run.{ranOf, runAnswer, runMarks, runOrder, RanTo, StepsTied, Turned};
 ghost use Rattle.marking.specs.Tracer.{tracerOf};
 use crate::queue;
-use crate::take;
 use operand::CutOff;
 use ways::Image;
 use ways::Ways;
@@ -56,7 +55,7 @@ fn take_next(image: &[u8], marks: &mut [u8], order: &mut [u32], p: u32, tail: us
 {
     match ways::ways_at(image, p) {
         Ways::Goes(to) => {
-            let taken = take::take_up(image, marks, p, to);
+            let taken = taking::take_up(image, marks, p, to);
             let noted = taken.noted;
             Turn::On(queue::put(order, tail, noted))
         }

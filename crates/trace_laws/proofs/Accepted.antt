@@ -14,11 +14,12 @@ use Rattle.operand.proofs.Sign.{never}
 use Rattle.operand.proofs.Accepting.{passed}
 use Rattle.reach.specs.Takes.{Ready}
 use Rattle.reach.specs.Tracer.{targets, took}
-use Rattle.trace.specs.Step.{idle, damaged, damages, damageRefusals, stepRefusals, Said, saidOf, stepAnswer, stepMarks}
+use Rattle.marking.specs.Refusals.{damaged}
+use Rattle.stepping.specs.Step.{idle, damages, damageRefusals, stepRefusals, Said, saidOf, stepAnswer, stepMarks}
 use Rattle.marking.specs.Tracer.{tracerOf}
 use Rattle.ways.specs.At.{fitsHere, flashHere}
 use Rattle.ways.proofs.Ands.{not-second}
-use Rattle.trace.proofs.StepAnswers.{idle-marks, whole}
+use Rattle.stepping.proofs.StepAnswers.{idle-marks, whole}
 
 -- what an accepted step says
 pub record Went (image m : List ℕ) (p : ℕ) : Type 0 where

@@ -13,7 +13,7 @@ use Rattle.reach.specs.Mark.{tracedMark, count}
 use Rattle.reach.proofs.Count.{count-under}
 use Rattle.reach.proofs.Took.{count-took}
 use Rattle.trace_laws.specs.ClaimsImages.{Steps, stay, further, Still, ImageCanEnd}
-use Rattle.trace.specs.Step.{Said, stepAnswer, stepMarks}
+use Rattle.stepping.specs.Step.{Said, stepAnswer, stepMarks}
 use Rattle.marking.specs.Tracer.{tracerOf}
 use Rattle.trace_laws.proofs.Accepted.{went}
 

@@ -22,8 +22,8 @@ use Rattle.reach.proofs.Takes.{takes-bound}
 use Rattle.reach.proofs.Took.{Moved, itself, kept, called, moved, mark-traced, length-took}
 use Rattle.trace_laws.specs.ClaimsImages as claims
 use Rattle.trace.specs.Run.{outcomeOf}
-use Rattle.trace.specs.Start.{startAnswer, startMarks}
-use Rattle.trace.specs.Step.{saidOf}
+use Rattle.stepping.specs.Start.{startAnswer, startMarks}
+use Rattle.stepping.specs.Step.{saidOf}
 use Rattle.marking.specs.Tracer.{tracerOf}
 use Rattle.trace_laws.proofs.Accepted.{went, Sound, ready-accepted}
 use Rattle.trace_laws.proofs.Unflashed.{plain}

@@ -22,7 +22,7 @@ use Rattle.reach.specs.Tracer.{targets}
 use Rattle.reach.proofs.Order.{cleared-base}
 use Rattle.reach.proofs.Run.{run-ending}
 use Rattle.trace.specs.Run.{runJudged, ranAnswer, endOf, outcomeOf, orElse, runAnswer}
-use Rattle.trace.specs.Step.{damages, damageRefusals, stepRefusals, stepAnswer}
+use Rattle.stepping.specs.Step.{damages, damageRefusals, stepRefusals, stepAnswer}
 use Rattle.marking.specs.Tracer.{tracerOf}
 use Rattle.ways.specs.At.{fitsHere}
 use Rattle.trace_laws.specs.ClaimsImages.{Bytes}

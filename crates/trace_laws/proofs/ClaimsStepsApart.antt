@@ -10,15 +10,15 @@ use Rattle.operand.specs.Answer.{Answer, accepted, refused}
 use Rattle.trace_laws.specs.ClaimsSteps.{StartedApart, SteppedApart, RanApart}
 use Rattle.trace.specs.Run.{ranOf}
 use Rattle.trace.specs.Run as running
-use Rattle.trace.specs.Start.{startedOf}
-use Rattle.trace.specs.Step.{Said, steppedOf}
+use Rattle.stepping.specs.Start.{startedOf}
+use Rattle.stepping.specs.Step.{Said, steppedOf}
 use Rattle.trace.specs.declared.run.Counts.{Counts}
 use Rattle.trace.specs.declared.run.Ran.{Ran}
 use Rattle.trace.specs.declared.run.Ran.the-variants as ran
-use Rattle.trace.specs.declared.start.Started.{Started}
-use Rattle.trace.specs.declared.start.Started.the-variants as started
-use Rattle.trace.specs.declared.step.Stepped.{Stepped}
-use Rattle.trace.specs.declared.step.Stepped.the-variants as stepped
+use Rattle.stepping.specs.declared.start.Started.{Started}
+use Rattle.stepping.specs.declared.start.Started.the-variants as started
+use Rattle.stepping.specs.declared.step.Stepped.{Stepped}
+use Rattle.stepping.specs.declared.step.Stepped.the-variants as stepped
 use Rattle.instruction_laws.proofs.Undone.{undone, numberAt, cut}
 
 abbrev start-answered : Answer ℕ → Started

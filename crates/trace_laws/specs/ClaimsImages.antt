@@ -10,8 +10,8 @@ use Rattle.reach.specs.ClaimsOrder.{Final}
 use Rattle.reach.specs.Mark.{cleared}
 use Rattle.reach.specs.Run.{finished}
 use Rattle.trace.specs.Run.{outcomeOf}
-use Rattle.trace.specs.Start.{startAnswer, startMarks}
-use Rattle.trace.specs.Step.{Said, stepAnswer, stepMarks}
+use Rattle.stepping.specs.Start.{startAnswer, startMarks}
+use Rattle.stepping.specs.Step.{Said, stepAnswer, stepMarks}
 use Rattle.marking.specs.Tracer.{tracerOf}
 
 -- an image is a list of bytes

@@ -7,7 +7,7 @@ use lib.IntN.{ℤ}
 use Rattle.operand.specs.Answer.{refused}
 use Rattle.instruction_laws.specs.Missing.{OneOrTwo}
 use Rattle.trace.specs.Run.{runAnswer}
-use Rattle.trace.specs.Step.{stepAnswer}
+use Rattle.stepping.specs.Step.{stepAnswer}
 use Rattle.trace_laws.specs.ClaimsImages.{Bytes}
 
 abbrev pub StepMissing : Type 0

@@ -2,8 +2,8 @@
 -- Assumes nothing.
 use Rattle.operand.specs.Answer.{Apart}
 use Rattle.trace.specs.Run.{ranOf}
-use Rattle.trace.specs.Start.{startedOf}
-use Rattle.trace.specs.Step.{steppedOf}
+use Rattle.stepping.specs.Start.{startedOf}
+use Rattle.stepping.specs.Step.{steppedOf}
 
 -- the number and values of the answers tell all cases and all values apart
 abbrev pub StartedApart : Type 0

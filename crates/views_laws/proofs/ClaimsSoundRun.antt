@@ -21,7 +21,7 @@ use Rattle.reach.proofs.Run.{run-takes}
 use Rattle.reach.proofs.Took.{Moved, itself, kept, called, moved, length-took}
 use Rattle.reach.proofs.Note.{length-note}
 use Rattle.trace.specs.Run.{outcomeOf}
-use Rattle.trace.specs.Step.{damaged}
+use Rattle.marking.specs.Refusals.{damaged}
 use Rattle.marking.specs.Tracer.{tracerOf, exemptHere}
 use Rattle.sight.specs.View.{offJmpf, misplaced, damagedHere}
 use Rattle.views_laws.specs.ClaimsSound.{RunUndamaged}

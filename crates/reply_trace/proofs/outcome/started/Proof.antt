@@ -5,8 +5,8 @@ use Prim.Native.Nat.{_<_, _^_}
 use borrow.Author.Needs.{needs}
 use mir.Facts.{toZ-pos}
 use mir.Syntax.{w64}
-use Rattle.trace.specs.Start.{startedOf}
-use Rattle.trace.specs.declared.start.Started.{Started}
+use Rattle.stepping.specs.Start.{startedOf}
+use Rattle.stepping.specs.declared.start.Started.{Started}
 use Rattle.reply.specs.Reply.{countValues}
 use Rattle.reply.proofs.Told.{by-case, told1}
 use Rattle.reply_trace.specs.Counts.{lengthInStarted}

@@ -5,8 +5,8 @@ use Prim.Native.Nat.{_<_, _^_}
 use borrow.Author.Needs.{needs}
 use mir.Facts.{toZ-pos}
 use mir.Syntax.{w64}
-use Rattle.trace.specs.Step.{steppedOf}
-use Rattle.trace.specs.declared.step.Stepped.{Stepped}
+use Rattle.stepping.specs.Step.{steppedOf}
+use Rattle.stepping.specs.declared.step.Stepped.{Stepped}
 use Rattle.reply_trace.specs.Tracing.{stepValues}
 use Rattle.reply.proofs.Told.{by-case, told1, told2}
 use Rattle.reply_trace.specs.Counts.{lengthInStepped}

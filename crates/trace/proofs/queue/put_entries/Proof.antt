@@ -20,12 +20,6 @@ abbrev μ-loop : tie.MeasureT-loop
 abbrev start : tie.At-loop Inv-loop μ-loop → tie.Start Inv-loop μ-loop
 start c = c .before .before .before .before
 
-note-place-requires : tie.Need-note-place-requires Inv-loop μ-loop
-note-place-requires c κs =
-    let l = c .before .before .before in
-    let k : start l .args .n ≤ length (start l .args .marks .now) = start l .pre .0 in
-    omega (arith, noted-long (l .loop .inv) .0)
-
 put-requires : tie.Need-put-requires Inv-loop μ-loop
 put-requires c κs =
     let o = c .before .before .before in
@@ -53,7 +47,7 @@ put-entries-spec =
     (λ c. noted-nil)
     (λ c. search needs)
     (λ c. search needs)
-    note-place-requires
+    (λ c κs. search needs)
     put-requires
     (λ c. omega arith)
     (λ c. omega arith)

@@ -8,6 +8,9 @@ use borrow.Author.Needs.{needs}
 use lib.ListN.{length}
 use Rattle.ways.specs.Ways.{placesIn}
 use Rattle.ways.specs.At.{fitsHere, waysHere}
+use Rattle.marking.specs.Tracer.{tracerOf}
+use Rattle.taking.specs.Taken.{TakenUp}
+use Rattle.taking.proofs.TakeUp.{by-ways}
 use Rattle.trace.proofs.Queueing.{taken-put, room-for}
 use Rattle.ways.proofs.WaysAre.{goes-whole, goes-cut, never-outside}
 use Rattle.trace.proofs.Turns.{turned-on, turned-off}
@@ -28,17 +31,19 @@ whole c =
     let a = c .before .before in
     goes-whole (image a) (p a) (start a .pre .0 .0) (start a .pre .0 .1) (c .to .given .0 .0) (sym (c .to .given .1) ∙ a .ways-at .ensures)
 
-take-up-requires : tie.Need-take-up-requires
-take-up-requires c κs =
-    let o = c .before .before in
-    let s = start (o .before .before) in
-    (s .pre .0 .0, s .pre .0 .2, whole o .1)
+abbrev at : tie.After-take-up → tie.After-to
+at c = c .before .before .before
+
+taken : (c : tie.After-take-up) → let s = start (at c .before .before) in TakenUp (tracerOf (s .args .image .now)) (s .args .marks .now) (s .args .p) (c .take-up .result) (c .take-up .last .1 .0)
+taken c =
+    let s = start (at c .before .before) in
+    by-ways (s .args .image .now) _ (s .args .marks .now) (s .args .p) _ _ (whole (at c) .1) (c .take-up .ensures)
 
 put-requires : tie.Need-put-requires
 put-requires c κs =
     let t = c .before .before .before in
     let s = start (t .before .before .before .before .before) in
-    room-for (s .args .tail) (length (s .args .order .now)) _ _ (t .take-up .ensures .noted-are) (s .pre .1)
+    room-for (s .args .tail) (length (s .args .order .now)) _ _ (taken t .noted-are) (s .pre .1)
 
 returns : tie.Need-returns
 returns c =
@@ -48,7 +53,7 @@ returns c =
     let a = i .before .before in
     let s = start a in
     turned-on (image a) (s .args .marks .now) (s .args .order .now) (p a) (s .args .tail) (q .put .result) _ _ (whole i .0)
-    (taken-put (image a) (s .args .marks .now) (p a) (t .take-up .result) _ (s .args .order .now) (s .args .tail) _ (q .put .result) (t .take-up .ensures) (q .put .ensures))
+    (taken-put (image a) (s .args .marks .now) (p a) (t .take-up .result) _ (s .args .order .now) (s .args .tail) _ (q .put .result) (taken t) (q .put .ensures))
 
 returns-2 : tie.Need-returns-2
 returns-2 c =
@@ -67,5 +72,5 @@ returns-3 c =
 pub take-next-spec : {M : Type 1} → statement M
 take-next-spec =
     tie.close
-    (tie.spec (λ c κs. search needs) (λ c. search needs) take-up-requires put-requires (λ c. search needs) (λ c. search needs)
+    (tie.spec (λ c κs. search needs) (λ c. search needs) (λ c κs. search needs) put-requires (λ c. search needs) (λ c. search needs)
     (λ c. search needs) (λ c. search needs) returns returns-2 returns-3)

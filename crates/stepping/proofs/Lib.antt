@@ -1,0 +1,4 @@
+pub mod Damages
+pub mod Stepping
+pub mod StepAnswers
+pub mod Starting

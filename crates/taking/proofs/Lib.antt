@@ -1,0 +1,2 @@
+pub mod OneNoted
+pub mod TakeUp
