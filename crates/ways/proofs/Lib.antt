@@ -1,5 +1,4 @@
 pub mod Ands
-pub mod FirstByte
 pub mod ReadBack
 pub mod InRange
 pub mod ShortSum

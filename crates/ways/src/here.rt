@@ -2,7 +2,6 @@
 ghost use mathlib.Core.Path.{_≡_};
 ghost use Rattle.ways.specs.At.{sizeHere};
 ghost use Rattle.ways.specs.Here.{hereOf};
-use crate::first;
 use instruction::Decoded;
 use instruction::Instr;
 use operand::CutOff;

@@ -2,7 +2,6 @@
 // Ported from src/disasm.rs of wtetzner/waterbear (Apache-2.0, see NOTICE), and changed: targets are signed numbers.
 mod address;
 pub mod alone;
-mod first;
 pub mod flash;
 pub mod here;
 pub mod image;

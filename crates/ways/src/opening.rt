@@ -1,7 +1,6 @@
 // What the first byte at a position says: where its instruction ends, if it is not cut off, and where control goes from it.
 ghost use mathlib.Core.Path.{_≡_};
 ghost use Rattle.ways.specs.Opening.{openingOf};
-use crate::first;
 use crate::image::Image;
 use instruction::Flow;
 use operand::CutOff;

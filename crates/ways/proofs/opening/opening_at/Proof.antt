@@ -6,9 +6,9 @@ use Prim.Native.Nat.{ℕ, _+_, _/_, _%_}
 use native.Mathlib.Omega.{arith}
 use borrow.Author.Needs.{needs}
 use lib.ListN.{getD}
+use Rattle.first.specs.First.{flowAt}
+use Rattle.first.proofs.FirstByte.{sized, flowed}
 use Rattle.ways.specs.At.{sizeHere}
-use Rattle.ways.specs.First.{flowAt}
-use Rattle.ways.proofs.FirstByte.{sized, flowed, nibble-low}
 use Rattle.ways.proofs.Openings.{past-limit, past-end, is-cut, is-whole}
 use Rattle.ways.proofs.Within.{size-short}
 use Rattle.ways.proofs.opening.opening_at.Statement.{statement}
@@ -49,10 +49,6 @@ returns-3 c =
     let a = t .before in
     is-cut (image a) (p a) (a .before .before .before .if1 .left) (a .before .before .if2 .left) _ (next-is a) (t .if3 .taken) (c .new .result) (c .new .ensures)
 
-flow-of-requires : tie.Need-flow-of-requires
-flow-of-requires c κs =
-    let a = c .before in rw (a .bits .ensures) (nibble-low (getD (image a) (p a) 0))
-
 returns-4 : tie.Need-returns-4
 returns-4 c =
     let t = c .before in
@@ -64,4 +60,4 @@ pub opening-at-spec : {M : Type 1} → statement M
 opening-at-spec =
     tie.close
     (tie.spec (λ c. past-limit _ _ (c .if1 .taken)) (λ c. past-end _ _ (c .if2 .taken)) (λ c. search needs) (λ c κs. search needs) add-next
-    (λ c. search needs) (λ c. search needs) cast-new (λ c κs. search needs) returns-3 flow-of-requires returns-4)
+    (λ c. search needs) (λ c. search needs) cast-new (λ c κs. search needs) returns-3 (λ c κs. search needs) returns-4)

@@ -5,7 +5,7 @@
 ghost use mathlib.Core.Path.{_≡_};
 ghost use Prim.Native.Nat.{_<_};
 ghost use Rattle.instruction.specs.Forms.{formAt, formOf, sizeOf};
-ghost use Rattle.ways.specs.First.{wordAt, nibble, flowAt};
+ghost use Rattle.first.specs.First.{wordAt, nibble, flowAt};
 use instruction::Flow;
 
 // The word of the column of a byte's low four bits. All sixteen are written out, so that the compiler makes a load of it.
@@ -48,13 +48,12 @@ pub fn size_by(first: u8) -> u32
 
 // Where control goes, by the upper two bits.
 pub fn flow_of(upper: u32) -> Flow
-    requires { ⌜ upper < 4 ⌝ }
     ensures { λ r. ⌜ r ≡ flowAt upper ⌝ }
 {
     match upper {
-        0 => Flow::Stop,
         1 => Flow::Next,
         2 => Flow::Jump,
-        _ => Flow::Branch,
+        3 => Flow::Branch,
+        _ => Flow::Stop,
     }
 }

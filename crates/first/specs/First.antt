@@ -1,4 +1,5 @@
--- Of an inner function: what a first byte alone says, four bits by its row in the word of its column.
+-- What a first byte alone says, four bits by its row in the word of its column: the size in the lower two, and in the upper two where
+-- control goes.
 -- Assumes nothing.
 use Prim.Native.Nat.{ℕ, _*_, _^_, _/_, _%_}
 use mathlib.Core.List.{List, [], _∷_}

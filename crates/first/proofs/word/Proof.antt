@@ -1,11 +1,11 @@
--- `first::word` meets its contract: the arm of each number is the word of its column.
+-- `word` meets its contract: the arm of each number is the word of its column.
 -- Assumes nothing.
 use mathlib.Core.Path.{_≡_, ap, sym}
 use Prim.Native.Nat.{ℕ}
 use Rattle.instruction.proofs.Rest.{only}
-use Rattle.ways.specs.First.{wordAt}
-use Rattle.ways.proofs.first.word.Statement.{statement}
-use Rattle.ways.proofs.first.word.Tie as tie
+use Rattle.first.specs.First.{wordAt}
+use Rattle.first.proofs.word.Statement.{statement}
+use Rattle.first.proofs.word.Tie as tie
 
 arm : (c : tie.Start) (k : ℕ) → c .args .low ≡ k → wordAt k ≡ wordAt (c .args .low)
 arm c k e = ap wordAt (sym e)

@@ -1,11 +1,11 @@
--- `first::bits` meets its contract.
+-- `bits` meets its contract.
 -- Assumes nothing.
 use mathlib.Core.Path.{ap}
 use Prim.Native.Nat.{ℕ, _*_, _^_, _/_, _%_}
 use borrow.Author.Needs.{needs}
-use Rattle.ways.specs.First.{nibble}
-use Rattle.ways.proofs.first.bits.Statement.{statement}
-use Rattle.ways.proofs.first.bits.Tie as tie
+use Rattle.first.specs.First.{nibble}
+use Rattle.first.proofs.bits.Statement.{statement}
+use Rattle.first.proofs.bits.Tie as tie
 
 returns : tie.Need-returns
 unfolding nibble

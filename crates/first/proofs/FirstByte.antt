@@ -2,7 +2,6 @@
 -- Assumes nothing.
 use mathlib.Core.Path.{_≡_, refl, ap, _∙_}
 use Prim.Native.Nat.{ℕ, _/_, _%_, _<_}
-use native.Mathlib.Omega.{arith}
 use lib.Dec.{eqb, eqb→eq}
 use Rattle.field.specs.Pattern.{pattern, bytesOf, onto, given, next}
 use Rattle.instruction.specs.Flow.{flowOf, stops, jumps, branches}
@@ -10,7 +9,7 @@ use Rattle.instruction.specs.Forms.{forms, formAt, formOf, sizeOf}
 use Rattle.instruction.specs.declared.flow.Flow.{Flow}
 use Rattle.instruction.specs.declared.flow.Flow.the-variants.{Stop, Next, Jump, Branch}
 use Rattle.instruction.proofs.Every.{holds}
-use Rattle.ways.specs.First.{wordAt, nibble, flowAt}
+use Rattle.first.specs.First.{wordAt, nibble, flowAt}
 
 pub sized : (x : ℕ) → x < 256 → nibble x % 4 ≡ sizeOf (formAt (formOf x))
 unfolding nibble wordAt formOf formAt forms pattern bytesOf onto given next
@@ -35,7 +34,3 @@ unfolding nibble wordAt flowOf stops jumps branches formOf formAt forms pattern 
 flowed x h =
     ap flowAt (eqb→eq (nibble x / 4) (bitsOf (flowOf (formOf x))) (holds (λ k. eqb (nibble k / 4) (bitsOf (flowOf (formOf k)))) 256 tt x h))
     ∙ flow-at (flowOf (formOf x))
-
-pub nibble-low : (x : ℕ) → nibble x / 4 < 4
-unfolding nibble
-nibble-low x = omega arith

@@ -1,11 +1,11 @@
--- `first::size_by` meets its contract.
+-- `size_by` meets its contract.
 -- Assumes nothing.
 use mathlib.Core.Path.{ap, _∙_}
 use Prim.Native.Nat.{ℕ, _%_}
 use borrow.Author.Needs.{needs}
-use Rattle.ways.proofs.FirstByte.{sized}
-use Rattle.ways.proofs.first.size_by.Statement.{statement}
-use Rattle.ways.proofs.first.size_by.Tie as tie
+use Rattle.first.proofs.FirstByte.{sized}
+use Rattle.first.proofs.size_by.Statement.{statement}
+use Rattle.first.proofs.size_by.Tie as tie
 
 returns : tie.Need-returns
 returns c =
