@@ -10,7 +10,7 @@ use lib.ListN.{length, getD}
 use borrow.Author.Tests.{leb-true, leb-false, lt-ltb, le-ltb, le-leb, eq-eqb, ne-eqb, not-false}
 use Rattle.ways.specs.At.{sizeHere, fitsHere}
 use Rattle.ways.proofs.Ands.{not-first}
-use Rattle.ways.proofs.Jmpf.{jmpf-by-byte}
+use Rattle.marking.proofs.Jmpf.{jmpf-by-byte}
 use Rattle.ways.proofs.Within.{Small, size-short}
 use Rattle.reach.specs.Mark.{flash, tracedMark}
 use Rattle.marking.specs.Refusals.{damaged}

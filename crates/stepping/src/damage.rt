@@ -63,7 +63,7 @@ pub fn find_damage(image: &[u8], marks: &[u8], p: u32, to: Places) -> Hurt
     requires { ⌜ (p < length (now image)) × (length (now image) ≤ length (now marks)) × (placesIn to ≡ waysHere (now image) p) ⌝ }
     ensures { λ r. ⌜ hurtOf r ≡ judge (damageRefusals (now (image .entry)) (now (marks .entry)) p) tt ⌝ }
 {
-    if ways::is_flash(image, p) {
+    if marking::is_flash(image, p) {
         let before = marks[p as usize - 2];
         if Mark::HIGHEST < before {
             return Hurt::At(p - 2);

@@ -14,7 +14,7 @@ use Rattle.trace_laws.specs.ClaimsImages.{Bytes, Clean}
 use Rattle.marking.specs.Tracer.{tracerOf, exemptHere}
 use Rattle.ways.specs.At.{formHere, flashHere}
 use Rattle.ways.proofs.Ands.{first-part, second-part}
-use Rattle.ways.proofs.Jmpf.{jmpf-by-byte, two-before}
+use Rattle.marking.proofs.Jmpf.{jmpf-by-byte, two-before}
 
 module _ (image : List ℕ) (B : Bytes image) (C : Clean image) (p : ℕ) where
   -- the three bytes

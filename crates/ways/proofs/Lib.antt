@@ -5,7 +5,6 @@ pub mod ShortSum
 pub mod LastOperand
 pub mod AskedAlone
 pub mod HereIs
-pub mod Jmpf
 pub mod Within
 pub mod WaysAre
 pub mod Naming

@@ -1,8 +1,7 @@
-// Where control goes from a position of an image: the instruction there, its targets, and the bytes of the flash exception.
+// Where control goes from a position of an image: the instruction there, and its targets.
 // Ported from src/disasm.rs of wtetzner/waterbear (Apache-2.0, see NOTICE), and changed: targets are signed numbers.
 mod address;
 pub mod alone;
-pub mod flash;
 pub mod here;
 pub mod image;
 pub mod name;
@@ -11,7 +10,6 @@ pub mod place;
 pub mod target;
 
 pub use alone::targets;
-pub use flash::is_flash;
 pub use here::Here;
 pub use here::instr_at;
 pub use here::size_at;

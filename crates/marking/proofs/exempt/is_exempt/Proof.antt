@@ -8,7 +8,7 @@ use lib.ListN.{getD, List·getD-eq-default}
 use borrow.Author.Needs.{needs}
 use Rattle.ways.specs.At.{flashHere}
 use Rattle.ways.proofs.Ands.{not-first, not-second}
-use Rattle.ways.proofs.Jmpf.{two-before}
+use Rattle.marking.proofs.Jmpf.{two-before}
 use Rattle.reach.specs.Mark.{tracedMark}
 use Rattle.marking.specs.Tracer.{exemptHere}
 use Rattle.marking.proofs.exempt.is_exempt.Statement.{statement}

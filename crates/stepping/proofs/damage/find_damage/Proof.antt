@@ -11,7 +11,7 @@ use borrow.Author.Tests.{lt-ltb, le-ltb}
 use lib.ListN.{length}
 use Rattle.ways.specs.At.{flashHere}
 use Rattle.stepping.proofs.Damages.{before-hurt, exempted, by-ways, judged}
-use Rattle.ways.proofs.Jmpf.{two-before}
+use Rattle.marking.proofs.Jmpf.{two-before}
 use Rattle.stepping.proofs.damage.find_damage.Statement.{statement}
 use Rattle.stepping.proofs.damage.find_damage.Tie as tie
 

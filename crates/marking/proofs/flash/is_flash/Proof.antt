@@ -10,10 +10,10 @@ use lib.ListN.{getD, List·getD-eq-default}
 use borrow.Author.Needs.{needs}
 use borrow.Author.Tests.{eq-eqb, ne-eqb, le-leb, lt-leb}
 use Rattle.instruction.specs.Forms.{formOf, numberOf}
 use Rattle.ways.specs.At.{flashHere}
-use Rattle.ways.proofs.Jmpf.{jmpf-is, jmpf-not}
-use Rattle.ways.proofs.flash.is_flash.Statement.{statement}
-use Rattle.ways.proofs.flash.is_flash.Tie as tie
+use Rattle.marking.proofs.Jmpf.{jmpf-is, jmpf-not}
+use Rattle.marking.proofs.flash.is_flash.Statement.{statement}
+use Rattle.marking.proofs.flash.is_flash.Tie as tie
 
 abbrev image : tie.Start → List ℕ
 image s = s .args .image .now
