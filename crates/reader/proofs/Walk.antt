@@ -30,10 +30,10 @@ use denote.Slice.{ShrSlice, shr-slice-lawful, shr-slice-copy}
 use denote.Enum.Laws as EL
 use denote.Struct.Laws as LL
 use denote.Triple.Walked.{Stay, stay-none, stay-none-slice, Goes, goes-none, goes-none-slice}
-use Rattle.reading.specs.declared.place.Place.{Place}
+use Rattle.placing.specs.declared.place.Place.{Place}
 use Rattle.reading.specs.declared.read.Read.{Read}
-use Rattle.reading.proofs.place.Place as P
-use Rattle.reading.proofs.place.Place.Laws as P′
+use Rattle.placing.proofs.place.Place as P
+use Rattle.placing.proofs.place.Place.Laws as P′
 use Rattle.reading.proofs.read.Read as S
 use Rattle.reading.proofs.read.Read.Laws as S′
 use Rattle.reader.specs.declared.Reader.{Reader}

@@ -2,7 +2,7 @@
 // MIR, by hand; `reading::read::read_line` does the work, and `read`, whose parameters are plain, needs no walk where it is called.
 ghost use mathlib.Core.Path.{_≡_};
 ghost use Rattle.reading.specs.Read.{readOf, readAnswer};
-use reading::place::Place;
+use placing::Place;
 use reading::read::Read;
 use reading::read::read_line;
 

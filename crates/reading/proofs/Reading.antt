@@ -16,10 +16,10 @@ use Rattle.text.specs.Cut.{upTo}
 use Rattle.text.proofs.Ands.{and-left}
 use Rattle.text.proofs.Cuts.{the-piece, piece-inside}
 use Rattle.reading.specs.Line.{isStart, isLine, recordOf}
-use Rattle.reading.specs.Order.{follows, lineAfter, placeAfter}
+use Rattle.placing.specs.Order.{follows, lineAfter, placeAfter}
 use Rattle.reading.specs.Read.{Found, listed, ended, isGood, lineAnswer, readAnswer}
-use Rattle.reading.specs.declared.place.Place.{Place}
-use Rattle.reading.specs.declared.place.Record.{Record}
+use Rattle.placing.specs.declared.place.Place.{Place}
+use Rattle.placing.specs.declared.place.Record.{Record}
 use Rattle.reading.proofs.Records.{placed}
 
 -- a line has a letter, a tab and a position

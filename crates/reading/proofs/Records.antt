@@ -7,8 +7,8 @@ use Prim.Native.Nat.{ℕ, _-_, _/_, _≤_}
 use lib.ListN.{length, getD, length-drop}
 use Rattle.text.proofs.Pairs.{pairs}
 use Rattle.reading.specs.Line.{positionOn, digitsOn, hasBytes, recordOf}
-use Rattle.reading.specs.declared.place.Place.{Place}
-use Rattle.reading.specs.declared.place.Record.{Record}
+use Rattle.placing.specs.declared.place.Place.{Place}
+use Rattle.placing.specs.declared.place.Record.{Record}
 
 abbrev the : ℕ → ℕ → ℕ → Record
 the c p n = record { letter = c; position = p; count = n }

@@ -12,7 +12,7 @@ use Rattle.text.specs.Cut.{upTo}
 use Rattle.text.specs.Four.{fourOf}
 use Rattle.text.specs.Hex.{allHex}
 use Rattle.listing.specs.Lines.{codeLine}
-use Rattle.reading.specs.declared.place.Record.{Record}
+use Rattle.placing.specs.declared.place.Record.{Record}
 
 -- its letter
 abbrev pub letterOn : List ℕ → ℕ

@@ -10,9 +10,9 @@ use lib.ListN.{length, drop}
 use Rattle.operand.specs.Answer.{Answer, accepted, refused, refuse, judge}
 use Rattle.text.specs.Cut.{upTo}
 use Rattle.reading.specs.Line.{isLine, recordOf}
-use Rattle.reading.specs.Order.{follows, placeAfter}
-use Rattle.reading.specs.declared.place.Place.{Place}
-use Rattle.reading.specs.declared.place.Record.{Record}
+use Rattle.placing.specs.Order.{follows, placeAfter}
+use Rattle.placing.specs.declared.place.Place.{Place}
+use Rattle.placing.specs.declared.place.Record.{Record}
 use Rattle.reading.specs.declared.read.Read.{Read}
 use Rattle.reading.specs.declared.read.Read.the-variants.{Line, End, Malformed}
 

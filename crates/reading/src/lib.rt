@@ -1,12 +1,8 @@
 // The lines of a listing read back: each as a record, with its place and the place after it.
 mod line;
-mod order;
-pub mod place;
 pub mod read;
 
 pub use line::digits;
 pub use line::has_bytes;
-pub use place::Place;
-pub use place::Record;
 pub use read::Read;
 pub use read::read_line;

@@ -3,7 +3,7 @@ ghost use mathlib.Core.Path.{_≡_};
 ghost use Prim.Native.Nat.{_≤_};
 ghost use lib.ListN.{length};
 ghost use Rattle.reading.specs.Line.{arePlaces, isFound, isData, hasBytes, digitsOn, same, isCode, isLine, recordOf};
-use crate::place::Record;
+use placing::Record;
 use text::bytes;
 use text::cut;
 use text::four;

@@ -2,9 +2,8 @@
 ghost use mathlib.Core.Path.{_≡_};
 ghost use Rattle.reading.specs.Read.{readOf, readAnswer};
 use crate::line;
-use crate::order;
-use crate::place::Place;
-use crate::place::Record;
+use placing::Place;
+use placing::Record;
 use text::cut;
 
 pub enum Read {
@@ -30,14 +29,14 @@ pub fn read_line(text: &[u8], place: Place) -> Read
         return Read::Malformed(place.line);
     }
     let record = line::record(l);
-    if !order::follows(place, record) {
+    if !placing::follows(place, record) {
         return Read::Malformed(place.line);
     }
     Read::Line(
         record,
         Place::new(
             e + 1,
-            order::line_after(place.line),
+            placing::line_after(place.line),
             record.position,
             record.letter,
         ),

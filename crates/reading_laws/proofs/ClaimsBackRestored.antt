@@ -25,9 +25,9 @@ use Rattle.listing.specs.Walk.{isChosen, codeLines, printed, passed, walk, list
 use Rattle.listing.specs.Lines.{dataLine}
 use Rattle.listing_laws.proofs.ClaimsShownTraced.{traced-shown}
 use Rattle.restoring.specs.Back.{backAnswer, backImage, backMarks, laid}
-use Rattle.reading.specs.Order.{start}
+use Rattle.placing.specs.Order.{start}
 use Rattle.restoring.specs.Sheet.{Sheet, blank}
-use Rattle.reading.specs.declared.place.Place.{Place}
+use Rattle.placing.specs.declared.place.Place.{Place}
 use Rattle.reading_laws.specs.ClaimsBack.{told, ListingRestores}
 use Rattle.reading_laws.proofs.CodeStops.{Given, code-stop}
 use Rattle.reading_laws.proofs.DataStops.{nothing-stop, data-stop}

@@ -26,9 +26,9 @@ use Rattle.listing.specs.Line.{line}
 use Rattle.listing.specs.Lines.{labelLine, overlapLine, arrivalLine, hereLine}
 use Rattle.listing.specs.Operand.{operands}
 use Rattle.listing.specs.Walk.{codeLines}
-use Rattle.reading.specs.Order.{rankOf}
+use Rattle.placing.specs.Order.{rankOf}
 use Rattle.restoring.specs.Sheet.{Sheet, agree}
-use Rattle.reading.specs.declared.place.Place.{Place}
+use Rattle.placing.specs.declared.place.Place.{Place}
 use Rattle.reading_laws.specs.ClaimsBack.{told}
 use Rattle.reading_laws.proofs.Cells.{Part, part-of, part-small, part-inside, part-agrees, lays}
 use Rattle.reading_laws.proofs.Codes.{bytesAt, there, bytes-size, code-own, code-text, code-form}

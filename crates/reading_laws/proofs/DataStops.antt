@@ -22,7 +22,7 @@ use Rattle.listing.specs.Hex.{hex4, hexes}
 use Rattle.listing.specs.Line.{line}
 use Rattle.listing.specs.Lines.{zeros, dataLine}
 use Rattle.restoring.specs.Sheet.{Sheet}
-use Rattle.reading.specs.declared.place.Place.{Place}
+use Rattle.placing.specs.declared.place.Place.{Place}
 use Rattle.reading_laws.proofs.Cells.{Part, Cell, empty, full, Right, Sound, part-small, part-inside, part-agrees, Lays, lays}
 use Rattle.reading_laws.proofs.CodeStops.{Given}
 use Rattle.reading_laws.proofs.Fields.{four-above, bytes-above, cuts-line}

@@ -15,9 +15,9 @@ use Rattle.ways.proofs.Ands.{both}
 use Rattle.reach.specs.Mark.{traced}
 use Rattle.restoring.specs.Back.{isFit, lineRefusals, sheetAfter}
 use Rattle.reading.specs.Line.{letterOn, positionOn, isLine, recordOf}
-use Rattle.reading.specs.Order.{rankOf, follows, placeAfter}
+use Rattle.placing.specs.Order.{rankOf, follows, placeAfter}
 use Rattle.restoring.specs.Sheet.{Sheet, listedOn, agree, reach, noted, imageOn}
-use Rattle.reading.specs.declared.place.Place.{Place}
+use Rattle.placing.specs.declared.place.Place.{Place}
 use Rattle.reading_laws.proofs.Places.{Open, later, open-follows}
 
 -- a line of the letter c at p that lists these bytes

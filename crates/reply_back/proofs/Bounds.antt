@@ -11,8 +11,8 @@ use lib.ListN.{length}
 use Rattle.operand.specs.Answer.{Answer, accepted, refused, refuse, judge}
 use Rattle.text.specs.Cut.{lines}
 use Rattle.reading.specs.Line.{positionOn, recordOf}
-use Rattle.reading.specs.Order.{start, placeAfter}
-use Rattle.reading.specs.declared.place.Place.{Place}
+use Rattle.placing.specs.Order.{start, placeAfter}
+use Rattle.placing.specs.declared.place.Place.{Place}
 use Rattle.restoring.specs.Back.{restoredOf, isFit, lineRefusals, backAnswer}
 use Rattle.restoring.specs.Sheet.{Sheet, blank, listedOn, reach, noted}
 use Rattle.restoring.specs.declared.back.Restored.{Restored}

@@ -16,7 +16,7 @@ use Rattle.text.proofs.Pairs.{bytes-small}
 use Rattle.restoring.specs.Back.{restoredOf, lineRefusals, sheetAfter, backAnswer, backImage, backMarks, laid}
 use Rattle.restoring.specs.Gone.{sheet, Gone}
 use Rattle.reading.specs.Line.{letterOn, positionOn, digitsOn, hasBytes}
-use Rattle.reading.specs.Order.{start}
+use Rattle.placing.specs.Order.{start}
 use Rattle.restoring.specs.Sheet.{Sheet, blank, listedOn, noted}
 use Rattle.restoring.specs.declared.back.Restored.{Restored}
 use Rattle.restoring.specs.declared.back.Restored.the-variants.{Written, LongImage, ShortMarks, NoRoom, Malformed, PastEnd}

@@ -11,7 +11,7 @@ use lib.IntN.{pos}
 use lib.ListN.{length}
 use Rattle.operand.specs.Answer.{Answer, accepted, refused, Refusal, refuse, judge}
 use Rattle.text.specs.Cut.{before, cut, lines}
-use Rattle.reading.specs.Order.{start, lineAfter}
+use Rattle.placing.specs.Order.{start, lineAfter}
 use Rattle.restoring.specs.Back.{lineRefusals, backAnswer}
 use Rattle.restoring.specs.Sheet.{blank}
 

@@ -19,12 +19,12 @@ use Rattle.text.proofs.Cuts.{end-inside, the-piece, line-next, lines-end}
 use Rattle.restoring.specs.Back.{lineRefusals, sheetAfter}
 use Rattle.restoring.specs.Gone.{sheet, Gone}
 use Rattle.reading.specs.Line.{positionOn, recordOf}
-use Rattle.reading.specs.Order.{start, lineAfter, placeAfter}
+use Rattle.placing.specs.Order.{start, lineAfter, placeAfter}
 use Rattle.reading.specs.Read.{isGood}
 use Rattle.restoring.specs.Sheet.{Sheet, listedOn, agree, reach, noted, markedBy}
 use Rattle.restoring.specs.Turn.{turnAnswer, turnCells, turnMarks}
-use Rattle.reading.specs.declared.place.Place.{Place}
-use Rattle.reading.specs.declared.place.Record.{Record}
+use Rattle.placing.specs.declared.place.Place.{Place}
+use Rattle.placing.specs.declared.place.Record.{Record}
 
 abbrev isAccepted : {A : Type 0} → Answer A → Bool
 isAccepted (accepted a) = true

@@ -16,7 +16,7 @@ use Rattle.text.specs.Hex.{digitOf}
 use Rattle.text.proofs.Pairs.{pair-next, pair-end}
 use Rattle.reading.specs.Line.{letterOn, positionOn, digitsOn, hasBytes, recordOf}
 use Rattle.restoring.specs.Sheet.{fits, listedOn, agree, reach, markedBy}
-use Rattle.reading.specs.declared.place.Record.{Record}
+use Rattle.placing.specs.declared.place.Record.{Record}
 
 -- past the end nothing was listed
 agree-past : (cells : List ℕ) (n : ℕ) (bs : List ℕ) → length cells ≤ n → agree cells n bs ≡ true

@@ -15,12 +15,12 @@ use Rattle.operand.proofs.Sign.{never}
 use Rattle.text.specs.Cut.{upTo}
 use Rattle.text.proofs.Cuts.{end-inside, take-first}
 use Rattle.reading.specs.Line.{positionOn, recordOf}
-use Rattle.reading.specs.Order.{placeAfter}
+use Rattle.placing.specs.Order.{placeAfter}
 use Rattle.reading.specs.Read.{Found, listed, ended, readOf, isGood, lineAnswer, readAnswer}
 use Rattle.restoring.specs.Sheet.{listedOn, agree, reach, markedBy}
 use Rattle.restoring.specs.Turn.{turnAnswer, turnCells, turnMarks}
-use Rattle.reading.specs.declared.place.Place.{Place}
-use Rattle.reading.specs.declared.place.Record.{Record}
+use Rattle.placing.specs.declared.place.Place.{Place}
+use Rattle.placing.specs.declared.place.Record.{Record}
 use Rattle.reading.specs.declared.read.Read.{Read}
 use Rattle.reading.specs.declared.read.Read.the-variants.{Line, End, Malformed}
 

@@ -10,12 +10,12 @@ use lib.ListN.{length, drop}
 use Rattle.operand.specs.Answer.{Answer, accepted, refused, Refusal, refuse, judge, after}
 use Rattle.text.specs.Cut.{lines}
 use Rattle.reading.specs.Line.{positionOn, recordOf}
-use Rattle.reading.specs.Order.{start, placeAfter}
+use Rattle.placing.specs.Order.{start, placeAfter}
 use Rattle.reading.specs.Read.{isGood}
 use Rattle.restoring.specs.Sheet.{Sheet, blank, listedOn, agree, reach, noted, imageOn}
 use Rattle.restoring.specs.declared.back.Restored.{Restored}
 use Rattle.restoring.specs.declared.back.Restored.the-variants.{Written, LongImage, ShortMarks, NoRoom, Malformed, PastEnd}
-use Rattle.reading.specs.declared.place.Place.{Place}
+use Rattle.placing.specs.declared.place.Place.{Place}
 
 -- the number and values of each answer
 abbrev pub restoredOf : Restored → Answer ℕ

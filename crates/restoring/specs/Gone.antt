@@ -7,7 +7,7 @@ use lib.ListN.{length}
 use Rattle.operand.specs.Answer.{Answer, accepted, judge}
 use Rattle.text.specs.Cut.{lines}
 use Rattle.restoring.specs.Back.{lineRefusals, sheetAfter}
-use Rattle.reading.specs.Order.{start}
+use Rattle.placing.specs.Order.{start}
 use Rattle.restoring.specs.Sheet.{Sheet}
 
 abbrev pub sheet : List ℕ → List ℕ → Sheet

@@ -10,7 +10,7 @@ use lib.ListN.{length, getD, set, replicate}
 use lib.Seq.{sets}
 use Rattle.reach.specs.Mark.{traced}
 use Rattle.reading.specs.Line.{letterOn, positionOn, bytesOn, hasBytes, recordOf}
-use Rattle.reading.specs.declared.place.Record.{Record}
+use Rattle.placing.specs.declared.place.Record.{Record}
 
 -- for each position of the image its byte and one more, or 0 where nothing is listed; and the marks
 pub record Sheet : Type 0 where

@@ -8,10 +8,10 @@ use lib.ListN.{length}
 use lib.Seq.{sets}
 use Rattle.operand.specs.Answer.{Answer, accepted, refused, refuse, judge, after}
 use Rattle.reading.specs.Line.{positionOn, recordOf}
-use Rattle.reading.specs.Order.{placeAfter}
+use Rattle.placing.specs.Order.{placeAfter}
 use Rattle.reading.specs.Read.{isGood}
 use Rattle.restoring.specs.Sheet.{listedOn, agree, reach, markedBy}
-use Rattle.reading.specs.declared.place.Place.{Place}
+use Rattle.placing.specs.declared.place.Place.{Place}
 use Rattle.restoring.specs.declared.turn.Turn.{Turn}
 use Rattle.restoring.specs.declared.turn.Turn.the-variants.{On, Malformed, PastEnd}
 

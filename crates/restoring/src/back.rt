@@ -7,7 +7,7 @@ ghost use Rattle.restoring.specs.Back.{restoredOf, backAnswer, backImage
 ghost use Rattle.restoring.specs.Gone.{Gone};
 use crate::turn::Turn;
 use crate::turn::read_on;
-use reading::Place;
+use placing::Place;
 use ways::Image;
 
 pub enum Restored {

@@ -8,7 +8,7 @@ ghost use Rattle.text.specs.Bytes.{bytesOf};
 ghost use Rattle.reading.specs.Line.{positionOn, recordOf};
 ghost use Rattle.restoring.specs.Sheet.{fits, listedOn, agree, reach, markedBy};
 use marking::Mark;
-use reading::Record;
+use placing::Record;
 use text::hex;
 
 // Whether a byte contradicts nothing listed before.

@@ -5,7 +5,7 @@ ghost use lib.ListN.{length, drop};
 ghost use Rattle.text.specs.Cut.{upTo};
 ghost use Rattle.restoring.specs.Turn.{turnedOf, turnAnswer, turnCells, turnMarks};
 use crate::laying;
-use reading::Place;
+use placing::Place;
 use reading::Read;
 
 pub enum Turn {

@@ -14,9 +14,9 @@ use Rattle.operand.specs.Answer.{Answer, accepted, refused, refuse}
 use Rattle.text.specs.Cut.{before, lines}
 use Rattle.restoring.specs.Back.{lineRefusals, backAnswer, backImage}
 use Rattle.reading.specs.Line.{recordOf}
-use Rattle.reading.specs.Order.{start, placeAfter}
+use Rattle.placing.specs.Order.{start, placeAfter}
 use Rattle.restoring.specs.Sheet.{Sheet, blank, noted}
-use Rattle.reading.specs.declared.place.Place.{Place}
+use Rattle.placing.specs.declared.place.Place.{Place}
 use Rattle.restoring.proofs.Counting.{lines-few, after-most, accepted-short}
 use Rattle.operand.proofs.Carried.{Each, carries}
 use Rattle.refusals.specs.Decimal.{width}

@@ -32,9 +32,9 @@ use denote.Triple.Entry.{Vals, onEntry}
 use denote.Triple.Spec.{Meets, tripleOf}
 use denote.Triple.Table.{entered}
 use denote.Triple.Walked.{says, Stays, walkOf, Walks, ends-at, walked, walk-meets}
-use Rattle.reading.specs.declared.place.Place.{Place}
-use Rattle.reading.proofs.place.Place as P
-use Rattle.reading.proofs.place.Place.Laws as P′
+use Rattle.placing.specs.declared.place.Place.{Place}
+use Rattle.placing.proofs.place.Place as P
+use Rattle.placing.proofs.place.Place.Laws as P′
 use Rattle.reader.specs.declared.Reader.{Reader}
 use Rattle.reader.proofs.Reader as T
 use Rattle.reader.proofs.Reader.Laws as T′

@@ -37,8 +37,8 @@ use denote.Triple.Clauses.{ensured, lasts}
 use Rattle.operand.specs.Answer.{Answer}
 use Rattle.reading.specs.Read.{Found, readOf, readAnswer}
 use Rattle.reading.specs.declared.read.Read.{Read}
-use Rattle.reading.proofs.place.Place as P
-use Rattle.reading.proofs.place.Place.Laws as P′
+use Rattle.placing.proofs.place.Place as P
+use Rattle.placing.proofs.place.Place.Laws as P′
 use Rattle.reading.proofs.read.Read as S
 use Rattle.reading.proofs.read.read_line as line
 use Rattle.reading.proofs.read.read_line.Symbol as line-def

@@ -26,8 +26,8 @@ use denote.Triple.Entry.{onEntry}
 use denote.Triple.Spec.{Meets, tripleOf}
 use denote.Triple.Table.{entered}
 use denote.Triple.Walked.{says, Stays, walkOf, Walks, ends-at, walked, walk-meets}
-use Rattle.reading.proofs.place.Place as P
-use Rattle.reading.proofs.place.Place.Laws as P′
+use Rattle.placing.proofs.place.Place as P
+use Rattle.placing.proofs.place.Place.Laws as P′
 use Rattle.reader.specs.declared.Reader.{Reader}
 use Rattle.reader.proofs.Reader.Laws as T′
 use Rattle.reader.proofs.Walk.{Row, reader-stays, reader-vals, reader-tells, place-is, reader-goes, place-typed, reader-typed, place-makes}

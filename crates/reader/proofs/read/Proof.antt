@@ -34,10 +34,10 @@ use denote.Triple.Walked.{says, Stays, walkOf, Walks, ends-at, walked, walk-meet
 use denote.Triple.Clauses.{ensured, lasts}
 use Rattle.operand.specs.Answer.{Answer}
 use Rattle.reading.specs.Read.{Found, readOf, readAnswer}
-use Rattle.reading.specs.declared.place.Place.{Place}
+use Rattle.placing.specs.declared.place.Place.{Place}
 use Rattle.reading.specs.declared.read.Read.{Read}
-use Rattle.reading.proofs.place.Place as P
-use Rattle.reading.proofs.place.Place.Laws as P′
+use Rattle.placing.proofs.place.Place as P
+use Rattle.placing.proofs.place.Place.Laws as P′
 use Rattle.reading.proofs.read.Read as S
 use Rattle.reader.specs.declared.Reader.{Reader}
 use Rattle.reader.proofs.Walk.{Row, text-stays, place-stays, place-vals, place-tells, text-goes, place-goes, text-typed, place-typed, reader-typed, answer-typed, text-twice, place-makes}

@@ -12,8 +12,8 @@ use Rattle.text.proofs.Cases.{neither}
 use Rattle.reading.specs.Line.{positionOn, recordOf}
 use Rattle.reading.specs.Read.{isGood}
 use Rattle.restoring.specs.Sheet.{listedOn, agree, reach, markedBy}
-use Rattle.reading.specs.declared.place.Place.{Place}
-use Rattle.reading.specs.declared.place.Record.{Record}
+use Rattle.placing.specs.declared.place.Place.{Place}
+use Rattle.placing.specs.declared.place.Record.{Record}
 use Rattle.restoring.proofs.Turning.{line, Taken, taken, untaken, after-0, starts, ends, its-line, its-record, left-bad, left-past, left-on}
 use Rattle.restoring.proofs.turn.read_on.Statement.{statement}
 use Rattle.restoring.proofs.turn.read_on.Tie as tie

@@ -1,6 +1,6 @@
 // The order of lines: positions may not fall; at one position `L`, `O`, `A`, `I` in this order, each at most once, or one `D` alone.
 ghost use mathlib.Core.Path.{_≡_};
-ghost use Rattle.reading.specs.Order.{rankOf, follows, lineAfter};
+ghost use Rattle.placing.specs.Order.{rankOf, follows, lineAfter};
 use crate::place::Place;
 use crate::place::Record;
 

@@ -1,8 +1,8 @@
 -- `order::rank` meets its contract.
 -- Assumes nothing.
-use Rattle.reading.proofs.Letters.{no-rank}
-use Rattle.reading.proofs.order.rank.Statement.{statement}
-use Rattle.reading.proofs.order.rank.Tie as tie
+use Rattle.placing.proofs.Letters.{no-rank}
+use Rattle.placing.proofs.order.rank.Statement.{statement}
+use Rattle.placing.proofs.order.rank.Tie as tie
 
 returns : tie.Need-returns
 returns c = rw (c .match .keys1)

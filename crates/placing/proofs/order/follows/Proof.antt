@@ -4,9 +4,9 @@ use mathlib.Core.Path.{_≡_, sym, _∙_}
 use Prim.Native.Nat.{_<_, _≤_}
 use borrow.Author.Needs.{needs}
 use borrow.Author.Tests.{eq-eqb, ne-eqb, lt-ltb, le-ltb}
-use Rattle.reading.specs.Order.{rankOf, follows}
-use Rattle.reading.proofs.order.follows.Statement.{statement}
-use Rattle.reading.proofs.order.follows.Tie as tie
+use Rattle.placing.specs.Order.{rankOf, follows}
+use Rattle.placing.proofs.order.follows.Statement.{statement}
+use Rattle.placing.proofs.order.follows.Tie as tie
 
 -- the place has a line before it
 some : (c : tie.Else1) → rankOf (c .before .before .args .place .letter) ≡ 0 → ⊥

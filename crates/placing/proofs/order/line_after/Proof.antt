@@ -3,9 +3,9 @@
 use native.Mathlib.Numerals.{add-one}
 use borrow.Author.Needs.{needs}
 use borrow.Author.Tests.{lt-ltb, le-ltb}
-use Rattle.reading.specs.Order.{lineAfter}
-use Rattle.reading.proofs.order.line_after.Statement.{statement}
-use Rattle.reading.proofs.order.line_after.Tie as tie
+use Rattle.placing.specs.Order.{lineAfter}
+use Rattle.placing.proofs.order.line_after.Statement.{statement}
+use Rattle.placing.proofs.order.line_after.Tie as tie
 
 returns : tie.Need-returns
 unfolding lineAfter

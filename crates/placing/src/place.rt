@@ -1,6 +1,6 @@
 // A place in a listing, and what its line says.
 ghost use mathlib.Core.Path.{_≡_};
-ghost use Rattle.reading.specs.Order.{start};
+ghost use Rattle.placing.specs.Order.{start};
 
 // Where a line begins, its number from 1, and what the order of lines asks: the position and the letter of the line before, or a letter
 // that begins no line where there is none before.
