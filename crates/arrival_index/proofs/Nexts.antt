@@ -1,0 +1,26 @@
+-- The lowest arrival from a position on, where that position arrives and where it does not.
+-- Assumes nothing.
+use mathlib.Core.Path.{_≡_, refl, sym, ap, _∙_}
+use mathlib.Core.Bool.{true, false}
+use mathlib.Core.List.{List}
+use Prim.Native.Nat.{ℕ, _+_, _-_, _<_, _≤_}
+use lib.ListN.{length}
+use Rattle.sight.proofs.Kept.{kept-no, from-is, from-skips}
+use Rattle.meetings.specs.Arrivals.{arrives, firstOr, nextArrival}
+use Rattle.meetings.proofs.Arriving.{not-inside, found-next, none-next}
+
+module _ (image m : List ℕ) (p : ℕ) where
+  pub next-here : (q : ℕ) → q < length image → arrives image m p q ≡ true → nextArrival image m p q ≡ q
+  next-here q h e = sym (found-next image m p q h q refl e)
+
+  pub next-later : (q : ℕ) → q < length image → arrives image m p q ≡ false → nextArrival image m p q ≡ nextArrival image m p (q + 1)
+  unfolding nextArrival
+  next-later q h e =
+      ap (firstOr 65536) (sym (from-is (arrives image m p) (length image) q) ∙ from-skips (arrives image m p) (length image) q h e ∙ from-is (arrives image m p) (length image) (q + 1))
+
+  pub next-outside : length image ≤ p → (k : ℕ) → nextArrival image m p k ≡ 65536
+  unfolding nextArrival
+  next-outside h k = ap (firstOr 65536) (kept-no (arrives image m p) (λ q. sym (not-inside image m p h q)) _)
+
+  pub next-past : (k : ℕ) → length image ≤ k → nextArrival image m p k ≡ 65536
+  next-past k h = sym (none-next image m p k k h refl)

@@ -1,0 +1,28 @@
+-- An index on its way: serves inner functions alone.
+-- Assumes nothing.
+use Prim.Native.Nat.{ℕ, suc, _+_, _*_, _<_}
+use mathlib.Core.Bool.{Bool, cond}
+use mathlib.Core.List.{List}
+use mathlib.Core.Path.{_≡_}
+use lib.Dec.{ltb}
+use lib.ListN.{length, getD, set}
+use Rattle.meetings.specs.Arrivals.{nextArrival}
+use Rattle.arrival_index.specs.Index.{afterBy}
+
+-- v stands at a place, if so it shall be
+abbrev pub placed : Bool → ℕ → ℕ → List ℕ → List ℕ
+placed b place v index = cond b (set index place v) index
+
+-- what stands at t is noted at a place, if t is below n
+abbrev pub linked : ℕ → ℕ → ℕ → List ℕ → List ℕ
+linked n t place index = placed (ltb t n) place (getD index t 0) index
+
+-- q stands at t, if t is below n
+abbrev pub headed : ℕ → ℕ → ℕ → List ℕ → List ℕ
+headed n t q index = placed (ltb t n) t q index
+
+-- the positions from k on are entered, and no others
+pub record Entered (image m : List ℕ) (k : ℕ) (index : List ℕ) : Type 0 where
+  pub long : length index ≡ 196608
+  pub head : (p : ℕ) → p < 65536 → getD index p 0 ≡ nextArrival image m p k
+  pub link : (j q : ℕ) → j < 2 → q < 65536 → getD index (65536 * suc j + q) 0 ≡ cond (ltb q k) 65536 (afterBy image m j q)
