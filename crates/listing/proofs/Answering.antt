@@ -1,18 +1,22 @@
 -- The one answer of the listing: too little room, or written; and the mask and the target marks as the views leave them in a room.
 -- Assumes nothing.
-use mathlib.Core.Path.{_≡_, refl, sym, ap, _∙_}
-use mathlib.Core.Bool.{Bool}
+use mathlib.Core.Path.{_≡_, refl, sym, ap, subst, _∙_}
+use mathlib.Core.Bool.{Bool, true}
 use mathlib.Core.List.{List, [], _∷_, _++_}
 use Prim.Native.Nat.{ℕ, _+_, _-_, _<_, _≤_}
 use native.Mathlib.Omega.{arith}
+use borrow.Author.Tests.{lt-ltb}
 use lib.IntN.{pos}
 use lib.ListN.{length, take, drop, length-take}
 use lib.Seq.{sets, sets-eq, take-at}
-use Rattle.operand.specs.Answer.{accepted, refused}
+use Rattle.operand.specs.Answer.{Answer, accepted, refused}
 use Rattle.sight.specs.View.{Sound, viewRoom}
 use Rattle.sight.proofs.Viewing.{Is, small, shown-as, no-room-for}
 use Rattle.views.specs.Labels.{labelsOf}
 use Rattle.views.specs.Mask.{maskOf}
+use Rattle.arrival_index.specs.Index.{indexOf}
+use Rattle.arrival_index.proofs.Indexing.{index-length}
+use Rattle.listing.specs.Lent.{isLent, textOf}
 use Rattle.listing.specs.Puts.{Puts, Needed}
 use Rattle.listing.specs.Walk.{isChosen, walk, listingOf}
 use Rattle.listing.specs.declared.tabbed.Arrivals.{Arrivals}
@@ -33,10 +37,13 @@ pub part-is : (l out : List ℕ) (n : ℕ) → take n l ≡ out → take (n - 0)
 part-is l out n e = let f : n - 0 ≡ n = omega arith in ap (λ (k : ℕ). take k l) f ∙ e
 
 -- the walk over them is the listing
-pub is-listing : (image m : List ℕ) (choice : Arrivals) (mask labels : List ℕ) (chosen : Bool) → mask ≡ maskOf image m → labels ≡ labelsOf image m → chosen ≡ isChosen choice
-    → walk image m mask labels chosen (length image) 0 0 ≡ listingOf image m choice
-unfolding listingOf
-is-listing image m choice mask labels chosen e f g = rw (e, f, g)
+pub is-text : (image m mask labels : List ℕ) (chosen : Bool) → mask ≡ maskOf image m → labels ≡ labelsOf image m → walk image m mask labels chosen (length image) 0 0 ≡ textOf image m chosen
+unfolding textOf
+is-text image m mask labels chosen e f = rw (e, f)
+
+pub is-listing : (image m : List ℕ) (choice : Arrivals) (chosen : Bool) → chosen ≡ isChosen choice → textOf image m chosen ≡ listingOf image m choice
+unfolding textOf listingOf
+is-listing image m choice chosen e = rw e
 
 module _ (image m : List ℕ) (text room : List ℕ) (s : Sound image m) where
   pub too-small : {r : ℕ} → Needed text (length room) r → length room < r → Is image m text room (refused 11 (pos r ∷ [])) room
@@ -48,3 +55,12 @@ module _ (image m : List ℕ) (text room : List ℕ) (s : Sound image m) where
       let l : 0 + length text ≤ length room = omega (arith, n .covers, h) in
       let z : sets room 0 text ≡ text ++ drop r room = sets-eq text room 0 l ∙ ap (λ (j : ℕ). text ++ drop j room) (sym (p .next)) in
       shown-as image m text room s r e (omega (arith, e, l)) new (p .wrote ∙ z)
+
+-- an index that is made is lent
+pub index-lent : (image m index : List ℕ) → index ≡ indexOf image m → isLent index ≡ true
+index-lent image m index e = lt-ltb 0 (length index) (omega (arith, ap length e, index-length image m))
+
+-- what is answered of a text is answered of the listing
+pub same-text : (image m : List ℕ) (choice : Arrivals) (room : List ℕ) (chosen : Bool) → chosen ≡ isChosen choice → {r : Answer ℕ} {new : List ℕ}
+    → Is image m (textOf image m chosen) room r new → Is image m (listingOf image m choice) room r new
+same-text image m choice room chosen e {r} {new} h = subst (λ (t : List ℕ). Is image m t room r new) (is-listing image m choice chosen e) h

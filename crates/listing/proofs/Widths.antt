@@ -1,11 +1,11 @@
--- Each stop of the walk prints at most 60 bytes, and with arrivals those of one line more.
+-- Each stop of the walk prints at most 60 bytes, and with arrivals those of one line more: 7 and 5 for each of those that arrive, who are
+-- at most two for each position of the image, all stops taken together.
 -- Assumes nothing.
 use mathlib.Core.Path.{_≡_, refl, ap, _∙_}
 use mathlib.Core.Bool.{Bool, true, false, cond, _&&_}
 use mathlib.Core.List.{List, [], _∷_, _++_, map}
 use Prim.Native.Nat.{ℕ, zero, suc, _+_, _*_, _-_, _≤_}
 use Prim.Native.Char.{code}
-use native.Mathlib.Nat.{mul-suc}
 use native.Mathlib.Omega.{arith}
 use lib.Dec.{eqb, ltb, leb}
 use lib.ListN.{length, getD, drop, length-append, length-take}
@@ -24,7 +24,7 @@ use Rattle.sight.proofs.Kept.{kept-few}
 use Rattle.views.specs.DataRun.{leading, isData, runLength, dataRun}
 use Rattle.meetings.specs.Arrivals.{arrivalsOf}
 use Rattle.meetings.specs.Overlaps.{fromBefore, overlapsOf}
-use Rattle.meetings.proofs.Arriving.{few}
+use Rattle.arrival_index.proofs.Counting.{total, total-same, arrivals-few}
 use Rattle.listing.specs.Hex.{hex4, hexes}
 use Rattle.listing.specs.Line.{fields}
 use Rattle.listing.specs.Lines.{labelLine, foundLine, overlapLine, arrivalLine, instrText, hereLine, codeBy, codeLine, dataLine, zeros}
@@ -43,6 +43,12 @@ found-width : (letter p : ℕ) (qs : List ℕ) → length (foundLine letter p qs
 unfolding fields
 found-width letter p [] = omega arith
 found-width letter p (q ∷ qs) = omega (arith, hex4-length p, places-width (q ∷ qs), length-append (hex4 p) (fields (map hex4 (q ∷ qs))))
+
+-- lines of 7 bytes and 5 for each position found
+total-line : (f : ℕ → ℕ) (k p : ℕ) → total (λ (x : ℕ). 7 + 5 * f x) k p ≡ 7 * k + 5 * total f k p
+unfolding total
+total-line f zero p = omega arith
+total-line f (suc k) p = omega (arith, total-line f k (suc p))
 
 -- positions that pass a test one after another are no more than there are
 pub leading-few : (f : ℕ → Bool) (k p : ℕ) → leading f (upFrom k p) ≤ k
@@ -112,13 +118,17 @@ module _ (image m : List ℕ) (B : Small image) where
   abbrev arrived : Bool → ℕ → List ℕ
   arrived chosen p = cond chosen (arrivalLine p (arrivalsOf image m p)) []
 
-  pub arrived-width : length image ≤ 65536 → (p : ℕ) → length (arrived true p) ≤ 327687
-  unfolding arrivalLine
-  arrived-width h p = omega (arith, found-width (code "A") p (arrivalsOf image m p), few image m p)
+  -- 7 bytes, and 5 for each of those that arrive
+  abbrev arrivedMost : ℕ → ℕ
+  arrivedMost p = 7 + 5 * length (arrivalsOf image m p)
 
-  -- where it has at most n bytes
-  module _ (chosen : Bool) (n : ℕ) (most : (p : ℕ) → length (arrived chosen p) ≤ n) (mask labels : List ℕ) where
-    code-width : (p : ℕ) → length (codeLines image m labels chosen p) ≤ 60 + n
+  arrived-width : (p : ℕ) → length (arrived true p) ≤ arrivedMost p
+  unfolding arrivalLine
+  arrived-width p = omega (arith, found-width (code "A") p (arrivalsOf image m p))
+
+  -- where it has at most w p bytes
+  module _ (chosen : Bool) (w : ℕ → ℕ) (most : (p : ℕ) → length (arrived chosen p) ≤ w p) (mask labels : List ℕ) where
+    code-width : (p : ℕ) → length (codeLines image m labels chosen p) ≤ 60 + w p
     unfolding codeLines overlapLine
     code-width p =
         let l = cond (eqb (getD labels p 0) 0) [] (labelLine p) in
@@ -126,19 +136,26 @@ module _ (image m : List ℕ) (B : Small image) where
         let h = hereLine image p (hereOf image p) in
         omega (arith, label-length (getD labels p 0) p, found-width (code "O") p (overlapsOf image m p), overlaps-few p, most p, here-width p, length-append l (o ++ (arrived chosen p ++ h)), length-append o (arrived chosen p ++ h), length-append (arrived chosen p) h)
 
-    printed-width : (p : ℕ) → length (printed image m mask labels chosen p) ≤ 60 + n
+    printed-width : (p : ℕ) → length (printed image m mask labels chosen p) ≤ 60 + w p
     unfolding printed
     printed-width p = by (tracedMark (getD m p 0)) (eqb (getD mask p 0) 0)
       where
-        by : (t b : Bool) → length (cond t (codeLines image m labels chosen p) (cond b (dataLine p (dataRun image mask p)) [])) ≤ 60 + n
+        by : (t b : Bool) → length (cond t (codeLines image m labels chosen p) (cond b (dataLine p (dataRun image mask p)) [])) ≤ 60 + w p
         by true b = code-width p
         by false true = omega (arith, data-width p (dataRun image mask p) (run-short mask p))
         by false false = omega arith
 
-    pub walk-width : (k p s : ℕ) → length (walk image m mask labels chosen k p s) ≤ (60 + n) * k
-    unfolding walk
+    walk-width : (k p s : ℕ) → length (walk image m mask labels chosen k p s) ≤ 60 * k + total w k p
+    unfolding walk total
     walk-width zero p s = omega arith
-    walk-width (suc k) p (suc s) = omega (arith, walk-width k (suc p) s, mul-suc (60 + n) k)
+    walk-width (suc k) p (suc s) = omega (arith, walk-width k (suc p) s)
     walk-width (suc k) p zero =
         let rest = walk image m mask labels chosen k (suc p) (passed image m mask p) in
-        omega (arith, printed-width p, walk-width k (suc p) (passed image m mask p), length-append (printed image m mask labels chosen p) rest, mul-suc (60 + n) k)
+        omega (arith, printed-width p, walk-width k (suc p) (passed image m mask p), length-append (printed image m mask labels chosen p) rest)
+
+  pub all-width : (mask labels : List ℕ) (chosen : Bool) → length (walk image m mask labels chosen (length image) 0 0) ≤ cond chosen 77 60 * length image
+  all-width mask labels true =
+      let f : ℕ → ℕ = λ (p : ℕ). length (arrivalsOf image m p) in
+      omega (arith, walk-width true arrivedMost arrived-width mask labels (length image) 0 0, total-line f (length image) 0, arrivals-few image m (length image) 0)
+  all-width mask labels false =
+      omega (arith, walk-width false (λ (p : ℕ). 0) (λ p. omega arith) mask labels (length image) 0 0, total-same 0 (length image) 0)

@@ -4,3 +4,4 @@ pub mod Operand
 pub mod Lines
 pub mod Walk
 pub mod Puts
+pub mod Lent

@@ -11,7 +11,9 @@ ghost use Rattle.instruction.specs.Forms.{sizeOf};
 ghost use Rattle.ways.specs.Here.{hereOf};
 ghost use Rattle.meetings.specs.Arrivals.{arrivalsOf, nextArrival};
 ghost use Rattle.meetings.specs.Overlaps.{overlapsIn, overlapsOf};
+ghost use Rattle.arrival_index.specs.Index.{indexOf};
 ghost use Rattle.listing.specs.Hex.{hex4};
+ghost use Rattle.listing.specs.Lent.{isLent, Indexed};
 ghost use Rattle.listing.specs.Line.{fields};
 ghost use Rattle.listing.specs.Lines.{labelLine, overlapLine, arrivalLine, instrText, hereLine, zeros, dataLine};
 ghost use Rattle.listing.specs.Puts.{Puts};
@@ -85,8 +87,16 @@ pub fn put_overlaps(image: &[u8], marks: &[u8], out: &mut [u8], at: usize, p: u3
 }
 
 // The arrivals at p from the first of them on as fields, and the end of the line.
-fn put_arrived(image: &[u8], marks: &[u8], out: &mut [u8], at: usize, p: u32, first: u32) -> usize
-    requires { ⌜ (at < 2 ^ 55) × (length (now image) ≤ 65536) × (first ≡ nextArrival (now image) (now marks) p 0) ⌝ }
+fn put_arrived(
+    image: &[u8],
+    marks: &[u8],
+    index: &[u32],
+    out: &mut [u8],
+    at: usize,
+    p: u32,
+    first: u32,
+) -> usize
+    requires { ⌜ (at < 2 ^ 55) × (length (now image) ≤ 65536) × (now index ≡ indexOf (now image) (now marks)) × (first ≡ nextArrival (now image) (now marks) p 0) ⌝ }
     ensures { λ r. ⌜ (Puts (fields (map hex4 (arrivalsOf (now (image .entry)) (now (marks .entry)) p))) at (now (out .entry)) (now (out .exit)) r) × (r ≤ at + 327681) ⌝ }
 {
     let n = image.len() as u32;
@@ -94,32 +104,32 @@ fn put_arrived(image: &[u8], marks: &[u8], out: &mut [u8], at: usize, p: u32, fi
     let mut q = first;
     while q < n {
         a = put::put_place(out, a, q);
-        q = meetings::next_arrival(image, marks, p, q + 1);
+        q = arrival_index::next(index, image, marks, p, q);
     }
     put::put_byte(out, a, b'\n')
 }
 
-// `A`, where arrivals are chosen and there are any.
+// `A`, where an index of the arrivals is lent and there are any.
 pub fn put_arrivals(
     image: &[u8],
     marks: &[u8],
-    chosen: bool,
+    index: &[u32],
     out: &mut [u8],
     at: usize,
     p: u32,
 ) -> usize
-    requires { ⌜ (at < 2 ^ 54) × (length (now image) ≤ 65536) ⌝ }
-    ensures { λ r. ⌜ (Puts (cond chosen (arrivalLine p (arrivalsOf (now (image .entry)) (now (marks .entry)) p)) []) at (now (out .entry)) (now (out .exit)) r) × (r ≤ at + 2 ^ 20) ⌝ }
+    requires { ⌜ (at < 2 ^ 54) × (length (now image) ≤ 65536) × (p < length (now image)) × Indexed (now image) (now marks) (now index) ⌝ }
+    ensures { λ r. ⌜ (Puts (cond (isLent (now (index .entry))) (arrivalLine p (arrivalsOf (now (image .entry)) (now (marks .entry)) p)) []) at (now (out .entry)) (now (out .exit)) r) × (r ≤ at + 2 ^ 20) ⌝ }
 {
-    if !chosen {
+    if index.len() == 0 {
         return at;
     }
-    let first = meetings::next_arrival(image, marks, p, 0);
+    let first = arrival_index::first(index, p);
     if image.len() <= first as usize {
         return at;
     }
     let a = put::put_start(out, at, b'A', p);
-    put_arrived(image, marks, out, a, p, first)
+    put_arrived(image, marks, index, out, a, p, first)
 }
 
 // `I`, of an instruction with which these bytes begin.

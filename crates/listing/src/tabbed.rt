@@ -1,6 +1,7 @@
 // The tabbed listing.
 ghost use mathlib.Core.Path.{_≡_};
-ghost use Rattle.sight.specs.View.{viewedOf, viewAnswer, viewRoom};
+ghost use Rattle.sight.specs.View.{Sound, viewedOf, viewAnswer, viewRoom};
+ghost use Rattle.listing.specs.Lent.{isLent, Indexed, textOf};
 ghost use Rattle.listing.specs.Walk.{isChosen, unchosen, listingOf};
 use crate::rooms;
 use crate::walk;
@@ -26,6 +27,21 @@ impl Arrivals {
     }
 }
 
+// The listing of marks that are not damaged, with arrivals where an index of them is lent.
+fn list(image: &[u8], marks: &[u8], index: &[u32], room: &mut [u8]) -> Viewed
+    requires { ⌜ Sound (now image) (now marks) × Indexed (now image) (now marks) (now index) ⌝ }
+    ensures { λ r. ⌜ (viewedOf r ≡ viewAnswer (now (image .entry)) (now (marks .entry)) (textOf (now (image .entry)) (now (marks .entry)) (isLent (now (index .entry)))) (now (room .entry))) × (now (room .exit) ≡ viewRoom (now (image .entry)) (now (marks .entry)) (textOf (now (image .entry)) (now (marks .entry)) (isLent (now (index .entry)))) (now (room .entry))) ⌝ }
+{
+    let n = image.len();
+    let mask = rooms::mask_of(image, marks);
+    let labels = rooms::labels_of(image, marks);
+    let need = walk::needed(image, marks, &mask[0..n], &labels[0..n], index, room.len());
+    if room.len() < need {
+        return Viewed::NoRoom(need);
+    }
+    Viewed::Written(walk::put_walk(image, marks, &mask[0..n], &labels[0..n], index, room))
+}
+
 // The listing of the traced image, with arrivals where they are chosen: how many bytes were written.
 pub fn listing_with(image: &[u8], marks: &[u8], arrivals: Arrivals, room: &mut [u8]) -> Viewed
     ensures { λ r. ⌜ (viewedOf r ≡ viewAnswer (now (image .entry)) (now (marks .entry)) (listingOf (now (image .entry)) (now (marks .entry)) arrivals) (now (room .entry))) × (now (room .exit) ≡ viewRoom (now (image .entry)) (now (marks .entry)) (listingOf (now (image .entry)) (now (marks .entry)) arrivals) (now (room .entry))) ⌝ }
@@ -34,15 +50,12 @@ pub fn listing_with(image: &[u8], marks: &[u8], arrivals: Arrivals, room: &mut [
     if !v.is_written() {
         return v;
     }
-    let n = image.len();
-    let chosen = arrivals.is_chosen();
-    let mask = rooms::mask_of(image, marks);
-    let labels = rooms::labels_of(image, marks);
-    let need = walk::needed(image, marks, &mask[0..n], &labels[0..n], chosen, room.len());
-    if room.len() < need {
-        return Viewed::NoRoom(need);
+    if arrivals.is_chosen() {
+        let index = arrival_index::index_of(image, marks);
+        return list(image, marks, &index, room);
     }
-    Viewed::Written(walk::put_walk(image, marks, &mask[0..n], &labels[0..n], chosen, room))
+    let none = [0u32; 1];
+    list(image, marks, &none[0..0], room)
 }
 
 // The listing without a choice.

@@ -1,7 +1,9 @@
-// The walk: upward by position.
+// The walk: upward by position. An index of no cells is lent where arrivals are declined.
 ghost use mathlib.Core.Path.{_≡_};
+ghost use mathlib.Core.Bool.{cond};
 ghost use Prim.Native.Nat.{_+_, _^_, _≤_, _<_};
 ghost use lib.ListN.{length};
+ghost use Rattle.listing.specs.Lent.{isLent, Indexed};
 ghost use Rattle.listing.specs.Puts.{Puts, Needed};
 ghost use Rattle.listing.specs.Walk.{codeLines, printed, passed, walk};
 use crate::lines;
@@ -10,22 +12,25 @@ use marking::Mark;
 // The bytes that a position has at most, without arrivals.
 const MOST: usize = 60;
 
+// And with them, all positions taken together.
+const MOST_WITH: usize = 77;
+
 // The lines of a traced position.
 fn put_code(
     image: &[u8],
     marks: &[u8],
     labels: &[u8],
-    chosen: bool,
+    index: &[u32],
     out: &mut [u8],
     at: usize,
     p: u32,
 ) -> usize
-    requires { ⌜ (at < 2 ^ 52) × (length (now image) ≤ 65536) × (p < length (now labels)) ⌝ }
-    ensures { λ r. ⌜ (Puts (codeLines (now (image .entry)) (now (marks .entry)) (now (labels .entry)) chosen p) at (now (out .entry)) (now (out .exit)) r) × (r ≤ at + 2 ^ 22) ⌝ }
+    requires { ⌜ (at < 2 ^ 52) × (length (now image) ≤ 65536) × (p < length (now labels)) × (p < length (now image)) × Indexed (now image) (now marks) (now index) ⌝ }
+    ensures { λ r. ⌜ (Puts (codeLines (now (image .entry)) (now (marks .entry)) (now (labels .entry)) (isLent (now (index .entry))) p) at (now (out .entry)) (now (out .exit)) r) × (r ≤ at + 2 ^ 22) ⌝ }
 {
     let a = lines::put_label(out, at, p, labels[p as usize]);
     let b = lines::put_overlaps(image, marks, out, a, p);
-    let c = lines::put_arrivals(image, marks, chosen, out, b, p);
+    let c = lines::put_arrivals(image, marks, index, out, b, p);
     lines::put_here(image, out, c, p)
 }
 
@@ -35,17 +40,17 @@ fn put_at(
     marks: &[u8],
     mask: &[u8],
     labels: &[u8],
-    chosen: bool,
+    index: &[u32],
     out: &mut [u8],
     at: usize,
     p: u32,
 ) -> usize
-    requires { ⌜ (at < 2 ^ 52) × (length (now image) ≤ 65536) × (p < length (now labels)) × (p < length (now marks)) × (p < length (now mask)) ⌝ }
-    ensures { λ r. ⌜ (Puts (printed (now (image .entry)) (now (marks .entry)) (now (mask .entry)) (now (labels .entry)) chosen p) at (now (out .entry)) (now (out .exit)) r) × (r ≤ at + 2 ^ 22) ⌝ }
+    requires { ⌜ (at < 2 ^ 52) × (length (now image) ≤ 65536) × (p < length (now labels)) × (p < length (now marks)) × (p < length (now mask)) × (p < length (now image)) × Indexed (now image) (now marks) (now index) ⌝ }
+    ensures { λ r. ⌜ (Puts (printed (now (image .entry)) (now (marks .entry)) (now (mask .entry)) (now (labels .entry)) (isLent (now (index .entry))) p) at (now (out .entry)) (now (out .exit)) r) × (r ≤ at + 2 ^ 22) ⌝ }
 {
     let i = p as usize;
     if Mark::is_traced(marks[i]) {
-        return put_code(image, marks, labels, chosen, out, at, p);
+        return put_code(image, marks, labels, index, out, at, p);
     }
     if mask[i] != 0 {
         return at;
@@ -73,20 +78,29 @@ pub fn put_walk(
     marks: &[u8],
     mask: &[u8],
     labels: &[u8],
-    chosen: bool,
+    index: &[u32],
     out: &mut [u8],
 ) -> usize
-    requires { ⌜ (length (now image) ≤ 65536) × (length (now image) ≤ length (now marks)) × (length (now mask) ≡ length (now image)) × (length (now labels) ≡ length (now image)) ⌝ }
-    ensures { λ r. ⌜ Puts (walk (now (image .entry)) (now (marks .entry)) (now (mask .entry)) (now (labels .entry)) chosen (length (now (image .entry))) 0 0) 0 (now (out .entry)) (now (out .exit)) r ⌝ }
+    requires { ⌜ (length (now image) ≤ 65536) × (length (now image) ≤ length (now marks)) × (length (now mask) ≡ length (now image)) × (length (now labels) ≡ length (now image)) × Indexed (now image) (now marks) (now index) ⌝ }
+    ensures { λ r. ⌜ Puts (walk (now (image .entry)) (now (marks .entry)) (now (mask .entry)) (now (labels .entry)) (isLent (now (index .entry))) (length (now (image .entry))) 0 0) 0 (now (out .entry)) (now (out .exit)) r ⌝ }
 {
     let n = image.len();
     let mut at: usize = 0;
     let mut p: usize = 0;
     while p < n {
-        at = put_at(image, marks, mask, labels, chosen, out, at, p as u32);
+        at = put_at(image, marks, mask, labels, index, out, at, p as u32);
         p += step_at(image, marks, mask, p as u32);
     }
     at
+}
+
+fn most(index: &[u32]) -> usize
+    ensures { λ r. ⌜ r ≡ cond (isLent (now (index .entry))) 77 60 ⌝ }
+{
+    if index.len() == 0 {
+        return MOST;
+    }
+    MOST_WITH
 }
 
 // How many bytes the walk puts. Where the room holds every text of so many positions, that many: then nothing is to be measured.
@@ -95,18 +109,16 @@ pub fn needed(
     marks: &[u8],
     mask: &[u8],
     labels: &[u8],
-    chosen: bool,
+    index: &[u32],
     room: usize,
 ) -> usize
-    requires { ⌜ (length (now image) ≤ 65536) × (length (now image) ≤ length (now marks)) × (length (now mask) ≡ length (now image)) × (length (now labels) ≡ length (now image)) ⌝ }
-    ensures { λ r. ⌜ Needed (walk (now (image .entry)) (now (marks .entry)) (now (mask .entry)) (now (labels .entry)) chosen (length (now (image .entry))) 0 0) room r ⌝ }
+    requires { ⌜ (length (now image) ≤ 65536) × (length (now image) ≤ length (now marks)) × (length (now mask) ≡ length (now image)) × (length (now labels) ≡ length (now image)) × Indexed (now image) (now marks) (now index) ⌝ }
+    ensures { λ r. ⌜ Needed (walk (now (image .entry)) (now (marks .entry)) (now (mask .entry)) (now (labels .entry)) (isLent (now (index .entry))) (length (now (image .entry))) 0 0) room r ⌝ }
 {
-    if !chosen {
-        let most = MOST * image.len();
-        if most <= room {
-            return most;
-        }
+    let most = most(index) * image.len();
+    if most <= room {
+        return most;
     }
     let mut none = [0u8; 1];
-    put_walk(image, marks, mask, labels, chosen, &mut none)
+    put_walk(image, marks, mask, labels, index, &mut none)
 }

@@ -1,22 +1,25 @@
 -- `lines::put_arrivals` meets its contract.
 -- Assumes nothing.
-use mathlib.Core.Path.{_≡_, sym, _∙_}
+use mathlib.Core.Path.{_≡_, sym, ap, _∙_}
 use mathlib.Core.Bool.{true}
 use mathlib.Core.List.{List}
 use Prim.Native.Nat.{ℕ, _+_, _^_, _<_, _≤_}
 use native.Mathlib.Omega.{arith}
 use borrow.Author.Needs.{needs}
-use borrow.Author.Tests.{not-true, not-false}
+use borrow.Author.Tests.{lt-ltb, le-ltb}
 use lib.ListN.{length}
-use Rattle.meetings.specs.Arrivals.{arrivalsOf}
+use Rattle.meetings.specs.Arrivals.{arrivalsOf, nextArrival}
 use Rattle.meetings.proofs.Arriving.{leftFrom, all-left, none-left, Next, next-is}
+use Rattle.arrival_index.specs.Index.{firstIn}
+use Rattle.arrival_index.proofs.ClaimsIndexed.{first-indexed}
+use Rattle.listing.specs.Lent.{isLent}
 use Rattle.listing.proofs.Lining.{puts-begin, not-chosen, no-arrivals, arrivals}
 use Rattle.listing.proofs.Putting.{puts-as, puts-none, puts-then}
 use Rattle.listing.proofs.lines.put_arrivals.Statement.{statement}
 use Rattle.listing.proofs.lines.put_arrivals.Tie as tie
 
 abbrev start : tie.Else1 → tie.Start
-start e = e .before .before .before .before
+start e = e .before .before .before .before .before
 
 abbrev image : tie.Else1 → List ℕ
 image e = start e .args .image .now
@@ -27,26 +30,36 @@ marks e = start e .args .marks .now
 abbrev p : tie.Else1 → ℕ
 p e = start e .args .p
 
+abbrev index : tie.Else1 → List ℕ
+index e = start e .args .index .now
+
 returns : tie.Need-returns
 returns c =
-    let a = c .before .before .before .before .args in
-    (puts-as (not-chosen (a .p) (a .chosen) (arrivalsOf (a .image .now) (a .marks .now) (a .p)) (not-true _ (c .if1 .taken))) (puts-none _ _), omega arith)
+    let a = c .before .before .before .before .before .args in
+    (puts-as (not-chosen (a .p) (isLent (a .index .now)) (arrivalsOf (a .image .now) (a .marks .now) (a .p)) (le-ltb 0 (length (a .index .now)) (omega (arith, c .if1 .taken)))) (puts-none _ _), omega arith)
 
--- the first arrival
-first : (n : tie.After-next-arrival) → Next (image (n .before)) (marks (n .before)) (p (n .before)) 0 (n .next-arrival .result)
-first n = let e = n .before in next-is (image e) (marks e) (p e) (start e .pre .1) 0 (n .next-arrival .result) (n .next-arrival .ensures)
+-- an index is lent
+lent : (e : tie.Else1) → isLent (index e) ≡ true
+lent e = let n : length (index e) ≡ 0 → ⊥ = e .if1 .left in lt-ltb 0 (length (index e)) (omega arith)
 
-all : (n : tie.After-next-arrival) → arrivalsOf (image (n .before)) (marks (n .before)) (p (n .before)) ≡ leftFrom (image (n .before)) (marks (n .before)) (p (n .before)) (n .next-arrival .result)
+-- its first is the lowest arrival
+lowest : (n : tie.After-first) → n .first .result ≡ nextArrival (image (n .before)) (marks (n .before)) (p (n .before)) 0
+lowest n =
+    let e = n .before in
+    let h : p e < 65536 = omega (arith, start e .pre .1, start e .pre .2) in
+    n .first .ensures ∙ ap (λ (l : List ℕ). firstIn l (p e)) (start e .pre .3 (lent e)) ∙ first-indexed (image e) (marks e) (p e) h
+
+first : (n : tie.After-first) → Next (image (n .before)) (marks (n .before)) (p (n .before)) 0 (n .first .result)
+first n = let e = n .before in next-is (image e) (marks e) (p e) (start e .pre .1) 0 (n .first .result) (lowest n)
+
+all : (n : tie.After-first) → arrivalsOf (image (n .before)) (marks (n .before)) (p (n .before)) ≡ leftFrom (image (n .before)) (marks (n .before)) (p (n .before)) (n .first .result)
 all n = let e = n .before in sym (first n .same ∙ all-left (image e) (marks e) (p e))
-
-chosen : (e : tie.Else1) → start e .args .chosen ≡ true
-chosen e = not-false _ (e .if1 .left)
 
 returns-2 : tie.Need-returns-2
 returns-2 c =
     let n = c .before in
     let e = n .before in
-    (puts-as (no-arrivals (p e) (start e .args .chosen) (arrivalsOf (image e) (marks e) (p e)) (chosen e) (all n ∙ none-left (image e) (marks e) (p e) (n .next-arrival .result) (c .if2 .taken))) (puts-none _ _), omega arith)
+    (puts-as (no-arrivals (p e) (isLent (index e)) (arrivalsOf (image e) (marks e) (p e)) (lent e) (all n ∙ none-left (image e) (marks e) (p e) (n .first .result) (c .if2 .taken))) (puts-none _ _), omega arith)
 
 put-arrived-requires : tie.Need-put-arrived-requires
 put-arrived-requires c κs =
@@ -55,7 +68,7 @@ put-arrived-requires c κs =
     let s = start (n .before) in
     let b : s .args .at < 2 ^ 54 = s .pre .0 in
     let h : j .put-start .result ≤ s .args .at + 6 = puts-begin (s .args .p) (j .put-start .ensures) in
-    (omega arith, s .pre .1, n .next-arrival .ensures)
+    (omega arith, s .pre .1, s .pre .3 (lent (n .before)), lowest n)
 
 returns-3 : tie.Need-returns-3
 returns-3 c =
@@ -64,11 +77,11 @@ returns-3 c =
     let d = j .before .before in
     let n = d .before in
     let e = n .before in
-    let q : ℕ = n .next-arrival .result in
+    let q : ℕ = n .first .result in
     let t : q < length (image e) = d .if2 .left in
     let h : j .put-start .result ≤ start e .args .at + 6 = puts-begin (p e) (j .put-start .ensures) in
     let g : k .put-arrived .result ≤ j .put-start .result + 327681 = k .put-arrived .ensures .1 in
-    (puts-as (arrivals (p e) (start e .args .chosen) (arrivalsOf (image e) (marks e) (p e)) (chosen e) q (leftFrom (image e) (marks e) (p e) (q + 1)) (all n ∙ first n .head t)) (puts-then (j .put-start .ensures) (k .put-arrived .ensures .0)), omega arith)
+    (puts-as (arrivals (p e) (isLent (index e)) (arrivalsOf (image e) (marks e) (p e)) (lent e) q (leftFrom (image e) (marks e) (p e) (q + 1)) (all n ∙ first n .head t)) (puts-then (j .put-start .ensures) (k .put-arrived .ensures .0)), omega arith)
 
 pub put-arrivals-spec : {M : Type 1} → statement M
 put-arrivals-spec =

@@ -6,8 +6,11 @@ use Prim.Native.Nat.{ℕ, _+_, _*_, _^_, _<_, _≤_}
 use native.Mathlib.Omega.{arith}
 use borrow.Author.Needs.{needs}
 use lib.ListN.{length}
-use Rattle.meetings.specs.Arrivals.{arrivalsOf}
+use Rattle.meetings.specs.Arrivals.{heldAt, arrivalsOf}
 use Rattle.meetings.proofs.Arriving.{leftFrom, all-left, none-left, few, Next, next-is, passed}
+use Rattle.arrival_index.specs.Index.{nextIn}
+use Rattle.arrival_index.proofs.ClaimsIndexed.{next-indexed}
+use Rattle.arrival_index.proofs.Nexts.{left-arrives}
 use Rattle.listing.specs.Hex.{hex4}
 use Rattle.listing.specs.Line.{fields}
 use Rattle.listing.proofs.Lining.{puts-place}
@@ -20,17 +23,17 @@ abbrev text : List ℕ → List ℕ
 text qs = fields (map hex4 qs)
 
 abbrev Inv-loop : tie.InvT-loop
-Inv-loop image marks out₀ at p first n a₀ q₀ out a q =
+Inv-loop image marks index out₀ at p first n a₀ q₀ out a q =
     (length out ≡ length out₀)
     × (a + 5 * length (leftFrom image marks p q) ≤ at + 327680)
     × Going (text (arrivalsOf image marks p)) out₀ at out a (text (leftFrom image marks p q))
     × (q < length image → leftFrom image marks p q ≡ q ∷ leftFrom image marks p (q + 1))
 
 abbrev μ-loop : tie.MeasureT-loop
-μ-loop image marks out₀ at p first n a₀ q₀ out a q = length (leftFrom image marks p q)
+μ-loop image marks index out₀ at p first n a₀ q₀ out a q = length (leftFrom image marks p q)
 
 abbrev start : tie.After-slice-known Inv-loop μ-loop → tie.Start Inv-loop μ-loop
-start c = c .before .before .before
+start c = c .before .before .before .before
 
 abbrev image : tie.After-slice-known Inv-loop μ-loop → List ℕ
 image c = start c .args .image .now
@@ -45,24 +48,30 @@ loop-holds : tie.Need-loop-holds Inv-loop μ-loop
 loop-holds c =
     let a = start c .args in
     let s = start c .pre in
-    let n = next-is (image c) (marks c) (p c) (s .1) 0 (a .first) (s .2) in
+    let n = next-is (image c) (marks c) (p c) (s .1) 0 (a .first) (s .3) in
     let e : leftFrom (image c) (marks c) (p c) (a .first) ≡ arrivalsOf (image c) (marks c) (p c) = n .same ∙ all-left (image c) (marks c) (p c) in
     (refl, omega (arith, ap length e, few (image c) (marks c) (p c), s .1), going-from (a .out .now) (a .at) (ap text e), n .head)
 
 -- the arrival after q
-next : (c : tie.After-next-arrival Inv-loop μ-loop) → let l = c .before .before .before .before .before .before in let s = l .before in Next (image s) (marks s) (p s) (l .loop .q + 1) (c .next-arrival .result)
+next : (c : tie.After-next Inv-loop μ-loop) → let l = c .before .before .before .before .before .before in let s = l .before in Next (image s) (marks s) (p s) (l .loop .q + 1) (c .next .result)
 next c =
-    let l = c .before .before .before .before .before .before in
+    let t = c .before .before .before .before .before in
+    let l = t .before in
     let s = l .before in
-    next-is (image s) (marks s) (p s) (start s .pre .1) (l .loop .q + 1) (c .next-arrival .result) (c .next-arrival .ensures)
+    let v = start s .pre in
+    let q : ℕ = l .loop .q in
+    let h : q < length (image s) = t .loop-test .taken in
+    let a = left-arrives (image s) (marks s) (p s) q h (l .loop .inv .3 h) in
+    let e = c .next .ensures ∙ ap (λ (i : List ℕ). nextIn i (heldAt (image s) (marks s) q) (p s) q) (v .2) ∙ next-indexed (image s) (marks s) (p s) q (v .1) h a in
+    next-is (image s) (marks s) (p s) (v .1) (q + 1) (c .next .result) e
 
 -- one less is left
-turn : (c : tie.After-next-arrival Inv-loop μ-loop) → let l = c .before .before .before .before .before .before in let s = l .before in leftFrom (image s) (marks s) (p s) (l .loop .q) ≡ l .loop .q ∷ leftFrom (image s) (marks s) (p s) (c .next-arrival .result)
+turn : (c : tie.After-next Inv-loop μ-loop) → let l = c .before .before .before .before .before .before in let s = l .before in leftFrom (image s) (marks s) (p s) (l .loop .q) ≡ l .loop .q ∷ leftFrom (image s) (marks s) (p s) (c .next .result)
 turn c =
     let t = c .before .before .before .before .before in
     let l = t .before in
     let s = l .before in
-    passed (image s) (marks s) (p s) (start s .pre .1) (l .loop .q) (c .next-arrival .result) (t .loop-test .taken) (l .loop .inv .3) (next c)
+    passed (image s) (marks s) (p s) (start s .pre .1) (l .loop .q) (c .next .result) (t .loop-test .taken) (l .loop .inv .3) (next c)
 
 loop-again : tie.Need-loop-again Inv-loop μ-loop
 unfolding fields
@@ -97,7 +106,6 @@ put-arrived-spec =
     (λ c. let h : length (image c) ≤ 65536 = start c .pre .1 in record { fits = omega arith })
     loop-holds
     (λ c κs. let l = c .before .before in let s = start (l .before) in let b : s .args .at < 2 ^ 55 = s .pre .0 in let h = place l in omega arith)
-    (λ c. let t = c .before .before .before .before in let s = t .before .before in let h : length (image s) ≤ 65536 = start s .pre .1 in let g : t .before .loop .q < length (image s) = t .loop-test .taken in record { fits = omega arith })
     (λ c κs. search needs)
     (λ c. omega (arith, ap length (turn c)))
     loop-again

@@ -11,7 +11,7 @@ use Rattle.listing.proofs.walk.put_code.Statement.{statement}
 use Rattle.listing.proofs.walk.put_code.Tie as tie
 
 abbrev start : tie.After-put-label → tie.Start
-start l = l .before .before .before .before .before .before .before
+start l = l .before .before .before .before .before .before .before .before
 
 labelled : (l : tie.After-put-label) → l .put-label .result ≤ start l .args .at + 7
 labelled l = let a = start l .args in puts-most (l .put-label .ensures) (label-length (getD (a .labels .now) (a .p) 0) (a .p))
@@ -44,7 +44,7 @@ put-arrivals-requires c κs =
     let s = start (o .before .before .before .before) in
     let b : s .args .at < 2 ^ 52 = s .pre .0 in
     let h : o .put-overlaps .result ≤ s .args .at + (7 + 2 ^ 20) = overlapped o in
-    (omega arith, s .pre .1)
+    (omega arith, s .pre .1, s .pre .3, s .pre .4)
 
 put-here-requires : tie.Need-put-here-requires
 put-here-requires c κs =

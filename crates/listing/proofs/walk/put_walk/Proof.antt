@@ -5,6 +5,7 @@ use mathlib.Core.List.{List}
 use Prim.Native.Nat.{ℕ, _+_, _-_, _*_, _<_, _≤_}
 use native.Mathlib.Omega.{arith}
 use lib.ListN.{length}
+use Rattle.listing.specs.Lent.{isLent}
 use Rattle.listing.specs.Walk.{passed, walk}
 use Rattle.listing.proofs.Putting.{Going, going-from, going-next, going-over, puts-length}
 use Rattle.listing.proofs.Walking.{leftAt, left-start, left-next, left-end, step-fits}
@@ -12,17 +13,17 @@ use Rattle.listing.proofs.walk.put_walk.Statement.{statement}
 use Rattle.listing.proofs.walk.put_walk.Tie as tie
 
 abbrev Inv-loop : tie.InvT-loop
-Inv-loop image marks mask labels chosen out₀ n at₀ p₀ out at p =
+Inv-loop image marks mask labels index out₀ n at₀ p₀ out at p =
     (p ≤ length image)
     × (at ≤ 4194304 * p)
     × (length out ≡ length out₀)
-    × Going (walk image marks mask labels chosen (length image) 0 0) out₀ 0 out at (leftAt image marks mask labels chosen p)
+    × Going (walk image marks mask labels (isLent index) (length image) 0 0) out₀ 0 out at (leftAt image marks mask labels (isLent index) p)
 
 abbrev μ-loop : tie.MeasureT-loop
-μ-loop image marks mask labels chosen out₀ n at₀ p₀ out at p = length image - p
+μ-loop image marks mask labels index out₀ n at₀ p₀ out at p = length image - p
 
 abbrev start : tie.At-loop Inv-loop μ-loop → tie.Start Inv-loop μ-loop
-start l = l .before .before .before .before .before .before
+start l = l .before .before .before .before .before .before .before
 
 abbrev image : tie.At-loop Inv-loop μ-loop → List ℕ
 image l = start l .args .image .now
@@ -38,8 +39,8 @@ labels l = start l .args .labels .now
 
 loop-holds : tie.Need-loop-holds Inv-loop μ-loop
 loop-holds c =
-    let a = c .before .before .before .before .before .args in
-    (omega arith, omega arith, refl, going-from (a .out .now) 0 (left-start (a .image .now) (a .marks .now) (a .mask .now) (a .labels .now) (a .chosen)))
+    let a = c .before .before .before .before .before .before .args in
+    (omega arith, omega arith, refl, going-from (a .out .now) 0 (left-start (a .image .now) (a .marks .now) (a .mask .now) (a .labels .now) (isLent (a .index .now))))
 
 -- the position is inside the image, the marks, the mask and the target marks
 record Inside (image marks mask labels : List ℕ) (p : ℕ) : Type 0 where
@@ -63,7 +64,7 @@ put-at-requires c κs =
     let l = t .before in
     let h : l .loop .at ≤ 4194304 * l .loop .p = l .loop .inv .1 in
     let b : l .loop .p < 65536 = omega (arith, i .small, i .byte) in
-    (omega (arith, h, b), i .small, i .label, i .mark, i .masked)
+    (omega (arith, h, b), i .small, i .label, i .mark, i .masked, i .byte, start l .pre .4)
 
 step-at-requires : tie.Need-step-at-requires Inv-loop μ-loop
 step-at-requires c κs =
@@ -86,12 +87,12 @@ loop-again c =
     let v = l .loop .inv in
     let s = step c in
     let g : k .put-at .result ≤ l .loop .at + 4194304 = k .put-at .ensures .1 in
-    (s .1, omega (arith, g, v .1, s .0), puts-length (k .put-at .ensures .0) ∙ v .2, going-next (v .3) (left-next (image l) (marks l) (mask l) (labels l) (start l .args .chosen) (l .loop .p) (c .step-at .result) (inside t .byte) (c .step-at .ensures)) (k .put-at .ensures .0))
+    (s .1, omega (arith, g, v .1, s .0), puts-length (k .put-at .ensures .0) ∙ v .2, going-next (v .3) (left-next (image l) (marks l) (mask l) (labels l) (isLent (start l .args .index .now)) (l .loop .p) (c .step-at .result) (inside t .byte) (c .step-at .ensures)) (k .put-at .ensures .0))
 
 returns : tie.Need-returns Inv-loop μ-loop
 returns c =
     let l = c .before in
-    going-over (l .loop .inv .3) (left-end (image l) (marks l) (mask l) (labels l) (start l .args .chosen) (l .loop .p) (c .loop-test .left))
+    going-over (l .loop .inv .3) (left-end (image l) (marks l) (mask l) (labels l) (isLent (start l .args .index .now)) (l .loop .p) (c .loop-test .left))
 
 pub put-walk-spec : {M : Type 1} → statement M
 put-walk-spec =

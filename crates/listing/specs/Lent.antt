@@ -1,0 +1,24 @@
+-- The index that inner functions are lent: serves them alone.
+-- Assumes nothing.
+use Prim.Native.Nat.{ℕ}
+use mathlib.Core.Bool.{Bool, true}
+use mathlib.Core.List.{List}
+use mathlib.Core.Path.{_≡_}
+use lib.Dec.{ltb}
+use lib.ListN.{length}
+use Rattle.views.specs.Labels.{labelsOf}
+use Rattle.views.specs.Mask.{maskOf}
+use Rattle.arrival_index.specs.Index.{indexOf}
+use Rattle.listing.specs.Walk.{walk}
+
+-- one of no cells is none
+abbrev pub isLent : List ℕ → Bool
+isLent index = ltb 0 (length index)
+
+-- any other is the index of this image and these marks
+abbrev pub Indexed : List ℕ → List ℕ → List ℕ → Type 0
+Indexed image m index = isLent index ≡ true → index ≡ indexOf image m
+
+-- the listing, with arrivals or without
+unfoldable pub textOf : List ℕ → List ℕ → Bool → List ℕ
+textOf image m chosen = walk image m (maskOf image m) (labelsOf image m) chosen (length image) 0 0
