@@ -22,9 +22,9 @@ abbrev pub isChosen : Arrivals → Bool
 isChosen Chosen = true
 isChosen Declined = false
 
--- without a choice
+-- without a choice. Document 02, W5: arrivals are shown unless they are declined
 abbrev pub unchosen : Arrivals
-unchosen = Declined
+unchosen = Chosen
 
 -- the lines of a traced position, by the target marks
 unfoldable pub codeLines : List ℕ → List ℕ → List ℕ → Bool → ℕ → List ℕ

@@ -15,7 +15,7 @@ pub enum Arrivals {
 
 impl Arrivals {
     // Without a choice.
-    pub const DEFAULT: Arrivals = Arrivals::Declined;
+    pub const DEFAULT: Arrivals = Arrivals::Chosen;
 
     pub fn is_chosen(self) -> bool
         ensures { λ r. ⌜ r ≡ isChosen self ⌝ }

@@ -11,6 +11,7 @@ use Rattle.listing.specs.declared.tabbed.Arrivals.the-variants.{Chosen, Decline
 abbrev pub ListingBound : Type 0
 ListingBound = (image m : List ℕ) → Bytes image → length (listingOf image m Declined) ≤ 60 * length image
 
--- with arrivals one line more, of 7 bytes and 5 for each of at most as many positions as an image may have
+-- with arrivals at most 77, all positions taken together: one line more, of 7 bytes and 5 for each of those that arrive, who are at most two
+-- for each position
 abbrev pub ChosenBound : Type 0
-ChosenBound = (image m : List ℕ) → Bytes image → length image ≤ 65536 → length (listingOf image m Chosen) ≤ 327747 * length image
+ChosenBound = (image m : List ℕ) → Bytes image → length (listingOf image m Chosen) ≤ 77 * length image

@@ -54,5 +54,5 @@ module _ (image m : List ℕ) (i : length image < 2 ^ 63) (k : length m < 2 ^ 63
 
 -- of a listing
 pub listing-small : (image m : List ℕ) → Bytes image → length image ≤ 65536 → (choice : Arrivals) → length (listingOf image m choice) < 2 ^ 63
-listing-small image m B h Chosen = omega (arith, h, chosen-bound image m B h)
+listing-small image m B h Chosen = omega (arith, h, chosen-bound image m B)
 listing-small image m B h Declined = omega (arith, h, listing-bound image m B)

@@ -8,11 +8,11 @@ use libc::STDOUT_FILENO;
 use sight::Viewed;
 use unlister::Said;
 
-// 60 bytes for each of 65,536 positions, as long as a listing can be, and one byte more, by which a longer text is noticed.
-fn listing() -> [u8; 3_932_161]
-    ensures { λ r. ⌜ 3932161 ≡ length r ⌝ }
+// 77 bytes for each of 65,536 positions, as long as a listing with arrivals can be, and one byte more, by which a longer text is noticed.
+fn listing() -> [u8; 5_046_273]
+    ensures { λ r. ⌜ 5046273 ≡ length r ⌝ }
 {
-    [0; 3_932_161]
+    [0; 5_046_273]
 }
 
 // The image lines of 65,536 bytes.
@@ -36,7 +36,7 @@ fn unlist(length: usize) {
     if n == text.len() {
         io::write_all(
             STDERR_FILENO,
-            b"unlist: the listing is longer than 3932160 bytes\n",
+            b"unlist: the listing is longer than 5046272 bytes\n",
         );
         return;
     }

@@ -28,8 +28,9 @@ fn is_old(room: &[u8]) -> bool {
 fn call(letter: u8, input: &[u8], marks: &[u8], room: &mut [u8]) -> Viewed {
     match letter {
         b'=' => lister::list_text(input, room),
-        b'-' => listing::listing(input, marks, room),
-        _ => listing::listing_with(input, marks, Arrivals::Chosen, room),
+        b'-' => listing::listing_with(input, marks, Arrivals::Declined, room),
+        b'+' => listing::listing_with(input, marks, Arrivals::Chosen, room),
+        _ => listing::listing(input, marks, room),
     }
 }
 

@@ -36,7 +36,7 @@ pub fn ended(letter: u8) -> u64
     ensures { λ r. ⌜ r ≤ 1 ⌝ }
 {
     match letter {
-        b'=' | b'-' | b'+' => 1,
+        b'=' | b'-' | b'+' | b'?' => 1,
         _ => 0,
     }
 }
@@ -66,7 +66,7 @@ pub fn read(before: Case, letter: u8, rest: &[u8], given: &mut [u8]) -> Case {
         b'M' => c.marks = end,
         b'L' => c.bad = number,
         b'S' => c.sum = number,
-        b'=' | b'-' | b'+' => return Case::new(),
+        b'=' | b'-' | b'+' | b'?' => return Case::new(),
         _ => return c,
     }
     c

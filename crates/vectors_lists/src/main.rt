@@ -1,4 +1,4 @@
-// Replays a stored list of listings through `list_text` and `listing`, and prints how many of them hold.
+// Replays a stored list of listings through `list_text`, `listing_with` and `listing`, and prints how many of them hold.
 // The list was made by `compare/run --lists SRC`; data/ABOUT describes its lines.
 ghost use mathlib.Core.Path.{_≡_};
 ghost use lib.ListN.{length};
