@@ -2,10 +2,10 @@
 -- Assumes nothing.
 use mathlib.Core.Path.{_≡_, refl, sym}
 use mathlib.Core.List.{List, [], _∷_}
-use Prim.Native.Nat.{ℕ, zero, suc, _+_, _<_}
+use Prim.Native.Nat.{ℕ, zero, suc, _+_, _*_, _<_, _≤_}
 use native.Mathlib.Omega.{arith}
 use lib.ListN.{length, getD}
-use borrow.Author.Tests.{eq-eqb, ne-eqb}
+use borrow.Author.Tests.{lt-ltb, le-ltb, eq-eqb, ne-eqb}
 use Rattle.arrival_index.specs.Index.{nextIn}
 
 -- what stands inside does not ask for what stands past the end
@@ -14,16 +14,20 @@ any-default [] i c d h = absurd (omega arith)
 any-default (x ∷ l) zero c d h = refl
 any-default (x ∷ l) (suc i) c d h = any-default l i c d (omega arith)
 
+pub past-none : (index held : List ℕ) (n p q : ℕ) → 65536 < n → 65536 ≡ nextIn index n held p q
+unfolding nextIn
+past-none index held n p q h = rw (lt-ltb 65536 n h)
+
 -- by the targets that q had
-module _ (index held : List ℕ) (p q : ℕ) where
-  pub by-first : p ≡ getD held 0 65536 → getD index (65536 + q) 65536 ≡ nextIn index held p q
+module _ (index held : List ℕ) (n p q : ℕ) (h : n ≤ 65536) where
+  pub by-first : p ≡ getD held 0 65536 → getD index (n + q) 65536 ≡ nextIn index n held p q
   unfolding nextIn
-  by-first e = rw (eq-eqb p (getD held 0 65536) e)
+  by-first e = rw (le-ltb 65536 n h, eq-eqb p (getD held 0 65536) e)
 
-  pub by-second : (p ≡ getD held 0 65536 → ⊥) → p ≡ getD held 1 65536 → getD index (131072 + q) 65536 ≡ nextIn index held p q
+  pub by-second : (p ≡ getD held 0 65536 → ⊥) → p ≡ getD held 1 65536 → getD index (2 * n + q) 65536 ≡ nextIn index n held p q
   unfolding nextIn
-  by-second n e = rw (ne-eqb p (getD held 0 65536) n, eq-eqb p (getD held 1 65536) e)
+  by-second o e = rw (le-ltb 65536 n h, ne-eqb p (getD held 0 65536) o, eq-eqb p (getD held 1 65536) e)
 
-  pub by-none : (p ≡ getD held 0 65536 → ⊥) → (p ≡ getD held 1 65536 → ⊥) → 65536 ≡ nextIn index held p q
+  pub by-none : (p ≡ getD held 0 65536 → ⊥) → (p ≡ getD held 1 65536 → ⊥) → 65536 ≡ nextIn index n held p q
   unfolding nextIn
-  by-none n o = rw (ne-eqb p (getD held 0 65536) n, ne-eqb p (getD held 1 65536) o)
+  by-none o e = rw (le-ltb 65536 n h, ne-eqb p (getD held 0 65536) o, ne-eqb p (getD held 1 65536) e)

@@ -3,13 +3,13 @@
 use mathlib.Core.Path.{_≡_, refl, sym, ap, subst, _∙_}
 use mathlib.Core.Bool.{Bool, true, false, cond, _&&_, _||_}
 use mathlib.Core.List.{List}
-use Prim.Native.Nat.{ℕ, zero, suc, _+_, _*_, _<_, _≤_}
+use Prim.Native.Nat.{ℕ, _+_, _*_, _<_, _≤_}
 use native.Mathlib.Omega.{arith}
 use lib.Dec.{eqb, ltb}
 use lib.ListN.{length, getD, set, length-set}
 use lib.Seq.{getD-set-same, getD-set-other}
 use borrow.Author.Tests.{lt-ltb, le-ltb, ltb-true, ltb-false, eqb-true, eqb-false}
-use Rattle.ways.proofs.Ands.{both, not-first, not-second}
+use Rattle.ways.proofs.Ands.{both, not-second}
 use Rattle.sight.proofs.Ors.{or-first, or-second, or-rest}
 use Rattle.meetings.specs.Arrivals.{arrives, nextArrival}
 use Rattle.arrival_index.specs.Index.{targetOf, afterBy}
@@ -41,20 +41,20 @@ module _ (at v : ℕ) (l : List ℕ) where
 module _ (image m : List ℕ) (fits : length image ≤ 65536) (q : ℕ) (h : q < length image) where
   -- ---- a link, by the target number j, at its place from c on
 
-  module _ (j c : ℕ) (k : List ℕ) (long : length k ≡ 196608) (low : c ≤ 131072)
-      (head : (p : ℕ) → p < 65536 → getD k p 0 ≡ nextArrival image m p (q + 1))
-      (link : (r : ℕ) → r < 65536 → getD k (c + r) 0 ≡ cond (ltb r (q + 1)) 65536 (afterBy image m j r)) where
+  module _ (j c : ℕ) (k : List ℕ) (long : length k ≡ 3 * length image) (low : c ≤ 2 * length image)
+      (head : (p : ℕ) → p < length image → getD k p 0 ≡ nextArrival image m p (q + 1))
+      (link : (r : ℕ) → r < length image → getD k (c + r) 0 ≡ cond (ltb r (q + 1)) 65536 (afterBy image m j r)) where
     own : getD (linked (length image) (targetOf image m j q) (c + q) k) (c + q) 0 ≡ afterBy image m j q
     unfolding afterBy
     own = by (ltb (targetOf image m j q) (length image)) refl
       where
         by : (b : Bool) → ltb (targetOf image m j q) (length image) ≡ b → getD (placed b (c + q) (getD k (targetOf image m j q) 0) k) (c + q) 0 ≡ nextArrival image m (targetOf image m j q) (q + 1)
         by true e =
-            placed-same (c + q) (getD k (targetOf image m j q) 0) k true refl (omega arith) ∙ head (targetOf image m j q) (omega (arith, ltb-true (targetOf image m j q) (length image) e))
+            placed-same (c + q) (getD k (targetOf image m j q) 0) k true refl (omega arith) ∙ head (targetOf image m j q) (ltb-true (targetOf image m j q) (length image) e)
         by false e =
-            link q (omega arith) ∙ rw (lt-ltb q (q + 1) (omega arith)) (sym (next-outside image m (targetOf image m j q) (ltb-false (targetOf image m j q) (length image) e) (q + 1)))
+            link q h ∙ rw (lt-ltb q (q + 1) (omega arith)) (sym (next-outside image m (targetOf image m j q) (ltb-false (targetOf image m j q) (length image) e) (q + 1)))
 
-    noted : (r : ℕ) → r < 65536 → getD (linked (length image) (targetOf image m j q) (c + q) k) (c + r) 0 ≡ cond (ltb r q) 65536 (afterBy image m j r)
+    noted : (r : ℕ) → r < length image → getD (linked (length image) (targetOf image m j q) (c + q) k) (c + r) 0 ≡ cond (ltb r q) 65536 (afterBy image m j r)
     noted r g = by (eqb r q) refl
       where
         other : (r ≡ q → ⊥) → getD (linked (length image) (targetOf image m j q) (c + q) k) (c + r) 0 ≡ cond (ltb r (q + 1)) 65536 (afterBy image m j r)
@@ -74,7 +74,7 @@ module _ (image m : List ℕ) (fits : length image ≤ 65536) (q : ℕ) (h : q <
 
   -- ---- the heads
 
-  module _ (p : ℕ) (g : p < 65536) (k : List ℕ) (long : length k ≡ 196608) (head : getD k p 0 ≡ nextArrival image m p (q + 1)) where
+  module _ (p : ℕ) (g : p < length image) (k : List ℕ) (long : length k ≡ 3 * length image) (head : getD k p 0 ≡ nextArrival image m p (q + 1)) where
     abbrev a : ℕ
     a = targetOf image m 0 q
 
@@ -87,36 +87,31 @@ module _ (image m : List ℕ) (fits : length image ≤ 65536) (q : ℕ) (h : q <
     abbrev new : List ℕ
     new = headed (length image) b q first
 
-    -- where p is a target inside, q stands there
-    here : ltb p (length image) ≡ true → (eqb p a || eqb p b) ≡ true → getD new p 0 ≡ q → getD new p 0 ≡ nextArrival image m p q
-    here i o e = e ∙ sym (next-here image m p q h (by-two image m p q g ∙ both (ltb p (length image)) _ i o))
+    -- where p is a target, q stands there
+    here : (eqb p a || eqb p b) ≡ true → getD new p 0 ≡ q → getD new p 0 ≡ nextArrival image m p q
+    here o e = e ∙ sym (next-here image m p q h (by-two image m p q (omega arith) ∙ both (ltb p (length image)) _ (lt-ltb p (length image) g) o))
+
+    at-first : p ≡ a → (p ≡ b → ⊥) → getD new p 0 ≡ q
+    at-first e n =
+        placed-other b q first (ltb b (length image)) p (λ x f. n f)
+        ∙ subst (λ (x : ℕ). getD first x 0 ≡ q) (sym e) (placed-same a q k (ltb a (length image)) (lt-ltb a (length image) (omega (arith, e, g))) (omega (arith, e, g, long)))
+
+    at-second : p ≡ b → getD new p 0 ≡ q
+    at-second e =
+        subst (λ (x : ℕ). getD new x 0 ≡ q) (sym e) (placed-same b q first (ltb b (length image)) (lt-ltb b (length image) (omega (arith, e, g))) (omega (arith, e, g, long, placed-length a q k (ltb a (length image)))))
 
     -- elsewhere what stood there stays
-    stays : (ltb b (length image) ≡ true → p ≡ b → ⊥) → (ltb a (length image) ≡ true → p ≡ a → ⊥) → getD new p 0 ≡ nextArrival image m p (q + 1)
-    stays n o = placed-other b q first (ltb b (length image)) p n ∙ placed-other a q k (ltb a (length image)) p o ∙ head
-
-    at-first : p ≡ a → ltb p (length image) ≡ true → (p ≡ b → ⊥) → getD new p 0 ≡ q
-    at-first e i n =
-        placed-other b q first (ltb b (length image)) p (λ x f. n f)
-        ∙ subst (λ (x : ℕ). getD first x 0 ≡ q) (sym e) (placed-same a q k (ltb a (length image)) (ap (λ (x : ℕ). ltb x (length image)) (sym e) ∙ i) (omega (arith, e, g, long)))
-
-    at-second : p ≡ b → ltb p (length image) ≡ true → getD new p 0 ≡ q
-    at-second e i =
-        subst (λ (x : ℕ). getD new x 0 ≡ q) (sym e) (placed-same b q first (ltb b (length image)) (ap (λ (x : ℕ). ltb x (length image)) (sym e) ∙ i) (omega (arith, e, g, long, placed-length a q k (ltb a (length image)))))
+    stays : (p ≡ b → ⊥) → (p ≡ a → ⊥) → getD new p 0 ≡ nextArrival image m p (q + 1)
+    stays n o = placed-other b q first (ltb b (length image)) p (λ x. n) ∙ placed-other a q k (ltb a (length image)) p (λ x. o) ∙ head
 
     now-head : getD new p 0 ≡ nextArrival image m p q
-    now-head = by (ltb p (length image)) refl (eqb p b) refl (eqb p a) refl
+    now-head = by (eqb p b) refl (eqb p a) refl
       where
-        outside : ltb p (length image) ≡ false → (x : ℕ) → ltb x (length image) ≡ true → p ≡ x → ⊥
-        outside i x f e = omega (arith, ltb-false p (length image) i, ltb-true x (length image) f, e)
-
-        by : (i : Bool) → ltb p (length image) ≡ i → (y : Bool) → eqb p b ≡ y → (x : Bool) → eqb p a ≡ x → getD new p 0 ≡ nextArrival image m p q
-        by true i true y x f = here i (or-second (eqb p a) (eqb p b) y) (at-second (eqb-true p b y) i)
-        by true i false y true x = here i (or-first (eqb p a) (eqb p b) x) (at-first (eqb-true p a x) i (eqb-false p b y))
-        by true i false y false x =
-            stays (λ f. eqb-false p b y) (λ f. eqb-false p a x) ∙ sym (next-later image m p q h (by-two image m p q g ∙ not-second (ltb p (length image)) _ (or-rest (eqb p a) (eqb p b) x ∙ y)))
-        by false i y f x e =
-            stays (outside i b) (outside i a) ∙ sym (next-later image m p q h (by-two image m p q g ∙ not-first (ltb p (length image)) _ i))
+        by : (y : Bool) → eqb p b ≡ y → (x : Bool) → eqb p a ≡ x → getD new p 0 ≡ nextArrival image m p q
+        by true y x f = here (or-second (eqb p a) (eqb p b) y) (at-second (eqb-true p b y))
+        by false y true x = here (or-first (eqb p a) (eqb p b) x) (at-first (eqb-true p a x) (eqb-false p b y))
+        by false y false x =
+            stays (eqb-false p b y) (eqb-false p a x) ∙ sym (next-later image m p q h (by-two image m p q (omega arith) ∙ not-second (ltb p (length image)) _ (or-rest (eqb p a) (eqb p b) x ∙ y)))
 
   -- ---- all four
 
@@ -124,48 +119,52 @@ module _ (image m : List ℕ) (fits : length image ≤ 65536) (q : ℕ) (h : q <
     abbrev n : ℕ
     n = length image
 
+    abbrev t₁ : ℕ
+    t₁ = targetOf image m 0 q
+
+    abbrev t₂ : ℕ
+    t₂ = targetOf image m 1 q
+
     abbrev l₁ : List ℕ
-    l₁ = linked n (targetOf image m 0 q) (65536 + q) l
+    l₁ = linked n t₁ (n + q) l
 
     abbrev l₂ : List ℕ
-    l₂ = linked n (targetOf image m 1 q) (131072 + q) l₁
+    l₂ = linked n t₂ (2 * n + q) l₁
 
-    long₁ : length l₁ ≡ 196608
-    long₁ = placed-length (65536 + q) _ l (ltb (targetOf image m 0 q) n) ∙ e .long
+    long₁ : length l₁ ≡ 3 * n
+    long₁ = placed-length (n + q) _ l (ltb t₁ n) ∙ e .long
 
-    long₂ : length l₂ ≡ 196608
-    long₂ = placed-length (131072 + q) _ l₁ (ltb (targetOf image m 1 q) n) ∙ long₁
+    long₂ : length l₂ ≡ 3 * n
+    long₂ = placed-length (2 * n + q) _ l₁ (ltb t₂ n) ∙ long₁
 
-    head₁ : (p : ℕ) → p < 65536 → getD l₁ p 0 ≡ nextArrival image m p (q + 1)
-    head₁ p g = placed-other (65536 + q) _ l (ltb (targetOf image m 0 q) n) p (λ x f. omega arith) ∙ e .head p g
+    head₁ : (p : ℕ) → p < n → getD l₁ p 0 ≡ nextArrival image m p (q + 1)
+    head₁ p g = placed-other (n + q) _ l (ltb t₁ n) p (λ x f. omega arith) ∙ e .head p g
 
-    head₂ : (p : ℕ) → p < 65536 → getD l₂ p 0 ≡ nextArrival image m p (q + 1)
-    head₂ p g = placed-other (131072 + q) _ l₁ (ltb (targetOf image m 1 q) n) p (λ x f. omega arith) ∙ head₁ p g
+    head₂ : (p : ℕ) → p < n → getD l₂ p 0 ≡ nextArrival image m p (q + 1)
+    head₂ p g = placed-other (2 * n + q) _ l₁ (ltb t₂ n) p (λ x f. omega arith) ∙ head₁ p g
+
+    firsts : (r : ℕ) → r < n → getD l₂ (n + r) 0 ≡ cond (ltb r q) 65536 (afterBy image m 0 r)
+    firsts r g =
+        placed-other (2 * n + q) _ l₁ (ltb t₂ n) (n + r) (λ x f. omega (arith, f, g)) ∙ noted 0 n l (e .long) (omega arith) (e .head) (e .one) r g
+
+    seconds : (r : ℕ) → r < n → getD l₂ (2 * n + r) 0 ≡ cond (ltb r q) 65536 (afterBy image m 1 r)
+    seconds r g =
+        noted 1 (2 * n) l₁ long₁ (omega arith) head₁ (λ s f. placed-other (n + q) _ l (ltb t₁ n) (2 * n + s) (λ x d. omega (arith, d, h)) ∙ e .two s f) r g
+
+    abbrev l₄ : List ℕ
+    l₄ = headed n t₂ q (headed n t₁ q l₂)
 
     -- no head stands among the links
-    past : (t v : ℕ) (k : List ℕ) (i : ℕ) → 65536 ≤ i → getD (headed n t v k) i 0 ≡ getD k i 0
-    past t v k i g = placed-other t v k (ltb t n) i (λ x f. omega (arith, ltb-true t n x, f))
+    past : (t : ℕ) (k : List ℕ) (i : ℕ) → n ≤ i → getD (headed n t q k) i 0 ≡ getD k i 0
+    past t k i g = placed-other t q k (ltb t n) i (λ x f. omega (arith, ltb-true t n x, f))
 
-    firsts : (r : ℕ) → r < 65536 → getD l₂ (65536 + r) 0 ≡ cond (ltb r q) 65536 (afterBy image m 0 r)
-    firsts r g =
-        placed-other (131072 + q) _ l₁ (ltb (targetOf image m 1 q) n) (65536 + r) (λ x f. omega arith) ∙ noted 0 65536 l (e .long) (omega arith) (e .head) (λ s f. e .link 0 s (omega arith) f) r g
+    kept : (i : ℕ) → n ≤ i → getD l₄ i 0 ≡ getD l₂ i 0
+    kept i g = past t₂ (headed n t₁ q l₂) i g ∙ past t₁ l₂ i g
 
-    seconds : (r : ℕ) → r < 65536 → getD l₂ (131072 + r) 0 ≡ cond (ltb r q) 65536 (afterBy image m 1 r)
-    seconds r g =
-        noted 1 131072 l₁ long₁ (omega arith) head₁ (λ s f. placed-other (65536 + q) _ l (ltb (targetOf image m 0 q) n) (131072 + s) (λ x d. omega (arith, d, h)) ∙ e .link 1 s (omega arith) f) r g
-
-    pub entered : Entered image m q (headed n (targetOf image m 1 q) q (headed n (targetOf image m 0 q) q l₂))
+    pub entered : Entered image m q l₄
     entered = record {
-      long = placed-length (targetOf image m 1 q) q (headed n (targetOf image m 0 q) q l₂) (ltb (targetOf image m 1 q) n) ∙ placed-length (targetOf image m 0 q) q l₂ (ltb (targetOf image m 0 q) n) ∙ long₂;
+      long = placed-length t₂ q (headed n t₁ q l₂) (ltb t₂ n) ∙ placed-length t₁ q l₂ (ltb t₁ n) ∙ long₂;
       head = λ p g. now-head p g l₂ long₂ (head₂ p g);
-      link = linking;
+      one = λ r g. kept (n + r) (omega arith) ∙ firsts r g;
+      two = λ r g. kept (2 * n + r) (omega arith) ∙ seconds r g;
     }
-      where
-        shown : (c r : ℕ) → 65536 ≤ c → getD (headed n (targetOf image m 1 q) q (headed n (targetOf image m 0 q) q l₂)) (c + r) 0 ≡ getD l₂ (c + r) 0
-        shown c r g =
-            past (targetOf image m 1 q) q (headed n (targetOf image m 0 q) q l₂) (c + r) (omega arith) ∙ past (targetOf image m 0 q) q l₂ (c + r) (omega arith)
-
-        linking : (j r : ℕ) → j < 2 → r < 65536 → getD (headed n (targetOf image m 1 q) q (headed n (targetOf image m 0 q) q l₂)) (65536 * suc j + r) 0 ≡ cond (ltb r q) 65536 (afterBy image m j r)
-        linking zero r f g = shown 65536 r (omega arith) ∙ firsts r g
-        linking (suc zero) r f g = shown 131072 r (omega arith) ∙ seconds r g
-        linking (suc (suc j)) r f g = absurd (omega arith)

@@ -8,12 +8,12 @@ use lib.ListN.{length}
 use Rattle.meetings.specs.Arrivals.{heldAt, arrives, nextArrival}
 use Rattle.arrival_index.specs.Index.{indexOf, firstIn, nextIn}
 
--- at every position that an image may have
+-- at every position of the image
 abbrev pub FirstIndexed : Type 0
-FirstIndexed = (image m : List ℕ) (p : ℕ) → p < 65536 → firstIn (indexOf image m) p ≡ nextArrival image m p 0
+FirstIndexed = (image m : List ℕ) (p : ℕ) → p < length image → firstIn (indexOf image m) p ≡ nextArrival image m p 0
 
 -- after every q that arrives at p
 abbrev pub NextIndexed : Type 0
 NextIndexed =
     (image m : List ℕ) (p q : ℕ) → length image ≤ 65536 → q < length image → arrives image m p q ≡ true
-    → nextIn (indexOf image m) (heldAt image m q) p q ≡ nextArrival image m p (q + 1)
+    → nextIn (indexOf image m) (length image) (heldAt image m q) p q ≡ nextArrival image m p (q + 1)

@@ -1,6 +1,6 @@
 -- An index on its way: serves inner functions alone.
 -- Assumes nothing.
-use Prim.Native.Nat.{ℕ, suc, _+_, _*_, _<_}
+use Prim.Native.Nat.{ℕ, _+_, _*_, _<_}
 use mathlib.Core.Bool.{Bool, cond}
 use mathlib.Core.List.{List}
 use mathlib.Core.Path.{_≡_}
@@ -23,6 +23,7 @@ headed n t q index = placed (ltb t n) t q index
 
 -- the positions from k on are entered, and no others
 pub record Entered (image m : List ℕ) (k : ℕ) (index : List ℕ) : Type 0 where
-  pub long : length index ≡ 196608
-  pub head : (p : ℕ) → p < 65536 → getD index p 0 ≡ nextArrival image m p k
-  pub link : (j q : ℕ) → j < 2 → q < 65536 → getD index (65536 * suc j + q) 0 ≡ cond (ltb q k) 65536 (afterBy image m j q)
+  pub long : length index ≡ 3 * length image
+  pub head : (p : ℕ) → p < length image → getD index p 0 ≡ nextArrival image m p k
+  pub one : (q : ℕ) → q < length image → getD index (length image + q) 0 ≡ cond (ltb q k) 65536 (afterBy image m 0 q)
+  pub two : (q : ℕ) → q < length image → getD index (2 * length image + q) 0 ≡ cond (ltb q k) 65536 (afterBy image m 1 q)

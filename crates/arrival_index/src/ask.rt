@@ -1,9 +1,8 @@
 // What is asked of an index, whoever made it.
 ghost use mathlib.Core.Path.{_≡_};
-ghost use lib.ListN.{getD};
+ghost use lib.ListN.{length, getD};
 ghost use Rattle.meetings.specs.Arrivals.{heldAt};
 ghost use Rattle.arrival_index.specs.Index.{firstIn, nextIn};
-use crate::enter;
 use crate::target;
 use ways::Image;
 
@@ -25,15 +24,19 @@ pub fn first(index: &[u32], p: u32) -> u32
 
 // The arrival at p after q, which arrives there.
 pub fn next(index: &[u32], image: &[u8], marks: &[u8], p: u32, q: u32) -> u32
-    ensures { λ r. ⌜ r ≡ nextIn (now (index .entry)) (heldAt (now (image .entry)) (now (marks .entry)) q) p q ⌝ }
+    ensures { λ r. ⌜ r ≡ nextIn (now (index .entry)) (length (now (image .entry))) (heldAt (now (image .entry)) (now (marks .entry)) q) p q ⌝ }
 {
+    if Image::LIMIT < image.len() {
+        return Image::NOWHERE;
+    }
+    let n = image.len();
     let at = q as usize;
     let ps = meetings::held_at(image, marks, q);
     if p == target::one(ps) {
-        return cell(index, enter::ONES + at);
+        return cell(index, n + at);
     }
     if p == target::two(ps) {
-        return cell(index, enter::TWOS + at);
+        return cell(index, 2 * n + at);
     }
     Image::NOWHERE
 }

@@ -4,13 +4,6 @@ ghost use Prim.Native.Nat.{_+_, _≤_, _<_};
 ghost use lib.ListN.{length};
 ghost use Rattle.arrival_index.specs.Entered.{linked, headed, Entered};
 use crate::target;
-use ways::Image;
-
-// Where the links by the first target begin.
-pub const ONES: usize = Image::LIMIT;
-
-// And those by the second.
-pub const TWOS: usize = 2 * Image::LIMIT;
 
 // Notes at a place who arrives first at t so far.
 fn link(index: &mut [u32], n: usize, t: u32, place: usize)
@@ -44,8 +37,8 @@ pub fn enter(image: &[u8], marks: &[u8], index: &mut [u32], q: u32)
     let ps = meetings::held_at(image, marks, q);
     let a = target::one(ps);
     let b = target::two(ps);
-    link(index, n, a, ONES + at);
-    link(index, n, b, TWOS + at);
+    link(index, n, a, n + at);
+    link(index, n, b, 2 * n + at);
     head(index, n, a, q);
     head(index, n, b, q);
 }

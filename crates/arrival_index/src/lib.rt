@@ -6,4 +6,4 @@ mod target;
 
 pub use ask::first;
 pub use ask::next;
-pub use make::index_of;
+pub use make::index_into;

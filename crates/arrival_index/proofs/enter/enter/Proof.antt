@@ -1,8 +1,8 @@
 -- `enter::enter` meets its contract.
 -- Assumes nothing.
-use mathlib.Core.Path.{_≡_, refl, ap, sym, subst, _∙_}
+use mathlib.Core.Path.{_≡_, ap, sym, subst, _∙_}
 use mathlib.Core.List.{List}
-use Prim.Native.Nat.{ℕ, _+_, _<_, _≤_}
+use Prim.Native.Nat.{ℕ, _+_, _*_, _<_, _≤_}
 use native.Mathlib.Omega.{arith}
 use borrow.Author.Needs.{needs}
 use lib.ListN.{length, getD}
@@ -47,33 +47,47 @@ link2-of k = k .before .before .before .before
 abbrev head-of : tie.After-head2 → tie.After-head
 head-of k = k .before .before .before .before
 
-long : (t : tie.After-two) → length (old t) ≡ 196608
+long : (t : tie.After-two) → length (old t) ≡ 3 * length (image t)
 long t = start t .pre .2 .long
 
-long-link : (k : tie.After-link) → length (k .link .last .0) ≡ 196608
+long-link : (k : tie.After-link) → length (k .link .last .0) ≡ 3 * length (image (two-of k))
 long-link k = k .link .kept .0 ∙ long (two-of k)
 
-long-link2 : (k : tie.After-link2) → length (k .link2 .last .0) ≡ 196608
+long-link2 : (k : tie.After-link2) → length (k .link2 .last .0) ≡ 3 * length (image (two-of (link-of k)))
 long-link2 k = k .link2 .kept .0 ∙ long-link (link-of k)
 
-long-head : (k : tie.After-head) → length (k .head .last .0) ≡ 196608
+long-head : (k : tie.After-head) → length (k .head .last .0) ≡ 3 * length (image (two-of (link-of (link2-of k))))
 long-head k = k .head .kept .0 ∙ long-link2 (link2-of k)
 
 -- a place among the links is inside
-inside : (t : tie.After-two) (c n : ℕ) → c ≤ 131072 → n ≡ 196608 → (length (image t) ≤ n) × (c + q t < n)
-inside t c n h e = let b : length (image t) ≤ 65536 = start t .pre .1 in let g : q t < length (image t) = start t .pre .0 in (omega arith, omega arith)
+inside : (t : tie.After-two) (c n : ℕ) → c ≤ 2 * length (image t) → n ≡ 3 * length (image t) → (length (image t) ≤ n) × (c + q t < n)
+inside t c n h e = let g : q t < length (image t) = start t .pre .0 in (omega arith, omega arith)
 
 add-link : tie.Need-add-link
-add-link c = record { fits = let h = inside (c .before) 65536 196608 (omega arith) refl .1 in omega (arith, h) }
+add-link c =
+    let t = c .before in
+    let b : length (image t) ≤ 65536 = start t .pre .1 in
+    let g : q t < length (image t) = start t .pre .0 in
+    record { fits = omega arith }
+
+mul-link : tie.Need-mul-link
+mul-link c =
+    let t = two-of (c .before .before .before) in
+    let b : length (image t) ≤ 65536 = start t .pre .1 in
+    record { fits = omega arith }
 
 add-link-2 : tie.Need-add-link-2
-add-link-2 c = record { fits = let h = inside (two-of (c .before .before .before)) 131072 196608 (omega arith) refl .1 in omega (arith, h) }
+add-link-2 c =
+    let t = two-of (c .before .before .before) in
+    let b : length (image t) ≤ 65536 = start t .pre .1 in
+    let g : q t < length (image t) = start t .pre .0 in
+    record { fits = omega arith }
 
 link-requires : tie.Need-link-requires
-link-requires c κs = let t = c .before in inside t 65536 (length (old t)) (omega arith) (long t)
+link-requires c κs = let t = c .before in inside t (length (image t)) (length (old t)) (omega arith) (long t)
 
 link-requires-2 : tie.Need-link-requires-2
-link-requires-2 c κs = let k = c .before .before .before in inside (two-of k) 131072 _ (omega arith) (long-link k)
+link-requires-2 c κs = let k = c .before .before .before in inside (two-of k) (2 * length (image (two-of k))) _ (omega arith) (long-link k)
 
 head-requires : tie.Need-head-requires
 head-requires c κs = let k = c .before .before .before in inside (two-of (link-of k)) 0 _ (omega arith) (long-link2 k) .0
@@ -91,8 +105,8 @@ returns c =
     let n : ℕ = length (image t) in
     let a : ℕ = targetOf (image t) (marks t) 0 (q t) in
     let b : ℕ = targetOf (image t) (marks t) 1 (q t) in
-    let e₁ = k₁ .link .ensures ∙ ap (λ (x : ℕ). linked n x (65536 + q t) (old t)) (one t) in
-    let e₂ = k₂ .link2 .ensures ∙ ap (λ (x : ℕ). linked n x (131072 + q t) (k₁ .link .last .0)) (two t) ∙ ap (linked n b (131072 + q t)) e₁ in
+    let e₁ = k₁ .link .ensures ∙ ap (λ (x : ℕ). linked n x (n + q t) (old t)) (one t) in
+    let e₂ = k₂ .link2 .ensures ∙ ap (λ (x : ℕ). linked n x (2 * n + q t) (k₁ .link .last .0)) (two t) ∙ ap (linked n b (2 * n + q t)) e₁ in
     let e₃ = k₃ .head .ensures ∙ ap (λ (x : ℕ). headed n x (q t) (k₂ .link2 .last .0)) (one t) ∙ ap (headed n a (q t)) e₂ in
     let e₄ = k₄ .head2 .ensures ∙ ap (λ (x : ℕ). headed n x (q t) (k₃ .head .last .0)) (two t) ∙ ap (headed n b (q t)) e₃ in
     subst (λ (l : List ℕ). Entered (image t) (marks t) (q t) l) (sym e₄) (entered (image t) (marks t) (start t .pre .1) (q t) (start t .pre .0) (old t) (start t .pre .2))
@@ -100,4 +114,4 @@ returns c =
 pub enter-spec : {M : Type 1} → statement M
 enter-spec =
     tie.close
-    (tie.spec (λ c κs. search needs) (λ c κs. search needs) (λ c κs. search needs) add-link link-requires add-link-2 link-requires-2 head-requires head-requires-2 (λ c. search needs) returns)
+    (tie.spec (λ c κs. search needs) (λ c κs. search needs) (λ c κs. search needs) add-link link-requires mul-link add-link-2 link-requires-2 head-requires head-requires-2 (λ c. search needs) returns)
