@@ -1,11 +1,11 @@
 -- The one answer of the listing: too little room, or written; and the mask and the target marks as the views leave them in a room.
 -- Assumes nothing.
 use mathlib.Core.Path.{_≡_, refl, sym, ap, subst, _∙_}
-use mathlib.Core.Bool.{Bool, true}
+use mathlib.Core.Bool.{Bool, true, false}
 use mathlib.Core.List.{List, [], _∷_, _++_}
 use Prim.Native.Nat.{ℕ, _+_, _-_, _<_, _≤_}
 use native.Mathlib.Omega.{arith}
-use borrow.Author.Tests.{lt-ltb}
+use borrow.Author.Tests.{ltb-false}
 use lib.IntN.{pos}
 use lib.ListN.{length, take, drop, length-take}
 use lib.Seq.{sets, sets-eq, take-at}
@@ -56,11 +56,20 @@ module _ (image m : List ℕ) (text room : List ℕ) (s : Sound image m) where
       let z : sets room 0 text ≡ text ++ drop r room = sets-eq text room 0 l ∙ ap (λ (j : ℕ). text ++ drop j room) (sym (p .next)) in
       shown-as image m text room s r e (omega (arith, e, l)) new (p .wrote ∙ z)
 
--- an index that is made is lent
-pub index-lent : (image m index : List ℕ) → index ≡ indexOf image m → isLent index ≡ true
-index-lent image m index e = lt-ltb 0 (length index) (omega (arith, ap length e, index-length image m))
+-- where an index is lent there are arrivals; the one of an empty image has no cells, but then there is no text either
+pub index-text : (image m index : List ℕ) → index ≡ indexOf image m → textOf image m (isLent index) ≡ textOf image m true
+unfolding textOf walk
+index-text image m index e = by (isLent index) refl
+  where
+    none : (b : Bool) → length image ≡ 0 → walk image m (maskOf image m) (labelsOf image m) b (length image) 0 0 ≡ []
+    none b z = ap (λ (k : ℕ). walk image m (maskOf image m) (labelsOf image m) b k 0 0) z
 
--- what is answered of a text is answered of the listing
-pub same-text : (image m : List ℕ) (choice : Arrivals) (room : List ℕ) (chosen : Bool) → chosen ≡ isChosen choice → {r : Answer ℕ} {new : List ℕ}
-    → Is image m (textOf image m chosen) room r new → Is image m (listingOf image m choice) room r new
-same-text image m choice room chosen e {r} {new} h = subst (λ (t : List ℕ). Is image m t room r new) (is-listing image m choice chosen e) h
+    by : (b : Bool) → isLent index ≡ b → textOf image m b ≡ textOf image m true
+    by true f = refl
+    by false f =
+        let z : length image ≡ 0 = omega (arith, ltb-false 0 (length index) f, ap length e, index-length image m) in
+        none false z ∙ sym (none true z)
+
+-- what is answered of a text is answered of one that is the same
+pub same-text : (image m room : List ℕ) {s t : List ℕ} → s ≡ t → {r : Answer ℕ} {new : List ℕ} → Is image m s room r new → Is image m t room r new
+same-text image m room e {r} {new} h = subst (λ (x : List ℕ). Is image m x room r new) e h

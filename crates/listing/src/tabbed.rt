@@ -1,5 +1,6 @@
 // The tabbed listing.
 ghost use mathlib.Core.Path.{_≡_};
+ghost use mathlib.Core.Bool.{true};
 ghost use Rattle.sight.specs.View.{Sound, viewedOf, viewAnswer, viewRoom};
 ghost use Rattle.listing.specs.Lent.{isLent, Indexed, textOf};
 ghost use Rattle.listing.specs.Walk.{isChosen, unchosen, listingOf};
@@ -33,13 +34,26 @@ fn list(image: &[u8], marks: &[u8], index: &[u32], room: &mut [u8]) -> Viewed
     ensures { λ r. ⌜ (viewedOf r ≡ viewAnswer (now (image .entry)) (now (marks .entry)) (textOf (now (image .entry)) (now (marks .entry)) (isLent (now (index .entry)))) (now (room .entry))) × (now (room .exit) ≡ viewRoom (now (image .entry)) (now (marks .entry)) (textOf (now (image .entry)) (now (marks .entry)) (isLent (now (index .entry)))) (now (room .entry))) ⌝ }
 {
     let n = image.len();
-    let mask = rooms::mask_of(image, marks);
-    let labels = rooms::labels_of(image, marks);
+    let mut mask = rooms::bytes();
+    let mut labels = rooms::bytes();
+    views::build_byte_mask(image, marks, &mut mask);
+    views::target_marks(image, marks, &mut labels);
     let need = walk::needed(image, marks, &mask[0..n], &labels[0..n], index, room.len());
     if room.len() < need {
         return Viewed::NoRoom(need);
     }
     Viewed::Written(walk::put_walk(image, marks, &mask[0..n], &labels[0..n], index, room))
+}
+
+// The same with arrivals.
+fn list_arrivals(image: &[u8], marks: &[u8], room: &mut [u8]) -> Viewed
+    requires { ⌜ Sound (now image) (now marks) ⌝ }
+    ensures { λ r. ⌜ (viewedOf r ≡ viewAnswer (now (image .entry)) (now (marks .entry)) (textOf (now (image .entry)) (now (marks .entry)) true) (now (room .entry))) × (now (room .exit) ≡ viewRoom (now (image .entry)) (now (marks .entry)) (textOf (now (image .entry)) (now (marks .entry)) true) (now (room .entry))) ⌝ }
+{
+    let n = 3 * image.len();
+    let mut index = rooms::cells();
+    arrival_index::index_into(image, marks, &mut index[..n]);
+    list(image, marks, &index[..n], room)
 }
 
 // The listing of the traced image, with arrivals where they are chosen: how many bytes were written.
@@ -51,8 +65,7 @@ pub fn listing_with(image: &[u8], marks: &[u8], arrivals: Arrivals, room: &mut [
         return v;
     }
     if arrivals.is_chosen() {
-        let index = arrival_index::index_of(image, marks);
-        return list(image, marks, &index, room);
+        return list_arrivals(image, marks, room);
     }
     let none = [0u32; 1];
     list(image, marks, &none[0..0], room)

@@ -46,8 +46,7 @@ lent e = let n : length (index e) ≡ 0 → ⊥ = e .if1 .left in lt-ltb 0 (leng
 lowest : (n : tie.After-first) → n .first .result ≡ nextArrival (image (n .before)) (marks (n .before)) (p (n .before)) 0
 lowest n =
     let e = n .before in
-    let h : p e < 65536 = omega (arith, start e .pre .1, start e .pre .2) in
-    n .first .ensures ∙ ap (λ (l : List ℕ). firstIn l (p e)) (start e .pre .3 (lent e)) ∙ first-indexed (image e) (marks e) (p e) h
+    n .first .ensures ∙ ap (λ (l : List ℕ). firstIn l (p e)) (start e .pre .3 (lent e)) ∙ first-indexed (image e) (marks e) (p e) (start e .pre .2)
 
 first : (n : tie.After-first) → Next (image (n .before)) (marks (n .before)) (p (n .before)) 0 (n .first .result)
 first n = let e = n .before in next-is (image e) (marks e) (p e) (start e .pre .1) 0 (n .first .result) (lowest n)

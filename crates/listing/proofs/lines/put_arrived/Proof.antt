@@ -62,7 +62,7 @@ next c =
     let q : ℕ = l .loop .q in
     let h : q < length (image s) = t .loop-test .taken in
     let a = left-arrives (image s) (marks s) (p s) q h (l .loop .inv .3 h) in
-    let e = c .next .ensures ∙ ap (λ (i : List ℕ). nextIn i (heldAt (image s) (marks s) q) (p s) q) (v .2) ∙ next-indexed (image s) (marks s) (p s) q (v .1) h a in
+    let e = c .next .ensures ∙ ap (λ (i : List ℕ). nextIn i (length (image s)) (heldAt (image s) (marks s) q) (p s) q) (v .2) ∙ next-indexed (image s) (marks s) (p s) q (v .1) h a in
     next-is (image s) (marks s) (p s) (v .1) (q + 1) (c .next .result) e
 
 -- one less is left

@@ -14,49 +14,73 @@ use Rattle.views.proofs.Masking.{mask-length}
 use Rattle.listing.specs.Lent.{isLent, Indexed, textOf}
 use Rattle.listing.specs.Puts.{Needed}
 use Rattle.listing.specs.Walk.{walk}
-use Rattle.listing.proofs.Answering.{long-enough, part-is, is-text, too-small, all-written}
+use Rattle.listing.proofs.Answering.{in-front, long-enough, part-is, is-text, too-small, all-written}
 use Rattle.listing.proofs.Putting.{puts-as}
 use Rattle.listing.proofs.tabbed.list.Statement.{statement}
 use Rattle.listing.proofs.tabbed.list.Tie as tie
 
-abbrev start : tie.After-labels-of → tie.Start
-start l = l .before .before .before .before .before .before
+-- the mask is made
+abbrev masked : tie.After-labels2 → tie.After-build-byte-mask
+masked l = l .before .before .before .before
 
-abbrev image : tie.After-labels-of → List ℕ
+-- both rooms are
+abbrev roomed : tie.After-labels2 → tie.After-bytes2
+roomed l = masked l .before .before
+
+abbrev start : tie.After-labels2 → tie.Start
+start l = roomed l .before .before .before .before .before .before
+
+abbrev image : tie.After-labels2 → List ℕ
 image l = start l .args .image .now
 
-abbrev marks : tie.After-labels-of → List ℕ
+abbrev marks : tie.After-labels2 → List ℕ
 marks l = start l .args .marks .now
 
-abbrev index : tie.After-labels-of → List ℕ
+abbrev index : tie.After-labels2 → List ℕ
 index l = start l .args .index .now
 
-abbrev room : tie.After-labels-of → List ℕ
+abbrev room : tie.After-labels2 → List ℕ
 room l = start l .args .room .now
 
-abbrev text : tie.After-labels-of → List ℕ
+abbrev text : tie.After-labels2 → List ℕ
 text l = textOf (image l) (marks l) (isLent (index l))
 
-sound : (l : tie.After-labels-of) → Sound (image l) (marks l)
+sound : (l : tie.After-labels2) → Sound (image l) (marks l)
 sound l = start l .pre .0
 
-mask-long : (l : tie.After-labels-of) → length (image l) ≤ length (l .before .mask-of .result)
-mask-long l = long-enough (l .before .mask-of .result) (maskOf (image l) (marks l)) (length (image l)) (l .before .mask-of .ensures) (mask-length (image l) (marks l))
+abbrev mask : tie.After-labels2 → List ℕ
+mask l = masked l .build-byte-mask .last .1 .1 .0
 
-labels-long : (l : tie.After-labels-of) → length (image l) ≤ length (l .labels-of .result)
-labels-long l = long-enough (l .labels-of .result) (labelsOf (image l) (marks l)) (length (image l)) (l .labels-of .ensures) (labels-length (image l) (marks l))
+abbrev labels : tie.After-labels2 → List ℕ
+labels l = l .before .target-marks .last .1 .1 .0
+
+mask-front : (l : tie.After-labels2) → take (length (image l)) (mask l) ≡ maskOf (image l) (marks l)
+mask-front l =
+    let b = roomed l .before in
+    in-front (image l) (marks l) (sound l) (maskOf (image l) (marks l)) (mask-length (image l) (marks l)) (b .bytes .result) (b .bytes .ensures) (mask l) (masked l .build-byte-mask .ensures .1)
+
+labels-front : (l : tie.After-labels2) → take (length (image l)) (labels l) ≡ labelsOf (image l) (marks l)
+labels-front l =
+    let b = roomed l in
+    in-front (image l) (marks l) (sound l) (labelsOf (image l) (marks l)) (labels-length (image l) (marks l)) (b .bytes2 .result) (b .bytes2 .ensures) (labels l) (l .before .target-marks .ensures .1)
+
+mask-long : (l : tie.After-labels2) → length (image l) ≤ length (mask l)
+mask-long l = long-enough (mask l) (maskOf (image l) (marks l)) (length (image l)) (mask-front l) (mask-length (image l) (marks l))
+
+labels-long : (l : tie.After-labels2) → length (image l) ≤ length (labels l)
+labels-long l = long-enough (labels l) (labelsOf (image l) (marks l)) (length (image l)) (labels-front l) (labels-length (image l) (marks l))
 
 abbrev partOf : ℕ → List ℕ → List ℕ
 partOf n l = take (n - 0) (drop 0 l)
 
-mask-part : (l : tie.After-labels-of) → partOf (length (image l)) (l .before .mask-of .result) ≡ maskOf (image l) (marks l)
-mask-part l = part-is (l .before .mask-of .result) (maskOf (image l) (marks l)) (length (image l)) (l .before .mask-of .ensures)
+mask-part : (l : tie.After-labels2) → partOf (length (image l)) (mask l) ≡ maskOf (image l) (marks l)
+mask-part l = part-is (mask l) (maskOf (image l) (marks l)) (length (image l)) (mask-front l)
 
-labels-part : (l : tie.After-labels-of) → partOf (length (image l)) (l .labels-of .result) ≡ labelsOf (image l) (marks l)
-labels-part l = part-is (l .labels-of .result) (labelsOf (image l) (marks l)) (length (image l)) (l .labels-of .ensures)
+labels-part : (l : tie.After-labels2) → partOf (length (image l)) (labels l) ≡ labelsOf (image l) (marks l)
+labels-part l = part-is (labels l) (labelsOf (image l) (marks l)) (length (image l)) (labels-front l)
 
 -- the text of a walk
-shown : (l : tie.After-labels-of) → walk (image l) (marks l) (partOf (length (image l)) (l .before .mask-of .result)) (partOf (length (image l)) (l .labels-of .result)) (isLent (index l)) (length (image l)) 0 0 ≡ text l
+shown : (l : tie.After-labels2) → walk (image l) (marks l) (partOf (length (image l)) (mask l)) (partOf (length (image l)) (labels l)) (isLent (index l)) (length (image l)) 0 0 ≡ text l
 shown l = is-text (image l) (marks l) _ _ (isLent (index l)) (mask-part l) (labels-part l)
 
 -- what a walk asks
@@ -67,7 +91,7 @@ record Asked (image marks mask labels index : List ℕ) : Type 0 where
   labelled : length labels ≡ length image
   indexed : Indexed image marks index
 
-asked : (l : tie.After-labels-of) → Asked (image l) (marks l) (partOf (length (image l)) (l .before .mask-of .result)) (partOf (length (image l)) (l .labels-of .result)) (index l)
+asked : (l : tie.After-labels2) → Asked (image l) (marks l) (partOf (length (image l)) (mask l)) (partOf (length (image l)) (labels l)) (index l)
 asked l = record {
   fits = small (image l) (marks l) (sound l);
   marked = covered (image l) (marks l) (sound l);
@@ -77,7 +101,7 @@ asked l = record {
 }
 
 -- before what is needed is known
-abbrev before-need : tie.After-needed → tie.After-labels-of
+abbrev before-need : tie.After-needed → tie.After-labels2
 before-need k = k .before .before .before .before .before
 
 needed-requires : tie.Need-needed-requires
@@ -112,6 +136,10 @@ list-spec =
     tie.close
     (tie.spec
     (λ c κs. search needs)
+    (λ c κs. search needs)
+    (λ c. search needs)
+    (λ c κs. search needs)
+    (λ c. search needs)
     (λ c κs. search needs)
     (λ c. search needs)
     (λ c. search needs)

@@ -1,19 +1,16 @@
 -- `tabbed::listing_with` meets its contract.
 -- Assumes nothing.
-use mathlib.Core.Path.{_≡_, sym, subst, _∙_}
-use mathlib.Core.Bool.{Bool, true, false}
+use mathlib.Core.Path.{_≡_, sym, _∙_}
+use mathlib.Core.Bool.{true, false}
 use mathlib.Core.List.{List}
 use Prim.Native.Nat.{ℕ}
-use native.Mathlib.Omega.{arith}
 use borrow.Author.Needs.{needs}
 use borrow.Author.Tests.{not-true, not-false}
-use lib.ListN.{length}
 use Rattle.operand.proofs.Sign.{never}
 use Rattle.sight.specs.View.{Sound}
 use Rattle.sight.proofs.Viewing.{is-sound, refused-all}
-use Rattle.listing.specs.Lent.{isLent}
-use Rattle.listing.specs.Walk.{isChosen, listingOf}
-use Rattle.listing.proofs.Answering.{index-lent, same-text}
+use Rattle.listing.specs.Walk.{listingOf}
+use Rattle.listing.proofs.Answering.{is-listing, same-text}
 use Rattle.listing.proofs.tabbed.listing_with.Statement.{statement}
 use Rattle.listing.proofs.tabbed.listing_with.Tie as tie
 
@@ -39,26 +36,25 @@ sound e =
     let w = e .before in
     is-sound (image w) (marks w) (w .before .check .result) (w .before .check .ensures) (sym (w .is-written .ensures) ∙ not-false _ (e .if1 .left))
 
-list-requires : tie.Need-list-requires
-list-requires c κs = let i = c .before .before in (sound (i .before .before .before), λ h. i .index-of .ensures)
+list-arrivals-requires : tie.Need-list-arrivals-requires
+list-arrivals-requires c κs = sound (c .before .before .before)
 
 returns-2 : tie.Need-returns-2
 returns-2 c =
     let l = c .before .before in
-    let i = l .before .before .before in
-    let t = i .before in
+    let t = l .before .before in
     let w = t .before .before .before in
-    same-text (image w) (marks w) (start w .args .arrivals) (room w) _ (index-lent (image w) (marks w) _ (i .index-of .ensures) ∙ sym (t .if2 .taken) ∙ t .before .is-chosen .ensures) (l .list .ensures)
+    same-text (image w) (marks w) (room w) (is-listing (image w) (marks w) (start w .args .arrivals) true (sym (t .if2 .taken) ∙ t .before .is-chosen .ensures)) (l .list-arrivals .ensures)
 
-list-requires-2 : tie.Need-list-requires-2
-list-requires-2 c κs = (sound (c .before .before .before .before .before), λ h. absurd (never (sym h)))
+list-requires : tie.Need-list-requires
+list-requires c κs = (sound (c .before .before .before .before .before), λ h. absurd (never (sym h)))
 
 returns-3 : tie.Need-returns-3
 returns-3 c =
     let l = c .before .before in
     let e = l .before .before .before .before in
     let w = e .before .before .before in
-    same-text (image w) (marks w) (start w .args .arrivals) (room w) _ (sym (e .if2 .left) ∙ e .before .is-chosen .ensures) (l .list2 .ensures)
+    same-text (image w) (marks w) (room w) (is-listing (image w) (marks w) (start w .args .arrivals) false (sym (e .if2 .left) ∙ e .before .is-chosen .ensures)) (l .list .ensures)
 
 pub listing-with-spec : {M : Type 1} → statement M
 listing-with-spec =
@@ -68,14 +64,12 @@ listing-with-spec =
     (λ c κs. search needs)
     returns
     (λ c κs. search needs)
-    (λ c κs. search needs)
-    (λ c. search needs)
-    list-requires
+    list-arrivals-requires
     (λ c. search needs)
     returns-2
     (λ c. search needs)
     (λ c. search needs)
     (λ c. search needs)
-    list-requires-2
+    list-requires
     (λ c. search needs)
     returns-3)
