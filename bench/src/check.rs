@@ -24,6 +24,7 @@ pub fn check(cases: &[Case]) -> Result<(), &'static str> {
         viewing(case)?;
         overlapping(case)?;
         listing(case, false)?;
+        listing(case, true)?;
         reading_back(case)?;
         mapping(case)?;
     }
@@ -193,7 +194,7 @@ fn plain_back(text: &[u8], length: usize) -> Back {
     (Answer::new(number, &[value as i64]), image, marks)
 }
 
-pub fn listing(case: &Case, arrivals: bool) -> Result<(), &'static str> {
+fn listing(case: &Case, arrivals: bool) -> Result<(), &'static str> {
     let mut room = vec![9; LONGEST_LISTING];
     let choice = u32::from(arrivals);
     let answer = ours::listing(&case.image, &case.marks, choice, &mut room);

@@ -21,9 +21,6 @@ use std::process::ExitCode;
 /// The lengths of images, and how many there are of each.
 const LENGTHS: [(usize, usize); 3] = [(4_096, 128), (16_384, 64), (65_536, 32)];
 
-/// With arrivals ours takes time that grows by the square: so few images are listed so, and no longest one.
-const FEW: [usize; 2] = [16, 2];
-
 fn main() -> ExitCode {
     let seed: u64 = match std::env::args().nth(1).map(|word| word.parse()) {
         None => 1,
@@ -59,16 +56,7 @@ fn all(random: &mut Random) -> Result<(), &'static str> {
     }
     let whole: Vec<&[Case]> = lengths.iter().map(Vec::as_slice).collect();
     let late: Vec<&[Case]> = late.iter().map(Vec::as_slice).collect();
-    let few: Vec<&[Case]> = whole
-        .iter()
-        .zip(FEW)
-        .map(|(cases, few)| &cases[..few])
-        .collect();
-    for case in few.iter().copied().flatten() {
-        check::listing(case, true)?;
-    }
     let table = ROWS.map(|(row, _)| match row {
-        Row::ListingWithArrivals => rows::measure(row, &few),
         Row::MapFirstData => rows::measure(row, &late),
         _ => rows::measure(row, &whole),
     });

@@ -104,10 +104,13 @@ fn ratio(one: Option<f64>, other: Option<f64>) -> String {
 /// The aims, by the worst of the lengths where none is named.
 pub fn aims(table: &Table) {
     println!("\naims, by the worst of the lengths where none is named");
-    let figures = |row: Row, one: usize, other: usize| -> Vec<f64> {
+    let times = |row: Row| -> &[Times] {
         let index = ROWS.iter().position(|(known, _)| *known == row);
-        let times = table[index.expect("a row")].iter();
-        let ratios = times.filter_map(|times| Some(times[one]? / times[other]?));
+        &table[index.expect("a row")]
+    };
+    let figures = |row: Row, one: usize, other: usize| -> Vec<f64> {
+        let ratios = times(row).iter();
+        let ratios = ratios.filter_map(|times| Some(times[one]? / times[other]?));
         ratios.collect()
     };
     let least = figures(Row::Run, 1, 0).into_iter().fold(f64::MAX, f64::min);
@@ -121,6 +124,21 @@ pub fn aims(table: &Table) {
         let most = figures(row, 0, 2).into_iter().fold(0.0, f64::max);
         aim(words, most, most <= limit);
     }
+    let ours = |row: Row| -> Vec<f64> {
+        let ours = times(row).iter().map(|times| times[0]);
+        ours.map(|time| time.expect("ours is measured")).collect()
+    };
+    let (with, without) = (ours(Row::ListingWithArrivals), ours(Row::Listing));
+    let step = with[2] / with[1];
+    let words = "listing with arrivals, 64 KiB/16 KiB, at most 5";
+    aim(words, step, step <= 5.0);
+    let most = with.iter().zip(&without).map(|(one, other)| one / other);
+    let most = most.fold(0.0, f64::max);
+    aim(
+        "listing, with/without arrivals, at most 3",
+        most,
+        most <= 3.0,
+    );
     for (words, row) in [
         (
             "map count of 64 KiB, plain/ours, at least 20",

@@ -12,10 +12,6 @@ use compare::original::listed;
 use compare::paper::listing::{self as paper, Arrivals};
 use compare::random::Random;
 
-/// Ours looks through the whole image for the arrivals at each traced position: so many traced positions times
-/// positions of the image are not too many.
-const ENOUGH: usize = 1 << 20;
-
 /// What a listing is asked for.
 struct Given<'a> {
     image: &'a [u8],
@@ -46,10 +42,7 @@ pub fn of_trace(
             marks,
             arrivals,
         };
-        match given.is_too_much() {
-            true => tally.left_out(),
-            false => given.listing(tally, random, Some(told)),
-        }
+        given.listing(tally, random, Some(told));
     }
 }
 
@@ -59,18 +52,10 @@ pub fn of_marks(tally: &mut Tally, random: &mut Random, image: &[u8], marks: &[u
         marks,
         arrivals: random.pick(&[Arrivals::Declined, Arrivals::Chosen]),
     };
-    match given.is_too_much() {
-        true => tally.left_out(),
-        false => given.listing(tally, random, None),
-    }
+    given.listing(tally, random, None);
 }
 
 impl Given<'_> {
-    fn is_too_much(&self) -> bool {
-        let traced = self.marks.iter().filter(|mark| **mark >= 2).count();
-        self.arrivals == Arrivals::Chosen && traced * self.image.len() > ENOUGH
-    }
-
     fn listing(&self, tally: &mut Tally, random: &mut Random, told: Option<String>) {
         let needed = told.as_ref().map_or_else(|| self.needed(), String::len);
         let room = views::room(random, needed);

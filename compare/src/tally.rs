@@ -96,11 +96,10 @@ pub struct Traces {
     pub capped: u64,
 }
 
-/// The lines of the listings, by their letters, and the listings that were left out.
+/// The lines of the listings, by their letters.
 #[derive(Default)]
 struct Listings {
     lines: [u64; LETTERS.len()],
-    left_out: u64,
 }
 
 /// The listings read back: as they were written, and changed ones by what is expected of them.
@@ -153,11 +152,6 @@ impl Tally {
         if let Some(first) = first {
             self.listed[original::form(first)] += 1;
         }
-    }
-
-    /// Counts a listing with arrivals that is not asked for, since it takes too long.
-    pub fn left_out(&mut self) {
-        self.listings.left_out += 1;
     }
 
     /// Counts one call of ours, under the number that is expected of it. `first` is the byte that
@@ -281,8 +275,6 @@ impl Listings {
         println!(
             "lines of listings: L {labels}, O {overlaps}, A {arrivals}, I {instructions}, D {data}"
         );
-        let left_out = self.left_out;
-        println!("listings with arrivals left out, for the time that they take: {left_out}");
     }
 }
 

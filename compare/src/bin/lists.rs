@@ -6,8 +6,8 @@
 //! - `T`: a part of the input. `B`, `M`: a part of an image and of its marks, in hex.
 //! - `X`: a part of the output, from its beginning on; all of it where it is short.
 //! - `S`: the output's checksum by POSIX `cksum`. `L`: the first bad line of the input, or 0.
-//! - `=`: the length of the listing program's output. `-`, `+`: the length of a listing of the image and the
-//!   marks, without and with arrivals. With one of these a case ends.
+//! - `=`: the length of the listing program's output. `-`, `+`, `?`: the length of a listing of the image and
+//!   the marks, without arrivals, with them, and without a choice. With one of these a case ends.
 //!
 //! In a part `T` stands for a tab, as in document 01, and `|` for byte 10; `stored.rs` has the few others.
 //!

@@ -44,6 +44,11 @@ pub enum Arrivals {
     Declined,
 }
 
+impl Arrivals {
+    /// Without a choice. Document 02, W5: they are shown unless they are declined.
+    pub const DEFAULT: Arrivals = Arrivals::Chosen;
+}
+
 /// The listing in lent room, or its refusal.
 pub fn shown(image: &[u8], marks: &[u8], arrivals: Arrivals, room: &mut [u8]) -> Answer {
     views::show(image, marks, room, || {

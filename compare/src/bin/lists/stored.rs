@@ -23,8 +23,9 @@ const MEANT: [(char, char); 6] = [
 pub enum Asked {
     /// The listing program's output for a text.
     Output,
-    /// The listing of an image and its marks.
+    /// The listing of an image and its marks, with a choice and without.
     Listing(Arrivals),
+    Unchosen,
 }
 
 /// What is given, in parts that are repeated, each with its letter. In a text each character stands for the
@@ -49,9 +50,9 @@ impl Case {
     }
 
     /// Of an image and marks, in hex.
-    pub fn of_marks(about: &str, arrivals: Arrivals, image: &str, marks: &str) -> Case {
+    pub fn of_marks(about: &str, asked: Asked, image: &str, marks: &str) -> Case {
         let mut case = Case::new(about, "");
-        case.asked = Asked::Listing(arrivals);
+        case.asked = asked;
         case.and_part('B', 1, image).and_part('M', 1, marks)
     }
 
@@ -87,8 +88,13 @@ impl Case {
     pub fn output(&self) -> String {
         match self.asked {
             Asked::Output => listing::output(&self.text()),
-            Asked::Listing(arrivals) => listing::listing(&self.image(), &self.marks(), arrivals),
+            Asked::Listing(arrivals) => self.listing(arrivals),
+            Asked::Unchosen => self.listing(Arrivals::DEFAULT),
         }
+    }
+
+    fn listing(&self, arrivals: Arrivals) -> String {
+        listing::listing(&self.image(), &self.marks(), arrivals)
     }
 
     pub fn lines(&self) -> String {
@@ -115,6 +121,7 @@ impl Case {
             }
             Asked::Listing(Arrivals::Declined) => format!("-{length}\n"),
             Asked::Listing(Arrivals::Chosen) => format!("+{length}\n"),
+            Asked::Unchosen => format!("?{length}\n"),
         }
     }
 }
