@@ -41,7 +41,7 @@ int main(void)
     check("pw_run", number, answer);
 
     /* A room of 0 bytes asks how many the listing has. It is lent a pointer all the same, since none may be null. The stack of `main` is
-     * large enough for the call; that of a thread has to have 512 KiB. */
+     * large enough for the call; that of a thread has to have 1 MiB. */
     size_t size = 0;
     uint8_t *room = grown(NULL, 1);
     number = pw_listing(image, LENGTH, marks, LENGTH, 0, room, size, answer);

@@ -112,7 +112,7 @@ mod pottagewing {
     }
 
     /// The whole listing: an empty room asks how many bytes it has, which refusal 11 answers. A thread that calls this needs a stack of
-    /// 512 KiB, which is less than `std::thread` gives it.
+    /// 1 MiB, which is less than `std::thread` gives it.
     pub fn listing(image: &[u8], marks: &[u8], arrivals: bool) -> Result<Vec<u8>, Refusal> {
         let mut room = Vec::new();
         match listing_into(image, marks, arrivals, &mut room) {

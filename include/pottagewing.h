@@ -38,11 +38,11 @@
  * more; those beyond change no answer and stay as they were.
  *
  * Stack: pw_listing, pw_list_text and pw_read_back hold tables for the longest
- * image on the stack, however short the image. A thread that calls either of
- * the first two needs a stack of 512 KiB; pw_read_back holds 192 KiB and needs
- * one of 256 KiB. With too small a stack the program is ended by a fault, and
- * there is no refusal. All other calls need less than 1 KiB. No call allocates
- * memory.
+ * image on the stack, however short the image. A thread that calls pw_listing,
+ * with arrivals or without, needs a stack of 1 MiB, of which it holds some 900
+ * KiB; one that calls pw_list_text or pw_read_back needs 256 KiB. With too
+ * small a stack the program is ended by a fault, and there is no refusal. All
+ * other calls need less than 1 KiB. No call allocates memory.
  *
  * The numbers of the refusals, with the values in answer[0] to answer[2]:
  *
@@ -203,7 +203,11 @@ uint32_t pw_data_run(const uint8_t *image, size_t image_length,
  * names it, `O` with its overlaps, `A` with its arrivals, then `I` with its
  * bytes, mnemonic and operands. Bytes that no traced instruction has stand in
  * `D` lines of up to 16, left out where all are 0.
- * arrivals: 0 leaves the `A` lines out, any other number shows them.
+ * arrivals: 0 leaves the `A` lines out, any other number shows them. (The
+ * library's own call that takes no choice shows them; here one is always made.)
+ * A room of 60 bytes for each byte of the image holds every listing without
+ * `A` lines, and one of 77 every listing with them; a shorter one costs a
+ * second walk, by which what is needed is known first.
  * 0: the number of bytes written. No byte 0 follows them.
  * 1, 2, 6, 11. A room of 0 bytes serves to ask how many are needed.
  */
@@ -216,7 +220,7 @@ uint32_t pw_listing(const uint8_t *image, size_t image_length,
  * 256 entries, four hex digits each, parted by tabs; each further line has 1 to
  * 32 bytes of the image, two hex digits each, and all of them up to 16,384.
  * Digits are upper case. Each line ends with byte 10, which the last may lack.
- * Printed is the listing without arrivals; or one line of `R`, a tab and 13
+ * Printed is the listing with arrivals declined; or one line of `R`, a tab and 13
  * where the text is not of this kind, or 5 where an instruction is cut off, and
  * then a tab and how many of its bytes are missing, 1 or 2.
  * 0: the number of bytes written, also where they are an `R` line.

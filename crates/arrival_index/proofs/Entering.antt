@@ -1,7 +1,7 @@
 -- One position entered: both its links, then both heads.
 -- Assumes nothing.
 use mathlib.Core.Path.{_≡_, refl, sym, ap, subst, _∙_}
-use mathlib.Core.Bool.{Bool, true, false, cond, _&&_, _||_}
+use mathlib.Core.Bool.{Bool, true, false, cond, _||_}
 use mathlib.Core.List.{List}
 use Prim.Native.Nat.{ℕ, _+_, _*_, _<_, _≤_}
 use native.Mathlib.Omega.{arith}
@@ -11,7 +11,7 @@ use lib.Seq.{getD-set-same, getD-set-other}
 use borrow.Author.Tests.{lt-ltb, le-ltb, ltb-true, ltb-false, eqb-true, eqb-false}
 use Rattle.ways.proofs.Ands.{both, not-second}
 use Rattle.sight.proofs.Ors.{or-first, or-second, or-rest}
-use Rattle.meetings.specs.Arrivals.{arrives, nextArrival}
+use Rattle.meetings.specs.Arrivals.{nextArrival}
 use Rattle.arrival_index.specs.Index.{targetOf, afterBy}
 use Rattle.arrival_index.specs.Entered.{placed, linked, headed, Entered}
 use Rattle.arrival_index.proofs.Held.{by-two}
