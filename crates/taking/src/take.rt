@@ -37,13 +37,18 @@ pub fn note_place(marks: &mut [u8], n: usize, t: u32) -> Places
 fn note_both(marks: &mut [u8], n: usize, s: u32, t: u32) -> Places
     ensures { λ r. ⌜ (placesIn r ≡ fresh n (s ∷ t ∷ []) (now (marks .entry))) × (now (marks .exit) ≡ note n (s ∷ t ∷ []) (now (marks .entry))) ⌝ }
 {
-    if note::note_one(marks, n, s) == 1 {
-        if note::note_one(marks, n, t) == 1 {
+    let a = note::note_one(marks, n, s);
+    let b = note::note_one(marks, n, t);
+    if a == 1 {
+        if b == 1 {
             return Places::Both(s, t);
         }
         return Places::First(s);
     }
-    note_place(marks, n, t)
+    if b == 1 {
+        return Places::First(t);
+    }
+    Places::Nothing
 }
 
 // These positions noted, in their order.
