@@ -23,7 +23,7 @@ use Rattle.reach.proofs.Run.{run-takes}
 use Rattle.reach.proofs.Took.{length-took}
 use Rattle.trace.specs.Run.{Said, runJudged, runAnswer, runMarks, ranAnswer, endOf, outcomeOf, orElse}
 use Rattle.marking.specs.Tracer.{tracerOf}
-use Rattle.trace.proofs.Sizing.{right-sizes}
+use Rattle.marking.proofs.Sizing.{right-sizes}
 use Rattle.trace_laws.proofs.ClaimsMissingFew.{run-missing}
 use Rattle.sight.specs.View.{Sound, viewRefusals}
 use Rattle.views_laws.proofs.Finished.{marks-are}

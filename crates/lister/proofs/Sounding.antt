@@ -8,7 +8,7 @@ use native.Mathlib.Omega.{arith}
 use lib.ListN.{length, drop}
 use Rattle.operand.specs.Answer.{Answer, accepted, Refusal, judge, after}
 use Rattle.operand.proofs.Judging.{pass, done, past-all}
-use Rattle.trace.proofs.Sizing.{right-sizes}
+use Rattle.marking.proofs.Sizing.{right-sizes}
 use Rattle.sight.specs.Positions.{upFrom, positions}
 use Rattle.sight.specs.View.{Sound, damagedHere, damageIn, viewRefusals, roomAnswer, roomAfter}
 use Rattle.views_laws.specs.ClaimsSound.{Undamaged}

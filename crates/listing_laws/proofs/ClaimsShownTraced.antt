@@ -26,9 +26,9 @@ use Rattle.ways.proofs.HereIs.{answer, whole-here}
 use Rattle.ways.proofs.Within.{within}
 use Rattle.reach.specs.ClaimsOrder.{Final}
 use Rattle.reach.specs.Mark.{tracedMark, cleared}
-use Rattle.trace.specs.Run.{outcomeOf}
-use Rattle.trace.specs.Step.{damaged}
+use Rattle.marking.specs.Refusals.{damaged}
 use Rattle.marking.specs.Tracer.{tracerOf}
+use Rattle.trace.specs.Run.{outcomeOf}
 use Rattle.trace_laws.proofs.ClaimsImagesOrder.{image-run-final}
 use Rattle.sight.specs.Positions.{tracedAt}
 use Rattle.sight.specs.View.{offJmpf, misplaced, damagedHere}

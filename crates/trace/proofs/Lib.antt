@@ -1,4 +1,3 @@
-pub mod Sizing
 pub mod Queueing
 pub mod Turns
 pub mod Running
