@@ -1,23 +1,29 @@
--- What a first byte alone says, four bits by its row in the word of its column: the size in the lower two, and in the upper two where
--- control goes.
+-- What a first byte alone says. Document 01, 'Forms' and 'Targets'.
 -- Assumes nothing.
-use Prim.Native.Nat.{ℕ, _*_, _^_, _/_, _%_}
-use mathlib.Core.List.{List, [], _∷_}
+use Prim.Native.Nat.{ℕ, _+_, _*_}
+use mathlib.Core.List.{[], _∷_}
 use lib.ListN.{getD}
-use Rattle.instruction.specs.Grid.{column}
+use Rattle.instruction.specs.Eights.{digitsFrom}
+use Rattle.instruction.specs.Flow.{flowOf}
+use Rattle.instruction.specs.Forms.{formAt, formOf, sizeOf}
 use Rattle.instruction.specs.declared.flow.Flow.{Flow}
 use Rattle.instruction.specs.declared.flow.Flow.the-variants.{Stop, Next, Jump, Branch}
 
--- the words of the columns 0, 1, 2-3, 4-7 and 8-F
-abbrev pub words : List ℕ
-words = 0x555511EE66555FF5 ∷ 0x66656666665FFBBA ∷ 0x6666666666FFF766 ∷ 0x5555555555EFF655 ∷ 0x666666FFFFFFAAEE ∷ []
-
-unfoldable pub wordAt : ℕ → ℕ
-wordAt low = getD words (column low) 0
-
-unfoldable pub nibble : ℕ → ℕ
-nibble x = wordAt (x % 16) / 2 ^ (4 * (x / 16)) % 16
+-- a flow's two bits
+abbrev pub bitsOf : Flow → ℕ
+bitsOf Stop = 0
+bitsOf Next = 1
+bitsOf Jump = 2
+bitsOf Branch = 3
 
 -- the flow of two bits
 unfoldable pub flowAt : ℕ → Flow
 flowAt n = getD (Stop ∷ Next ∷ Jump ∷ Branch ∷ []) n Stop
+
+-- the size of the byte's form in the lower two bits, and where control goes from it in the upper two
+unfoldable pub saidBy : ℕ → ℕ
+saidBy x = sizeOf (formAt (formOf x)) + 4 * bitsOf (flowOf (formOf x))
+
+-- that of the sixteen first bytes that have these low four bits, row by row
+unfoldable pub wordAt : ℕ → ℕ
+wordAt low = digitsFrom 16 (λ (row : ℕ). saidBy (16 * row + low)) 16 0

@@ -5,7 +5,7 @@
 ghost use mathlib.Core.Path.{_≡_};
 ghost use Prim.Native.Nat.{_<_};
 ghost use Rattle.instruction.specs.Forms.{formAt, formOf, sizeOf};
-ghost use Rattle.first.specs.First.{wordAt, nibble, flowAt};
+ghost use Rattle.first.specs.First.{wordAt, saidBy, flowAt};
 use instruction::Flow;
 
 // The word of the column of a byte's low four bits. All sixteen are written out, so that the compiler makes a load of it.
@@ -35,7 +35,7 @@ fn word(low: u8) -> u64
 
 // The four bits of a first byte.
 pub fn bits(first: u8) -> u32
-    ensures { λ r. ⌜ r ≡ nibble first ⌝ }
+    ensures { λ r. ⌜ r ≡ saidBy first ⌝ }
 {
     ((word(first % 16) >> (4 * (first / 16))) % 16) as u32
 }

@@ -1,5 +1,6 @@
 pub mod Every
 pub mod Rest
+pub mod Digits
 pub mod Bytes
 pub mod Known
 pub mod Shapes

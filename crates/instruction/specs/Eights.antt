@@ -1,4 +1,4 @@
--- Bytes of a table in words of eight, the first lowest. Document 02, W4.
+-- Tables of numbers as the digits of words, the first lowest, and three of them in bytes. Document 02, W4.
 -- Assumes nothing.
 use Prim.Native.Nat.{ℕ, zero, suc, _+_, _*_, _/_, _%_}
 use mathlib.Core.List.{[]}
@@ -9,14 +9,14 @@ use Rattle.operand.specs.declared.kind.Shape.the-variants.{Bare, Imm, D9, Ri, I
 use Rattle.instruction.specs.Forms.{formAt, bits}
 use Rattle.instruction.specs.Grid.{entry}
 
--- n bytes of the table f from its place k on
-abbrev pub bytesFrom : (ℕ → ℕ) → ℕ → ℕ → ℕ
-bytesFrom f zero k = 0
-bytesFrom f (suc n) k = f k + 256 * bytesFrom f n (suc k)
+-- n numbers of the table f from its place k on
+abbrev pub digitsFrom : ℕ → (ℕ → ℕ) → ℕ → ℕ → ℕ
+digitsFrom base f zero k = 0
+digitsFrom base f (suc n) k = f k + base * digitsFrom base f n (suc k)
 
--- its word with a number
+-- a word of eight bytes
 unfoldable pub eight : (ℕ → ℕ) → ℕ → ℕ
-eight f w = bytesFrom f 8 (8 * w)
+eight f w = digitsFrom 256 f 8 (8 * w)
 
 -- the forms by first byte: column after column of sixteen rows each
 unfoldable pub byColumn : ℕ → ℕ

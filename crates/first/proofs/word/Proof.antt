@@ -1,33 +1,36 @@
 -- `word` meets its contract: the arm of each number is the word of its column.
 -- Assumes nothing.
-use mathlib.Core.Path.{_≡_, ap, sym}
+use mathlib.Core.Path.{_≡_, refl}
 use Prim.Native.Nat.{ℕ}
+use Rattle.field.specs.Pattern.{pattern, bytesOf, onto, given, next}
+use Rattle.instruction.specs.Flow.{flowOf, stops, jumps, branches}
+use Rattle.instruction.specs.Forms.{forms, formAt, formOf}
 use Rattle.instruction.proofs.Rest.{only}
-use Rattle.first.specs.First.{wordAt}
+use Rattle.first.specs.First.{wordAt, saidBy}
 use Rattle.first.proofs.word.Statement.{statement}
 use Rattle.first.proofs.word.Tie as tie
 
-arm : (c : tie.Start) (k : ℕ) → c .args .low ≡ k → wordAt k ≡ wordAt (c .args .low)
-arm c k e = ap wordAt (sym e)
+arm : {n : ℕ} (k x : ℕ) → x ≡ k → n ≡ wordAt k → n ≡ wordAt x
+arm k x e f = rw e f
 
 pub word-spec : {M : Type 1} → statement M
-unfolding wordAt
+unfolding wordAt saidBy flowOf stops jumps branches formOf formAt forms pattern bytesOf onto given next
 word-spec =
     tie.close
     (tie.spec
-    (λ c. arm (c .before) 0 (c .match .keys1))
-    (λ c. arm (c .before) 1 (c .match .keys2))
-    (λ c. arm (c .before) 2 (c .match .keys3))
-    (λ c. arm (c .before) 3 (c .match .keys4))
-    (λ c. arm (c .before) 4 (c .match .keys5))
-    (λ c. arm (c .before) 5 (c .match .keys6))
-    (λ c. arm (c .before) 6 (c .match .keys7))
-    (λ c. arm (c .before) 7 (c .match .keys8))
-    (λ c. arm (c .before) 8 (c .match .keys9))
-    (λ c. arm (c .before) 9 (c .match .keys10))
-    (λ c. arm (c .before) 10 (c .match .keys11))
-    (λ c. arm (c .before) 11 (c .match .keys12))
-    (λ c. arm (c .before) 12 (c .match .keys13))
-    (λ c. arm (c .before) 13 (c .match .keys14))
-    (λ c. arm (c .before) 14 (c .match .keys15))
-    (λ c. arm (c .before) 15 (only 15 (c .before .args .low) (c .match .rest) (c .before .pre))))
+    (λ c. arm 0 _ (c .match .keys1) refl)
+    (λ c. arm 1 _ (c .match .keys2) refl)
+    (λ c. arm 2 _ (c .match .keys3) refl)
+    (λ c. arm 3 _ (c .match .keys4) refl)
+    (λ c. arm 4 _ (c .match .keys5) refl)
+    (λ c. arm 5 _ (c .match .keys6) refl)
+    (λ c. arm 6 _ (c .match .keys7) refl)
+    (λ c. arm 7 _ (c .match .keys8) refl)
+    (λ c. arm 8 _ (c .match .keys9) refl)
+    (λ c. arm 9 _ (c .match .keys10) refl)
+    (λ c. arm 10 _ (c .match .keys11) refl)
+    (λ c. arm 11 _ (c .match .keys12) refl)
+    (λ c. arm 12 _ (c .match .keys13) refl)
+    (λ c. arm 13 _ (c .match .keys14) refl)
+    (λ c. arm 14 _ (c .match .keys15) refl)
+    (λ c. arm 15 _ (only 15 (c .before .args .low) (c .match .rest) (c .before .pre)) refl))
