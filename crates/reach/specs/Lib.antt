@@ -5,6 +5,7 @@ pub mod Takes
 pub mod Reach
 pub mod Run
 pub mod Queue
+pub mod Sweep
 pub mod Pins
 pub mod ClaimsTests
 pub mod ClaimsBetween
