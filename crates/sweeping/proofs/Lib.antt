@@ -1,0 +1,5 @@
+pub mod Meeting
+pub mod Passing
+pub mod Caught
+pub mod Sweeping
+pub mod Sized

@@ -1,0 +1,5 @@
+// A second engine, plain: the marks are swept upward until a sweep takes none.
+pub mod sweep;
+
+pub use sweep::Swept;
+pub use sweep::Tally;
