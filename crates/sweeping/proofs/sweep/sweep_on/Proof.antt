@@ -33,7 +33,7 @@ room : (c : tie.At-loop Inv-loop μ-loop) → length (start c .args .image .now)
 room c = start c .pre .1
 
 within : (c : tie.In-loop Inv-loop μ-loop) → c .before .loop .sweeps ≤ length (start (c .before) .args .image .now)
-within c = c .loop-test .taken
+within c = let h = c .loop-test .taken in omega arith
 
 returns : tie.Need-returns Inv-loop μ-loop
 returns c =
