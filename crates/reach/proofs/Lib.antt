@@ -46,3 +46,4 @@ pub mod StandTurn
 pub mod Begin
 pub mod Came
 pub mod Sample
+pub mod SweepSample

@@ -10,7 +10,7 @@ use Rattle.reach.specs.Note.{isOpen, note, fresh}
 use Rattle.reach.specs.Tracer.{Tracer, targets, mark, took, found}
 use Rattle.reach.specs.Run.{finished, stopped, runFrom, runOf}
 
-abbrev flashCall : Tracer
+abbrev pub flashCall : Tracer
 flashCall = record {
   size = 5;
   fits = λ p. true;
