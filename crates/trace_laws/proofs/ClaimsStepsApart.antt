@@ -1,4 +1,4 @@
--- The number and values of what start, step and run answer tell all cases apart: they are read back.
+-- The number and values of what start, step, run and the sweeping engine answer tell all cases apart: they are read back.
 -- Assumes nothing.
 use Prim.Native.Nat.{ℕ}
 use mathlib.Core.Path.{_≡_, refl}
@@ -7,7 +7,7 @@ use mathlib.Core.List.{List}
 use lib.Dec.{eqb}
 use lib.IntN.{ℤ}
 use Rattle.operand.specs.Answer.{Answer, accepted, refused}
-use Rattle.trace_laws.specs.ClaimsSteps.{StartedApart, SteppedApart, RanApart}
+use Rattle.trace_laws.specs.ClaimsSteps.{StartedApart, SteppedApart, RanApart, SweptApart}
 use Rattle.trace.specs.Run.{ranOf}
 use Rattle.trace.specs.Run as running
 use Rattle.stepping.specs.Start.{startedOf}
@@ -19,6 +19,10 @@ use Rattle.stepping.specs.declared.start.Started.{Started}
 use Rattle.stepping.specs.declared.start.Started.the-variants as started
 use Rattle.stepping.specs.declared.step.Stepped.{Stepped}
 use Rattle.stepping.specs.declared.step.Stepped.the-variants as stepped
+use Rattle.sweeping.specs.Sweep.{sweptOf}
+use Rattle.sweeping.specs.Sweep as sweeping
+use Rattle.sweeping.specs.declared.sweep.Swept.{Swept}
+use Rattle.sweeping.specs.declared.sweep.Swept.the-variants as swept
 use Rattle.instruction_laws.proofs.Undone.{undone, numberAt, cut}
 
 abbrev start-answered : Answer ℕ → Started
@@ -72,3 +76,15 @@ run-back (ran.Cut c) = refl
 
 pub ran-apart : RanApart
 ran-apart = undone ranOf run-answered run-back
+
+abbrev sweep-answered : Answer sweeping.Said → Swept
+sweep-answered (accepted s) = swept.Ended (record { sweeps = s .sweeps; steps = s .steps })
+sweep-answered (refused n vs) = cond (eqb n 1) (swept.LongImage (numberAt vs 0)) (swept.ShortMarks (numberAt vs 0))
+
+sweep-back : (r : Swept) → sweep-answered (sweptOf r) ≡ r
+sweep-back (swept.Ended t) = refl
+sweep-back (swept.LongImage n) = refl
+sweep-back (swept.ShortMarks n) = refl
+
+pub swept-apart : SweptApart
+swept-apart = undone sweptOf sweep-answered sweep-back
