@@ -37,6 +37,13 @@ pub mod Ran
 pub mod Run
 pub mod RunNotes
 pub mod Cut
+pub mod SweptAt
+pub mod Caught
+pub mod Swept
+pub mod Sweep
+pub mod SweepEnough
+pub mod SweepTakes
+pub mod SweepRun
 pub mod Sets
 pub mod Noted
 pub mod NotedMore

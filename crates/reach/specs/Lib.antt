@@ -13,5 +13,6 @@ pub mod ClaimsOrder
 pub mod ClaimsTakes
 pub mod ClaimsRun
 pub mod ClaimsCut
+pub mod ClaimsSweep
 pub mod ClaimsJoin
 pub mod ClaimsPins

@@ -33,17 +33,24 @@ sweepOnce G m = sweepFrom G (G .size) 0 m
 unfoldable pub caught : Tracer → List ℕ → ℕ
 caught G m = caughtFrom G (G .size) 0 m
 
+abbrev pub takesNone : Tracer → List ℕ → Bool
+takesNone G m = eqb (caught G m) 0
+
+-- the marks 2 and 3
+abbrev pub tracedIn : Tracer → List ℕ → ℕ
+tracedIn G m = count tracedMark (take (G .size) m)
+
 -- sweeps repeated until one takes none, at most `most` of them: the marks afterwards
 unfoldable pub sweepMarks : Tracer → ℕ → List ℕ → List ℕ
 sweepMarks G zero m = m
-sweepMarks G (suc most) m = cond (eqb (caught G m) 0) m (sweepMarks G most (sweepOnce G m))
+sweepMarks G (suc most) m = cond (takesNone G m) m (sweepMarks G most (sweepOnce G m))
 
 -- and how many sweeps that took, the last one counted
 unfoldable pub sweepCount : Tracer → ℕ → List ℕ → ℕ
 sweepCount G zero m = 0
-sweepCount G (suc most) m = suc (cond (eqb (caught G m) 0) 0 (sweepCount G most (sweepOnce G m)))
+sweepCount G (suc most) m = suc (cond (takesNone G m) 0 (sweepCount G most (sweepOnce G m)))
 
--- Each sweep but the last takes a position, and none is taken twice: one sweep more than there are positions is never passed.
+-- one sweep more than there are positions: more than these change nothing (`SweepsEnough`)
 abbrev pub enough : Tracer → ℕ
 enough G = suc (G .size)
 
@@ -55,4 +62,4 @@ unfoldable pub sweeps : Tracer → List ℕ → ℕ
 sweeps G m = sweepCount G (enough G) m
 
 unfoldable pub sweptSteps : Tracer → List ℕ → ℕ
-sweptSteps G m = count tracedMark (take (G .size) (sweptMarks G m))
+sweptSteps G m = tracedIn G (sweptMarks G m)

@@ -5,9 +5,9 @@ use mathlib.Core.Path.{_≡_, refl, sym, ap, _∙_}
 use mathlib.Core.Bool.{Bool, true, false, cond}
 use mathlib.Core.List.{List}
 use lib.ListN.{length}
-use Rattle.reach.specs.Tracer.{Tracer, took}
+use Rattle.reach.specs.Tracer.{Tracer}
 use Rattle.reach.specs.Sweep.{ripe, sweptAt, sweepFrom, caughtFrom, sweepOnce, caught}
-use Rattle.reach.proofs.Took.{length-took}
+use Rattle.reach.proofs.Caught.{length-swept}
 use Rattle.sweeping.proofs.Meeting.{Met}
 
 -- p is to be met next, and so many were taken before it
@@ -17,14 +17,6 @@ pub record Passing (G : Tracer) (m₀ m : List ℕ) (p taken : ℕ) : Type 0 whe
   pub few : taken ≤ p
   pub marks-left : sweepFrom G (G .size - p) p m ≡ sweepOnce G m₀
   pub count-left : taken + caughtFrom G (G .size - p) p m ≡ caught G m₀
-
-pub length-swept : (G : Tracer) (m : List ℕ) (p : ℕ) → length (sweptAt G m p) ≡ length m
-unfolding sweptAt
-length-swept G m p = by (ripe G m p)
-  where
-    by : (b : Bool) → length (cond b (took G m p) m) ≡ length m
-    by true = length-took G m p
-    by false = refl
 
 pub one-at-most : (b : Bool) → cond b 1 0 ≤ 1
 one-at-most true = omega arith

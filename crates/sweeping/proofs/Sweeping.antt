@@ -9,16 +9,16 @@ use lib.ListN.{length}
 use borrow.Author.Tests.{eq-eqb, ne-eqb}
 use Rattle.reach.specs.Mark.{tracedMark}
 use Rattle.reach.specs.Tracer.{Tracer}
-use Rattle.reach.specs.Sweep.{sweepOnce, caught, sweepMarks, sweepCount, sweptMarks, sweptSteps}
+use Rattle.reach.specs.Sweep.{sweepOnce, caught, sweepMarks, sweepCount, sweptMarks, sweptSteps, tracedIn}
+use Rattle.reach.proofs.Caught.{caught-done, none-caught}
 use Rattle.reach.specs.Sweep as spec
 use Rattle.reach.proofs.Count.{count-under}
-use Rattle.sweeping.proofs.Caught.{done, caught-done, none-caught}
 
 -- so many sweeps were made, and so many positions taken
 pub record Sweeping (G : Tracer) (m₀ m : List ℕ) (sweeps steps : ℕ) : Type 0 where
   pub bounded : sweeps ≤ suc (G .size)
   pub long : length m ≡ length m₀
-  pub counted : steps ≡ done G m
+  pub counted : steps ≡ tracedIn G m
   pub marks-left : sweepMarks G (suc (G .size) - sweeps) m ≡ sweptMarks G m₀
   pub count-left : sweeps + sweepCount G (suc (G .size) - sweeps) m ≡ spec.sweeps G m₀
 
@@ -29,7 +29,7 @@ pub record Ended (G : Tracer) (m₀ m : List ℕ) (sweeps steps : ℕ) : Type 0 
   pub marks-are : m ≡ sweptMarks G m₀
 
 module _ (G : Tracer) where
-  pub sweeping-start : (m : List ℕ) → done G m ≡ 0 → Sweeping G m m 0 0
+  pub sweeping-start : (m : List ℕ) → tracedIn G m ≡ 0 → Sweeping G m m 0 0
   unfolding sweptMarks spec.sweeps
   sweeping-start m e =
       let z : suc (G .size) - 0 ≡ suc (G .size) = omega arith in
@@ -44,7 +44,7 @@ module _ (G : Tracer) where
   module _ (m₀ m : List ℕ) (sweeps steps : ℕ) (S : Sweeping G m₀ m sweeps steps) where
     ended : (n : ℕ) (m′ : List ℕ) → m′ ≡ m → m ≡ sweptMarks G m₀ → n ≡ spec.sweeps G m₀ → Ended G m₀ m′ n steps
     unfolding sweptSteps
-    ended n m′ e f c = record { sweeps-are = c; steps-are = S .counted ∙ ap (done G) f; marks-are = e ∙ f }
+    ended n m′ e f c = record { sweeps-are = c; steps-are = S .counted ∙ ap (tracedIn G) f; marks-are = e ∙ f }
 
     -- as many as may be
     pub all-swept : G .size < sweeps → Ended G m₀ m sweeps steps
@@ -78,8 +78,8 @@ module _ (G : Tracer) where
           ended (sweeps + 1) m′ (C .1 ∙ none-caught G m z) f g
 
       module _ (fits : G .size ≤ length m₀) where
-        steps-now : steps + taken ≡ done G m′
-        steps-now = omega (arith, S .counted, C .0, caught-done G m (omega (arith, S .long)), ap (done G) (C .1))
+        steps-now : steps + taken ≡ tracedIn G m′
+        steps-now = omega (arith, S .counted, C .0, caught-done G m (omega (arith, S .long)), ap (tracedIn G) (C .1))
 
         pub few-steps : steps + taken ≤ G .size
         few-steps = omega (arith, steps-now, count-under tracedMark (G .size) m′)
