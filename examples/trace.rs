@@ -10,7 +10,7 @@ mod pottagewing {
 
     use std::fmt;
 
-    #[link(name = "exports", kind = "static")]
+    #[link(name = "pottagewing", kind = "static")]
     unsafe extern "C" {
         fn pw_run(
             image: *const u8,

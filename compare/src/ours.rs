@@ -2,7 +2,7 @@
 
 use compare::answer::Answer;
 
-#[link(name = "exports", kind = "static")]
+#[link(name = "pottagewing", kind = "static")]
 unsafe extern "C" {
     fn pw_decode(bytes: *const u8, n: usize, answer: *mut [i64; 5]) -> u32;
     fn pw_encode(

@@ -7,15 +7,15 @@ use native.Mathlib.Omega.{arith}
 use lib.IntN.{pos}
 use lib.ListN.{getD, length}
 use borrow.Author.Tests.{eq-eqb, ne-eqb, lt-ltb, le-ltb}
-use Rattle.operand.specs.Answer.{accepted, refused}
-use Rattle.operand.specs.CutOff.{cutValues}
+use Rattle.instruction.specs.Answer.{accepted, refused}
+use Rattle.instruction.specs.CutOff.{cutValues}
 use Rattle.instruction.specs.Decode.{decodeAnswer, fieldsIn, cutAt}
 use Rattle.instruction.specs.Forms.{formAt, formOf, sizeOf}
 use Rattle.instruction.specs.Parts.{madeOf}
-use Rattle.operand.specs.declared.answer.CutOff.{CutOff}
+use Rattle.instruction.specs.declared.answer.CutOff.{CutOff}
 use Rattle.instruction.specs.declared.instr.Instr.{Instr}
 use Rattle.instruction.specs.declared.instr.Parts.{Parts}
-use Rattle.operand.proofs.Judging.{pass, stop, done}
+use Rattle.instruction.proofs.Judging.{pass, stop, done}
 
 -- a position, its byte, and the form's size less what is left are what refusal 5 tells
 pub cut-at : (s : List ℕ) (p : ℕ) (d : CutOff) → d .position ≡ p → d .first ≡ getD s p 0 → d .missing ≡ sizeOf (formAt (formOf (getD s p 0))) - (length s - p) → d ≡ cutAt s p

@@ -8,22 +8,22 @@ use lib.IntN.{ℤ, pos}
 use lib.Dec.{leb}
 use lib.ListN.{getD, length, drop}
 use borrow.Author.Tests.{lt-ltb, le-ltb, leb-true, leb-false}
-use Rattle.operand.specs.Answer.{Answer, accepted, refused, after}
+use Rattle.instruction.specs.Answer.{Answer, accepted, refused, after}
 use Rattle.instruction.specs.Encode.{formIn, misfits, fitAnswer, encodeAnswer, encodeRoom, bytesIn}
-use Rattle.operand.specs.Range.{unfit}
+use Rattle.instruction.specs.Range.{unfit}
 use Rattle.instruction.specs.Forms.{formAt, bits, sizeOf}
-use Rattle.operand.specs.Kinds.{kindAt}
+use Rattle.instruction.specs.Kinds.{kindAt}
 use Rattle.instruction.specs.Parts.{partsOf}
-use Rattle.field.specs.Code.{codeOf}
-use Rattle.field.specs.Layout.{blank, bytesBy, roomAfter}
-use Rattle.field.specs.Pattern.{value}
+use Rattle.instruction.specs.Code.{codeOf}
+use Rattle.instruction.specs.Layout.{blank, bytesBy, roomAfter}
+use Rattle.instruction.specs.Pattern.{value}
 use Rattle.instruction.specs.declared.instr.Instr.{Instr}
 use Rattle.instruction.specs.declared.instr.Parts.{Parts}
-use Rattle.operand.specs.declared.kind.Shape.{Shape}
+use Rattle.instruction.specs.declared.kind.Shape.{Shape}
 use Rattle.instruction.proofs.Known.{form-small}
 use Rattle.instruction.proofs.Shapes.{sized}
 use Rattle.instruction.proofs.Writing.{by-shape}
-use Rattle.operand.proofs.Judging.{pass, stop, done, first-of, past-all}
+use Rattle.instruction.proofs.Judging.{pass, stop, done, first-of, past-all}
 
 -- operand n of an instruction does not fit, or does
 abbrev pub Unfit1 : Instr → Bool → Type 0

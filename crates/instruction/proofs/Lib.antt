@@ -1,3 +1,17 @@
+pub mod Sign
+pub mod Neither
+pub mod Judging
+pub mod Accepting
+pub mod Carried
+pub mod Bits
+pub mod FieldSign
+pub mod FieldReading
+pub mod FieldWriting
+pub mod Over
+pub mod Laid
+pub mod Named
+pub mod Resolving
+pub mod FieldResolved
 pub mod Every
 pub mod Rest
 pub mod Digits
@@ -10,3 +24,4 @@ pub mod Decoding
 pub mod Writing
 pub mod Encoding
 pub mod Resolved
+pub mod FirstByte

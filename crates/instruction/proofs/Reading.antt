@@ -5,13 +5,13 @@ use mathlib.Core.List.{List, [], _∷_, map}
 use Prim.Native.Nat.{ℕ, suc, _<_}
 use lib.IntN.{ℤ}
 use lib.ListN.{getD, length-map}
-use Rattle.operand.specs.Kinds.{kindAt}
-use Rattle.operand.specs.declared.kind.Shape.{Shape}
-use Rattle.field.specs.Code.{operandOf}
-use Rattle.field.specs.Layout.{blank, fieldsBy}
-use Rattle.field.specs.Pattern.{Bit, O, I, of, part, field}
-use Rattle.field.specs.declared.layout.Fields.{Fields}
-use Rattle.field.proofs.Reading.{closed, Bytes, read as read-by}
+use Rattle.instruction.specs.Kinds.{kindAt}
+use Rattle.instruction.specs.declared.kind.Shape.{Shape}
+use Rattle.instruction.specs.Code.{operandOf}
+use Rattle.instruction.specs.Layout.{blank, fieldsBy}
+use Rattle.instruction.specs.Pattern.{Bit, O, I, of, part, field}
+use Rattle.instruction.specs.declared.layout.Fields.{Fields}
+use Rattle.instruction.proofs.FieldReading.{closed, Bytes, read as read-by}
 use Rattle.instruction.specs.Decode.{fieldsIn}
 use Rattle.instruction.specs.Forms.{formAt, bits}
 use Rattle.instruction.specs.declared.instr.Parts.{Parts}

@@ -4,14 +4,14 @@ use mathlib.Core.Path.{_≡_, ap, sym, _∙_, subst}
 use mathlib.Core.List.{List, [], append-nil}
 use Prim.Native.Nat.{ℕ}
 use lib.IntN.{ℤ}
-use Rattle.operand.specs.Answer.{accepted, refused, Refusal, judge}
-use Rattle.operand.specs.Kinds.{threeOf}
-use Rattle.operand.specs.declared.kind.Kinds.{Kinds}
-use Rattle.operand.proofs.Judging.{first-of, accepts}
-use Rattle.field.specs.Resolve.{whyOf, refusals, fieldsAnswer}
-use Rattle.field.specs.declared.layout.Fields.{Fields}
-use Rattle.field.specs.declared.resolve.Why.{Why}
-use Rattle.field.proofs.Resolved.{last-no, last-yes}
+use Rattle.instruction.specs.Answer.{accepted, refused, Refusal, judge}
+use Rattle.instruction.specs.Kinds.{threeOf}
+use Rattle.instruction.specs.declared.kind.Kinds.{Kinds}
+use Rattle.instruction.proofs.Judging.{first-of, accepts}
+use Rattle.instruction.specs.Resolution.{whyOf, refusals, fieldsAnswer}
+use Rattle.instruction.specs.declared.layout.Fields.{Fields}
+use Rattle.instruction.specs.declared.resolution.Why.{Why}
+use Rattle.instruction.proofs.FieldResolved.{last-no, last-yes}
 use Rattle.instruction.specs.Encode.{formIn}
 use Rattle.instruction.specs.Parts.{partsOf, madeOf}
 use Rattle.instruction.specs.Resolve.{resolveAnswer}

@@ -5,7 +5,7 @@ use Prim.Native.Nat.{ℕ, _<_}
 use lib.Dec.{eqb, eqb→eq}
 use Rattle.instruction.specs.Forms.{forms, formOf, numberOf}
 use Rattle.instruction.specs.Grid.{grid, ruleOf}
-use Rattle.field.specs.Pattern.{pattern, bytesOf, onto, given, next}
+use Rattle.instruction.specs.Pattern.{pattern, bytesOf, onto, given, next}
 use Rattle.instruction.proofs.Every.{holds}
 
 pub rule-is : (x : ℕ) → x < 256 → ruleOf x ≡ formOf x

@@ -5,10 +5,10 @@ use mathlib.Core.List.{List, [], _∷_, map}
 use Prim.Native.Nat.{ℕ, zero, suc, _<_}
 use lib.ListN.{getD, length, drop, length-map}
 use native.Mathlib.Nat.{le-of-suc-le-suc, not-suc-le-zero}
-use Rattle.operand.specs.declared.kind.Shape.{Shape}
-use Rattle.field.specs.Layout.{blank}
-use Rattle.field.specs.Pattern.{Bit, O, I, of, pattern, bytesOf, onto, given, next}
-use Rattle.field.proofs.Laid.{size-range as size-range-by}
+use Rattle.instruction.specs.declared.kind.Shape.{Shape}
+use Rattle.instruction.specs.Layout.{blank}
+use Rattle.instruction.specs.Pattern.{Bit, O, I, of, pattern, bytesOf, onto, given, next}
+use Rattle.instruction.proofs.Laid.{size-range as size-range-by}
 use Rattle.instruction.specs.Forms.{Form, forms, formAt, bits, sizeOf}
 
 -- a bit with a fixed one made 0

@@ -6,10 +6,10 @@ use Prim.Native.Nat.{ℕ, zero, suc, _+_, _*_, _/_, _%_, _^_, _<_}
 use native.Mathlib.Omega.{arith}
 use native.Mathlib.Nat.{pow-suc, zero-div}
 use lib.ListN.{getD, length, take, drop, length-map}
-use Rattle.operand.specs.declared.kind.Shape.{Shape}
-use Rattle.field.specs.Layout.{blank, onFixed, bytesBy}
-use Rattle.field.specs.Pattern.{Bit, O, I, of, bitOf, digit, value, filled, pattern, bytesOf, onto, given, next}
-use Rattle.field.proofs.Writing.{written, write as write-by}
+use Rattle.instruction.specs.declared.kind.Shape.{Shape}
+use Rattle.instruction.specs.Layout.{blank, onFixed, bytesBy}
+use Rattle.instruction.specs.Pattern.{Bit, O, I, of, bitOf, digit, value, filled, pattern, bytesOf, onto, given, next}
+use Rattle.instruction.proofs.FieldWriting.{written, write as write-by}
 use Rattle.instruction.specs.Forms.{forms, formAt, bits, sizeOf}
 use Rattle.instruction.proofs.Shapes.{freed, free, at-each, laid, tail-laid, sized}
 

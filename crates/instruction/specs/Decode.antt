@@ -5,14 +5,14 @@ use mathlib.Core.List.{List, [], _∷_}
 use lib.Dec.{ltb, eqb}
 use lib.IntN.{ℤ, pos}
 use lib.ListN.{length, getD}
-use Rattle.operand.specs.Answer.{Answer, accepted, refused, refuse, judge}
-use Rattle.operand.specs.CutOff.{cutValues}
+use Rattle.instruction.specs.Answer.{Answer, accepted, refused, refuse, judge}
+use Rattle.instruction.specs.CutOff.{cutValues}
 use Rattle.instruction.specs.Forms.{formAt, formOf, bits, sizeOf}
-use Rattle.operand.specs.Kinds.{kindAt}
+use Rattle.instruction.specs.Kinds.{kindAt}
 use Rattle.instruction.specs.Parts.{madeOf}
-use Rattle.field.specs.Code.{operandOf}
-use Rattle.field.specs.Pattern.{field}
-use Rattle.operand.specs.declared.answer.CutOff.{CutOff}
+use Rattle.instruction.specs.Code.{operandOf}
+use Rattle.instruction.specs.Pattern.{field}
+use Rattle.instruction.specs.declared.answer.CutOff.{CutOff}
 use Rattle.instruction.specs.declared.decode.Decoded.{Decoded}
 use Rattle.instruction.specs.declared.decode.Decoded.the-variants.{Found, Nothing, Cut}
 use Rattle.instruction.specs.declared.instr.Instr.{Instr}

@@ -5,14 +5,14 @@ use mathlib.Core.List.{List, [], _∷_, _++_}
 use lib.Dec.{ltb}
 use lib.IntN.{pos}
 use lib.ListN.{length, drop}
-use Rattle.operand.specs.Answer.{Answer, accepted, refused, Refusal, refuse, judge, after}
+use Rattle.instruction.specs.Answer.{Answer, accepted, refused, Refusal, refuse, judge, after}
 use Rattle.instruction.specs.Forms.{Form, formAt, bits, sizeOf}
-use Rattle.operand.specs.Kinds.{kindAt}
-use Rattle.operand.specs.Range.{unfit}
+use Rattle.instruction.specs.Kinds.{kindAt}
+use Rattle.instruction.specs.Range.{unfit}
 use Rattle.instruction.specs.Parts.{partsOf}
-use Rattle.field.specs.Code.{codeOf}
-use Rattle.field.specs.Pattern.{filled}
-use Rattle.field.specs.Resolve.{misfitValues}
+use Rattle.instruction.specs.Code.{codeOf}
+use Rattle.instruction.specs.Pattern.{filled}
+use Rattle.instruction.specs.Resolution.{misfitValues}
 use Rattle.instruction.specs.declared.encode.Encoded.{Encoded}
 use Rattle.instruction.specs.declared.encode.Encoded.the-variants.{Written, Unfit, NoRoom}
 use Rattle.instruction.specs.declared.encode.Fit.{Fit}

@@ -1,3 +1,11 @@
+pub mod Answer
+pub mod CutOff
+pub mod Kinds
+pub mod Range
+pub mod Pattern
+pub mod Code
+pub mod Layout
+pub mod Resolution
 pub mod Forms
 pub mod Parts
 pub mod Grid
@@ -7,3 +15,4 @@ pub mod Encode
 pub mod Resolve
 pub mod Flow
 pub mod Mnemonic
+pub mod First

@@ -3,10 +3,10 @@
 use Prim.Native.Nat.{ℕ}
 use mathlib.Core.List.{[], _∷_}
 use lib.IntN.{pos}
-use Rattle.operand.specs.Answer.{Answer, accepted, refused, judge}
-use Rattle.operand.specs.Kinds.{threeOf}
-use Rattle.operand.specs.declared.kind.Kinds.{Kinds}
-use Rattle.field.specs.Resolve.{fieldOf, whyOf, refusals}
+use Rattle.instruction.specs.Answer.{Answer, accepted, refused, judge}
+use Rattle.instruction.specs.Kinds.{threeOf}
+use Rattle.instruction.specs.declared.kind.Kinds.{Kinds}
+use Rattle.instruction.specs.Resolution.{fieldOf, whyOf, refusals}
 use Rattle.instruction.specs.Encode.{formIn}
 use Rattle.instruction.specs.Parts.{partsOf, madeOf}
 use Rattle.instruction.specs.declared.instr.Instr.{Instr}

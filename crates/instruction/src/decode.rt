@@ -3,12 +3,12 @@
 // a lookup by the first byte, and the fields are read by the form's shape.
 ghost use mathlib.Core.Path.{_≡_};
 ghost use Rattle.instruction.specs.Decode.{decodedOf, decodeAnswer};
+use crate::answer::CutOff;
 use crate::build;
 use crate::form;
 use crate::instr::Instr;
-use field::layout;
-use field::read;
-use operand::CutOff;
+use crate::layout;
+use crate::read;
 
 pub enum Decoded {
     Found(Instr),

@@ -2,12 +2,12 @@
 // Ported from the derived `encode` of src/instruction.rs of wtetzner/waterbear, and changed: every field is checked against its range.
 ghost use mathlib.Core.Path.{_≡_};
 ghost use Rattle.instruction.specs.Encode.{fitOf, fitAnswer, encodedOf, encodeAnswer, encodeRoom};
+use crate::answer::Misfit;
 use crate::form;
 use crate::instr::Instr;
-use field::layout;
-use field::write;
-use operand::Misfit;
-use operand::range;
+use crate::layout;
+use crate::range;
+use crate::write;
 
 pub enum Encoded {
     // The number of bytes written.

@@ -6,9 +6,9 @@ ghost use lib.ListN.{getD};
 ghost use Rattle.instruction.specs.Eights.{place};
 ghost use Rattle.instruction.specs.Forms.{formAt, bits};
 ghost use Rattle.instruction.specs.Grid.{column, ruleOf};
-ghost use Rattle.field.specs.Pattern.{value};
+ghost use Rattle.instruction.specs.Pattern.{value};
 use crate::eights;
-use operand::Shape;
+use crate::kind::Shape;
 
 // The column of a first byte's low four bits in document 01's table.
 fn column(low: u8) -> u8

@@ -4,13 +4,13 @@ ghost use mathlib.Core.Path.{_≡_};
 ghost use Rattle.instruction.specs.Encode.{formIn};
 ghost use Rattle.instruction.specs.Forms.{sizeOf};
 ghost use Rattle.instruction.specs.Grid.{ruleOf};
-ghost use Rattle.operand.specs.Kinds.{threeOf};
+ghost use Rattle.instruction.specs.Kinds.{threeOf};
 ghost use Rattle.instruction.specs.Parts.{partsOf, madeOf};
 use crate::build;
 use crate::form;
-use field::Resolution;
-use field::layout;
-use operand::Kinds;
+use crate::kind::Kinds;
+use crate::layout;
+use crate::resolution::Resolution;
 
 pub enum Instr {
     Add_i8(i32),

@@ -4,9 +4,9 @@ ghost use mathlib.Core.Path.{_≡_};
 ghost use Rattle.instruction.specs.Resolve.{resolvedOf, resolveAnswer};
 use crate::build;
 use crate::instr::Instr;
-use field::Resolution;
-use field::Why;
-use field::resolve;
+use crate::resolution;
+use crate::resolution::Resolution;
+use crate::resolution::Why;
 
 pub enum Resolved {
     Fields(Instr),
@@ -22,7 +22,7 @@ impl Instr {
     {
         let v = self.apart();
         let k = self.kinds();
-        match resolve::resolve(k, v.a, v.b, v.c, base) {
+        match resolution::resolve(k, v.a, v.b, v.c, base) {
             Resolution::All(f) => Resolved::Fields(build::build(v.form, f.a, f.b, f.c)),
             Resolution::FarBase(far) => Resolved::FarBase(far),
             Resolution::Refused(why) => Resolved::Refused(why),

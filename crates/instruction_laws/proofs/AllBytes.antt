@@ -6,7 +6,7 @@ use Prim.Native.Nat.{ℕ, zero, suc, _<_, _≤_, suc-le-suc}
 use native.Mathlib.Nat.{le-of-suc-le-suc}
 use native.Mathlib.Omega.{arith}
 use lib.ListN.{length, getD, take}
-use Rattle.field.proofs.Reading.{Bytes}
+use Rattle.instruction.proofs.FieldReading.{Bytes}
 use Rattle.instruction_laws.specs.RoundTrips.{AllBytes}
 
 rest : (x : ℕ) (s : List ℕ) → AllBytes (x ∷ s) → AllBytes s

@@ -4,7 +4,7 @@ use mathlib.Core.Path.{_≡_, refl}
 use mathlib.Core.Bool.{cond}
 use Prim.Native.Nat.{ℕ}
 use lib.Dec.{eqb}
-use Rattle.operand.specs.Answer.{Answer, accepted, refused}
+use Rattle.instruction.specs.Answer.{Answer, accepted, refused}
 use Rattle.instruction.specs.Decode.{decodedOf}
 use Rattle.instruction.specs.Encode.{encodedOf, fitOf}
 use Rattle.instruction.specs.declared.decode.Decoded.{Decoded}

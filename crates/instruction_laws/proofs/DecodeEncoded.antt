@@ -6,10 +6,10 @@ use mathlib.Core.List.{List, _++_}
 use Prim.Native.Nat.{ℕ}
 use native.Mathlib.Omega.{arith}
 use lib.ListN.{length}
-use Rattle.operand.specs.Answer.{accepted}
+use Rattle.instruction.specs.Answer.{accepted}
 use Rattle.instruction.specs.Decode.{decodeAnswer, fieldsIn}
 use Rattle.instruction.specs.Encode.{fitAnswer, bytesIn}
-use Rattle.field.specs.Code.{codeOf}
+use Rattle.instruction.specs.Code.{codeOf}
 use Rattle.instruction.specs.Parts.{partsOf}
 use Rattle.instruction.specs.declared.instr.Instr.{Instr}
 use Rattle.instruction.specs.declared.instr.Parts.{Parts}

@@ -6,7 +6,7 @@ use mathlib.Core.List.{List}
 use Prim.Native.Nat.{ℕ, _≤_}
 use lib.ListN.{length, take}
 use borrow.Author.Tests.{ltb-false}
-use Rattle.operand.specs.Answer.{accepted}
+use Rattle.instruction.specs.Answer.{accepted}
 use Rattle.instruction.specs.Decode.{decodeAnswer, fieldsIn}
 use Rattle.instruction.specs.Encode.{formIn, bytesIn, fitAnswer}
 use Rattle.instruction.specs.Forms.{formAt, sizeOf}
@@ -16,7 +16,7 @@ use Rattle.instruction.proofs.Encoding.{writes}
 use Rattle.instruction.proofs.Reading.{make3}
 use Rattle.instruction.proofs.Shapes.{sized, size-range}
 use Rattle.instruction_laws.specs.RoundTrips.{Stands, EncodeDecoded}
-use Rattle.operand.proofs.Accepting.{passed, ended}
+use Rattle.instruction.proofs.Accepting.{passed, ended}
 use Rattle.instruction_laws.proofs.AllBytes.{bytes, firsts}
 use Rattle.instruction_laws.proofs.FormReads.{formFirst, FormReads, form-reads}
 use Rattle.instruction_laws.proofs.Numbers.{shapeOf, fit-by, bytes-by}

@@ -8,7 +8,7 @@ use lib.ListN.{length}
 use Rattle.instruction.specs.Encode.{bytesIn}
 use Rattle.instruction.specs.Forms.{forms, formAt, bits}
 use Rattle.instruction.specs.Parts.{partsOf}
-use Rattle.field.specs.Pattern.{Bit, value, filled, pattern, bytesOf, onto, given, next}
+use Rattle.instruction.specs.Pattern.{Bit, value, filled, pattern, bytesOf, onto, given, next}
 use Rattle.instruction.proofs.Known.{known}
 use Rattle.instruction.proofs.Shapes.{at-each}
 use Rattle.instruction.proofs.Writing.{value-lt}

@@ -6,11 +6,11 @@ use Prim.Native.Nat.{ℕ, suc, _<_}
 use native.Mathlib.Omega.{arith}
 use lib.IntN.{ℤ, pos, natAbs}
 use borrow.Author.Tests.{le-ltb}
-use Rattle.field.specs.Code.{operandOf}
-use Rattle.operand.specs.Range.{outside, unfit}
-use Rattle.operand.specs.declared.kind.Kind.{Kind}
-use Rattle.operand.specs.declared.kind.Kind.the-variants.{Absent, Immediate, Direct, Register, BitNumber, Page, Far, Short, Long}
-use Rattle.operand.proofs.Sign.{Natural, natural}
+use Rattle.instruction.specs.Code.{operandOf}
+use Rattle.instruction.specs.Range.{outside, unfit}
+use Rattle.instruction.specs.declared.kind.Kind.{Kind}
+use Rattle.instruction.specs.declared.kind.Kind.the-variants.{Absent, Immediate, Direct, Register, BitNumber, Page, Far, Short, Long}
+use Rattle.instruction.proofs.Sign.{Natural, natural}
 use Rattle.instruction_laws.specs.PartsMade.{used}
 use Rattle.instruction_laws.proofs.Fields.{limit, Field, Law, back}
 use Rattle.instruction_laws.proofs.Offsets.{short, short-back}

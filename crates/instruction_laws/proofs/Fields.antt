@@ -5,10 +5,10 @@ use mathlib.Core.Path.{_≡_}
 use mathlib.Core.Bool.{false}
 use Prim.Native.Nat.{ℕ, _<_}
 use lib.IntN.{ℤ}
-use Rattle.field.specs.Code.{operandOf, codeOf}
-use Rattle.operand.specs.Range.{unfit}
-use Rattle.operand.specs.declared.kind.Kind.{Kind}
-use Rattle.operand.specs.declared.kind.Kind.the-variants.{Absent, Immediate, Direct, Register, BitNumber, Page, Far, Short, Long}
+use Rattle.instruction.specs.Code.{operandOf, codeOf}
+use Rattle.instruction.specs.Range.{unfit}
+use Rattle.instruction.specs.declared.kind.Kind.{Kind}
+use Rattle.instruction.specs.declared.kind.Kind.the-variants.{Absent, Immediate, Direct, Register, BitNumber, Page, Far, Short, Long}
 use Rattle.instruction_laws.specs.PartsMade.{used}
 
 -- how many numbers a field holds

@@ -8,7 +8,7 @@ use native.Mathlib.Omega.{arith}
 use native.Mathlib.Nat.{pow-suc, mul-add-div-right, div-eq-of-lt, zero-add, zero-mul}
 use lib.Dec.{T}
 use lib.ListN.{length}
-use Rattle.field.specs.Pattern.{Bit, O, I, of, fixed, agrees, digit, value}
+use Rattle.instruction.specs.Pattern.{Bit, O, I, of, fixed, agrees, digit, value}
 use Rattle.instruction.proofs.Writing.{value-lt}
 
 both : (a b : Bool) → T a → T b → T (a && b)

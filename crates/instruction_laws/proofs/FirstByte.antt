@@ -6,9 +6,9 @@ use Prim.Native.Nat.{ℕ, _+_, _*_, _/_, _%_, _<_}
 use lib.Dec.{eqb, eqb→eq}
 use lib.ListN.{getD}
 use Rattle.instruction.specs.Forms.{forms, formAt, formOf, bits}
-use Rattle.field.specs.Pattern.{value, pattern, bytesOf, onto, given, next}
-use Rattle.operand.specs.declared.kind.Shape.{Shape}
-use Rattle.operand.specs.declared.kind.Shape.the-variants.{Bare, Imm, D9, Ri, ImmD9, ImmRi, D9B3, A12, A16, R16, R8, D9B3R8, D9R8, RiR8, ImmR8, RiImmR8}
+use Rattle.instruction.specs.Pattern.{value, pattern, bytesOf, onto, given, next}
+use Rattle.instruction.specs.declared.kind.Shape.{Shape}
+use Rattle.instruction.specs.declared.kind.Shape.the-variants.{Bare, Imm, D9, Ri, ImmD9, ImmRi, D9B3, A12, A16, R16, R8, D9B3R8, D9R8, RiR8, ImmR8, RiImmR8}
 use Rattle.instruction.proofs.Every.{holds}
 
 -- a form's fixed bits as a number

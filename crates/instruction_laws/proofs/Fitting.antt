@@ -1,15 +1,15 @@
 -- An instruction whose fields are in range: it has no operand beside those of its form, and a number stands for each of these.
 -- Assumes nothing.
 use mathlib.Core.Path.{_≡_, ap, sym, _∙_}
-use Rattle.operand.specs.Answer.{accepted}
+use Rattle.instruction.specs.Answer.{accepted}
 use Rattle.instruction.specs.Encode.{fitAnswer}
-use Rattle.field.specs.Code.{codeOf}
+use Rattle.instruction.specs.Code.{codeOf}
 use Rattle.instruction.specs.Parts.{partsOf}
 use Rattle.instruction.specs.declared.instr.Instr.{Instr}
 use Rattle.instruction.specs.declared.instr.Parts.{Parts}
 use Rattle.instruction.proofs.Known.{known}
 use Rattle.instruction_laws.specs.PartsMade.{usedIn}
-use Rattle.operand.proofs.Accepting.{passed}
+use Rattle.instruction.proofs.Accepting.{passed}
 use Rattle.instruction_laws.proofs.EveryKind.{law}
 use Rattle.instruction_laws.proofs.Numbers.{shapeOf, Numbers}
 use Rattle.instruction_laws.proofs.PartsMade.{parted}

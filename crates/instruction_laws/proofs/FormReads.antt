@@ -7,11 +7,11 @@ use lib.ListN.{length, getD, take}
 use Rattle.instruction.specs.Decode.{fieldsIn}
 use Rattle.instruction.specs.Forms.{formAt, formOf}
 use Rattle.instruction.specs.declared.instr.Parts.{Parts}
-use Rattle.operand.specs.declared.kind.Shape.{Shape}
+use Rattle.instruction.specs.declared.kind.Shape.{Shape}
 use Rattle.instruction.proofs.Reading.{read}
-use Rattle.field.proofs.Reading.{Bytes}
-use Rattle.field.specs.Layout.{blank}
-use Rattle.field.proofs.Writing.{written}
+use Rattle.instruction.proofs.FieldReading.{Bytes}
+use Rattle.instruction.specs.Layout.{blank}
+use Rattle.instruction.proofs.FieldWriting.{written}
 use Rattle.instruction_laws.proofs.EveryKind.{law}
 use Rattle.instruction_laws.proofs.FirstByte.{fixedOf, first-is}
 use Rattle.instruction_laws.proofs.Forth.{Read, read-by}

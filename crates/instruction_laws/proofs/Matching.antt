@@ -10,7 +10,7 @@ use native.Mathlib.Omega.{arith}
 use lib.Dec.{T, eqb, eqb→eq, ltb, ltb→lt}
 use lib.ListN.{length, getD}
 use Rattle.instruction.specs.Forms.{Form, forms, formAt, formOf, bits, matching}
-use Rattle.field.specs.Pattern.{agrees, pattern, bytesOf, onto, given, next}
+use Rattle.instruction.specs.Pattern.{agrees, pattern, bytesOf, onto, given, next}
 use Rattle.instruction.proofs.Every.{holds}
 use Rattle.instruction.proofs.Rule.{rule-is}
 use Rattle.instruction_laws.specs.Matching.{matches, Agrees, OnePattern, RuleIsPatterns}

@@ -9,7 +9,7 @@ use lib.IntN.{pos}
 use lib.ListN.{length, getD, drop, length-drop}
 use lib.Seq.{getD-drop}
 use borrow.Author.Tests.{eqb-false, ltb-true}
-use Rattle.operand.proofs.Judging.{other-passed, this-spoke, done}
+use Rattle.instruction.proofs.Judging.{other-passed, this-spoke, done}
 use Rattle.instruction.specs.Decode.{cutAt, decodeAnswer}
 use Rattle.instruction.specs.Forms.{formAt, formOf, sizeOf}
 use Rattle.instruction.proofs.Shapes.{size-range}

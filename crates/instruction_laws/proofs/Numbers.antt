@@ -4,21 +4,21 @@
 use mathlib.Core.Path.{_≡_, refl, sym}
 use Prim.Native.Nat.{ℕ, _<_}
 use lib.ListN.{length, take}
-use Rattle.operand.specs.Answer.{accepted}
-use Rattle.field.specs.Code.{operandOf}
+use Rattle.instruction.specs.Answer.{accepted}
+use Rattle.instruction.specs.Code.{operandOf}
 use Rattle.instruction.specs.Encode.{fitAnswer, bytesIn}
 use Rattle.instruction.specs.Forms.{formAt}
-use Rattle.operand.specs.Kinds.{kindAt}
+use Rattle.instruction.specs.Kinds.{kindAt}
 use Rattle.instruction.specs.Parts.{partsOf}
 use Rattle.instruction.specs.declared.instr.Instr.{Instr}
 use Rattle.instruction.specs.declared.instr.Parts.{Parts}
-use Rattle.operand.specs.declared.kind.Shape.{Shape}
+use Rattle.instruction.specs.declared.kind.Shape.{Shape}
 use Rattle.instruction.proofs.Encoding.{fits}
 use Rattle.instruction.proofs.Reading.{make}
 use Rattle.instruction.proofs.Shapes.{sized}
-use Rattle.field.specs.Layout.{blank}
+use Rattle.instruction.specs.Layout.{blank}
 use Rattle.instruction.proofs.Writing.{write}
-use Rattle.field.proofs.Writing.{written}
+use Rattle.instruction.proofs.FieldWriting.{written}
 use Rattle.instruction_laws.proofs.Fields.{limit, Field}
 use Rattle.instruction_laws.proofs.FirstByte.{fixedOf}
 

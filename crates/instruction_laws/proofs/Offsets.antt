@@ -7,10 +7,10 @@ use native.Mathlib.Omega.{arith}
 use lib.Dec.{ltb}
 use lib.IntN.{ℤ, pos, negsuc}
 use borrow.Author.Tests.{ltb-true, ltb-false, lt-ltb, le-ltb}
-use Rattle.field.specs.Code.{shortOf, codeOf}
-use Rattle.operand.specs.Range.{outside, unfit}
-use Rattle.operand.specs.declared.kind.Kind.the-variants.{Short}
-use Rattle.operand.proofs.Sign.{inside}
+use Rattle.instruction.specs.Code.{shortOf, codeOf}
+use Rattle.instruction.specs.Range.{outside, unfit}
+use Rattle.instruction.specs.declared.kind.Kind.the-variants.{Short}
+use Rattle.instruction.proofs.Sign.{inside}
 use Rattle.instruction_laws.proofs.Fields.{limit, Field, back}
 
 pub short : (n : ℕ) → n < 256 → Field Short n (shortOf n)

@@ -10,10 +10,10 @@ use lib.ListN.{length, getD, length-append}
 use Rattle.instruction.specs.Encode.{formIn, bytesIn}
 use Rattle.instruction.specs.Forms.{formOf, bits, sizeOf}
 use Rattle.instruction.specs.Parts.{partsOf}
-use Rattle.field.specs.Pattern.{Bit, value, filled}
+use Rattle.instruction.specs.Pattern.{Bit, value, filled}
 use Rattle.instruction.specs.declared.instr.Instr.{Instr}
 use Rattle.instruction.proofs.Known.{known}
-use Rattle.field.proofs.Reading.{Bytes}
+use Rattle.instruction.proofs.FieldReading.{Bytes}
 use Rattle.instruction.proofs.Shapes.{size-range}
 use Rattle.instruction_laws.specs.RoundTrips.{AllBytes}
 use Rattle.instruction_laws.proofs.AllBytes.{bytes, append}

@@ -6,7 +6,7 @@ use Prim.Native.Nat.{ℕ, _<_}
 use lib.Dec.{eqb, eqb→eq}
 use lib.IntN.{ℤ}
 use Rattle.instruction.specs.Forms.{Form, forms, formAt, numberOf}
-use Rattle.operand.specs.Kinds.{kindsOf}
+use Rattle.instruction.specs.Kinds.{kindsOf}
 use Rattle.instruction.specs.Parts.{parts, partsOf, madeOf}
 use Rattle.instruction.specs.declared.instr.Parts.{Parts}
 use Rattle.instruction.proofs.Every.{holds}

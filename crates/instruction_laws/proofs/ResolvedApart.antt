@@ -6,17 +6,17 @@ use mathlib.Core.List.{List}
 use Prim.Native.Nat.{ℕ}
 use lib.Dec.{eqb}
 use lib.IntN.{ℤ}
-use Rattle.operand.specs.Answer.{Answer, accepted, refused, Apart}
-use Rattle.field.specs.Resolve.{resolutionOf}
-use Rattle.field.specs.declared.layout.Fields.{Fields}
-use Rattle.field.specs.declared.resolve.Resolution.{Resolution}
-use Rattle.field.specs.declared.resolve.Resolution.the-variants.{All, FarBase as Far, Refused as Not}
+use Rattle.instruction.specs.Answer.{Answer, accepted, refused, Apart}
+use Rattle.instruction.specs.Resolution.{resolutionOf}
+use Rattle.instruction.specs.declared.layout.Fields.{Fields}
+use Rattle.instruction.specs.declared.resolution.Resolution.{Resolution}
+use Rattle.instruction.specs.declared.resolution.Resolution.the-variants.{All, FarBase as Far, Refused as Not}
 use Rattle.instruction.specs.Resolve.{resolvedOf}
 use Rattle.instruction.specs.declared.instr.Instr.{Instr}
 use Rattle.instruction.specs.declared.resolve.Resolved.{Resolved}
 use Rattle.instruction.specs.declared.resolve.Resolved.the-variants.{Fields as Whole, FarBase, Refused}
-use Rattle.field.specs.declared.resolve.Why.{Why}
-use Rattle.field.specs.declared.resolve.Why.the-variants.{Unfit, NoAddress, TooFar, OtherPage}
+use Rattle.instruction.specs.declared.resolution.Why.{Why}
+use Rattle.instruction.specs.declared.resolution.Why.the-variants.{Unfit, NoAddress, TooFar, OtherPage}
 use Rattle.instruction_laws.proofs.Undone.{undone, valueAt, numberAt, misfit, tops}
 
 abbrev why : ℕ → List ℤ → Why

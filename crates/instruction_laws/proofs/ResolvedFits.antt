@@ -7,20 +7,20 @@ use mathlib.Core.List.{List, _++_, append-nil}
 use Prim.Native.Nat.{ℕ, _%_, _<_}
 use native.Mathlib.Omega.{arith}
 use lib.IntN.{ℤ, pos, negsuc, natAbs, _+ℤ_, _-ℤ_}
-use Rattle.operand.specs.Answer.{accepted, Refusal, judge}
-use Rattle.operand.specs.Kinds.{kindAt}
-use Rattle.operand.specs.Range.{unfit}
+use Rattle.instruction.specs.Answer.{accepted, Refusal, judge}
+use Rattle.instruction.specs.Kinds.{kindAt}
+use Rattle.instruction.specs.Range.{unfit}
 use Rattle.instruction.specs.Parts.{partsOf}
 use Rattle.instruction.specs.Resolve.{resolveAnswer}
-use Rattle.field.specs.Resolve.{wrapped, operandRefusals, fieldOf}
+use Rattle.instruction.specs.Resolution.{wrapped, operandRefusals, fieldOf}
 use Rattle.instruction.specs.declared.instr.Parts.{Parts}
-use Rattle.operand.specs.declared.kind.Kind.{Kind}
-use Rattle.operand.specs.declared.kind.Kind.the-variants.{Absent, Immediate, Direct, Register, BitNumber, Page, Far, Short, Long}
+use Rattle.instruction.specs.declared.kind.Kind.{Kind}
+use Rattle.instruction.specs.declared.kind.Kind.the-variants.{Absent, Immediate, Direct, Register, BitNumber, Page, Far, Short, Long}
 use Rattle.instruction.proofs.Encoding.{fits}
 use Rattle.instruction.proofs.Known.{known}
 use Rattle.instruction_laws.specs.PartsMade.{used, usedIn}
 use Rattle.instruction_laws.specs.Resolving.{ResolvedFits}
-use Rattle.operand.proofs.Accepting.{passed, ended}
+use Rattle.instruction.proofs.Accepting.{passed, ended}
 use Rattle.instruction_laws.proofs.EveryKind.{law}
 use Rattle.instruction_laws.proofs.Fields.{limit}
 use Rattle.instruction_laws.proofs.Numbers.{shapeOf}

@@ -2,7 +2,7 @@
 -- Assumes nothing.
 use mathlib.Core.Path.{refl}
 use Rattle.instruction.specs.Forms.{forms}
-use Rattle.field.specs.Pattern.{pattern, bytesOf, onto, given, next}
+use Rattle.instruction.specs.Pattern.{pattern, bytesOf, onto, given, next}
 use Rattle.instruction_laws.specs.Sizes.{Sizes}
 
 pub sizes : Sizes

@@ -5,10 +5,10 @@ use mathlib.Core.List.{List}
 use Prim.Native.Nat.{ℕ}
 use lib.IntN.{ℤ, pos, natAbs}
 use lib.ListN.{getD}
-use Rattle.operand.specs.Answer.{Apart}
-use Rattle.operand.specs.declared.answer.CutOff.{CutOff}
-use Rattle.operand.specs.declared.answer.Misfit.{Misfit}
-use Rattle.operand.specs.declared.answer.Tops.{Tops}
+use Rattle.instruction.specs.Answer.{Apart}
+use Rattle.instruction.specs.declared.answer.CutOff.{CutOff}
+use Rattle.instruction.specs.declared.answer.Misfit.{Misfit}
+use Rattle.instruction.specs.declared.answer.Tops.{Tops}
 
 pub undone : {R A : Type 0} (f : R → A) (g : A → R) → ((r : R) → g (f r) ≡ r) → Apart f
 undone f g back r s e = sym (back r) ∙ ap g e ∙ back s

@@ -1,8 +1,8 @@
 -- Document 01, 'Forms by place': 'Where an answer is an enum, a definition gives this paper's number and values for each of the enum's
 -- cases.' Each of these definitions tells all cases and all values apart.
 -- Assumes nothing.
-use Rattle.operand.specs.Answer.{Apart}
-use Rattle.field.specs.Resolve.{resolutionOf}
+use Rattle.instruction.specs.Answer.{Apart}
+use Rattle.instruction.specs.Resolution.{resolutionOf}
 use Rattle.instruction.specs.Decode.{decodedOf}
 use Rattle.instruction.specs.Encode.{encodedOf, fitOf}
 use Rattle.instruction.specs.Resolve.{resolvedOf}

@@ -9,7 +9,7 @@ use lib.Dec.{T}
 use lib.ListN.{getD}
 use Rattle.instruction.specs.Forms.{Form, forms, formAt, formOf, bits}
 use Rattle.instruction.specs.Grid.{ruleOf}
-use Rattle.field.specs.Pattern.{agrees}
+use Rattle.instruction.specs.Pattern.{agrees}
 
 -- how many of the forms have a pattern with the fixed bits of a first byte
 abbrev pub matches : List Form → ℕ → ℕ

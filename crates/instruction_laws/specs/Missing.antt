@@ -6,8 +6,8 @@ use mathlib.Core.Logic.{_⊎_}
 use mathlib.Core.Path.{_≡_}
 use lib.IntN.{ℤ, pos}
 use lib.ListN.{length, getD, drop}
-use Rattle.operand.specs.Answer.{refused}
-use Rattle.operand.specs.CutOff.{cutValues}
+use Rattle.instruction.specs.Answer.{refused}
+use Rattle.instruction.specs.CutOff.{cutValues}
 use Rattle.instruction.specs.Decode.{cutAt, decodeAnswer}
 use Rattle.instruction.specs.Forms.{formAt, formOf, sizeOf}
 use Rattle.instruction_laws.specs.RoundTrips.{AllBytes}

@@ -4,13 +4,13 @@ use Prim.Native.Nat.{_<_}
 use mathlib.Core.Path.{_≡_}
 use lib.IntN.{ℤ, pos}
 use Rattle.instruction.specs.Forms.{formAt}
-use Rattle.operand.specs.Kinds.{kindAt}
+use Rattle.instruction.specs.Kinds.{kindAt}
 use Rattle.instruction.specs.Parts.{partsOf, madeOf}
 use Rattle.instruction.specs.declared.instr.Instr.{Instr}
 use Rattle.instruction.specs.declared.instr.Parts.{Parts}
-use Rattle.operand.specs.declared.kind.Kind.{Kind}
-use Rattle.operand.specs.declared.kind.Kind.the-variants.{Absent, Immediate, Direct, Register, BitNumber, Page, Far, Short, Long}
-use Rattle.operand.specs.declared.kind.Shape.{Shape}
+use Rattle.instruction.specs.declared.kind.Kind.{Kind}
+use Rattle.instruction.specs.declared.kind.Kind.the-variants.{Absent, Immediate, Direct, Register, BitNumber, Page, Far, Short, Long}
+use Rattle.instruction.specs.declared.kind.Shape.{Shape}
 
 -- an operand that a form has, and 0 for one that it has not
 abbrev pub used : Kind → ℤ → ℤ

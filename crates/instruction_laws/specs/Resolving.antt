@@ -3,7 +3,7 @@
 -- Assumes nothing.
 use Prim.Native.Nat.{ℕ}
 use mathlib.Core.Path.{_≡_}
-use Rattle.operand.specs.Answer.{accepted}
+use Rattle.instruction.specs.Answer.{accepted}
 use Rattle.instruction.specs.Encode.{fitAnswer}
 use Rattle.instruction.specs.Parts.{partsOf}
 use Rattle.instruction.specs.Resolve.{resolveAnswer}

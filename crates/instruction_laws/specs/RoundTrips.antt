@@ -5,7 +5,7 @@ use Prim.Native.Nat.{ℕ, _<_, _≤_}
 use mathlib.Core.List.{List, _++_}
 use mathlib.Core.Path.{_≡_}
 use lib.ListN.{length, getD, take, drop}
-use Rattle.operand.specs.Answer.{accepted}
+use Rattle.instruction.specs.Answer.{accepted}
 use Rattle.instruction.specs.Decode.{decodeAnswer}
 use Rattle.instruction.specs.Encode.{formIn, fitAnswer, bytesIn, encodeAnswer, encodeRoom}
 use Rattle.instruction.specs.Forms.{sizeOf}

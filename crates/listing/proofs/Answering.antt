@@ -9,15 +9,15 @@ use borrow.Author.Tests.{ltb-false}
 use lib.IntN.{pos}
 use lib.ListN.{length, take, drop, length-take}
 use lib.Seq.{sets, sets-eq, take-at}
-use Rattle.operand.specs.Answer.{Answer, accepted, refused}
-use Rattle.sight.specs.View.{Sound, viewRoom}
-use Rattle.sight.proofs.Viewing.{Is, small, shown-as, no-room-for}
+use Rattle.instruction.specs.Answer.{Answer, accepted, refused}
+use Rattle.views.specs.View.{Sound, viewRoom}
+use Rattle.views.proofs.Viewing.{Is, small, shown-as, no-room-for}
 use Rattle.views.specs.Labels.{labelsOf}
 use Rattle.views.specs.Mask.{maskOf}
-use Rattle.arrival_index.specs.Index.{indexOf}
-use Rattle.arrival_index.proofs.Indexing.{index-length}
+use Rattle.arrivals.specs.Index.{indexOf}
+use Rattle.arrivals.proofs.Indexing.{index-length}
 use Rattle.listing.specs.Lent.{isLent, textOf}
-use Rattle.listing.specs.Puts.{Puts, Needed}
+use Rattle.text.specs.Puts.{Puts, Needed}
 use Rattle.listing.specs.Walk.{isChosen, walk, listingOf}
 use Rattle.listing.specs.declared.tabbed.Arrivals.{Arrivals}
 

@@ -7,28 +7,28 @@ use Prim.Native.Nat.{ℕ}
 use Prim.Native.Char.{code}
 use Prim.Native.String.{String, [] as end, _∷_ as _then_}
 use lib.Dec.{eqb}
-use Rattle.operand.specs.Answer.{judge}
-use Rattle.operand.specs.Kinds.{kindsOf}
-use Rattle.operand.specs.Range.{unfit}
-use Rattle.field.specs.Pattern.{pattern, bytesOf, onto, given, next}
+use Rattle.instruction.specs.Answer.{judge}
+use Rattle.instruction.specs.Kinds.{kindsOf}
+use Rattle.instruction.specs.Range.{unfit}
+use Rattle.instruction.specs.Pattern.{pattern, bytesOf, onto, given, next}
 use Rattle.instruction.specs.Decode.{fieldsIn}
 use Rattle.instruction.specs.Flow.{stops, jumps, branches, flowOf}
 use Rattle.instruction.specs.Forms.{forms, formAt, formOf, numberOf}
 use Rattle.instruction.specs.Mnemonic.{mnemonicOf, lettersOf}
 use Rattle.instruction.specs.Parts.{partsOf, madeOf}
-use Rattle.ways.specs.At.{fitsHere, instrHere, waysHere, flashHere, nameHere}
-use Rattle.ways.specs.Here.{hereOf}
-use Rattle.ways.specs.Targets.{addressOf, addressIn, targetsIn, targetsAnswer}
-use Rattle.ways.specs.Ways.{nameOf}
+use Rattle.targets.specs.At.{fitsHere, instrHere, waysHere, flashHere, nameHere}
+use Rattle.targets.specs.Here.{hereOf}
+use Rattle.targets.specs.Targets.{addressOf, addressIn, targetsIn, targetsAnswer}
+use Rattle.targets.specs.Ways.{nameOf}
 use Rattle.reach.specs.Mark.{tracedMark}
 use Rattle.reach.specs.Tracer.{held}
-use Rattle.marking.specs.Tracer.{exemptHere}
-use Rattle.sight.specs.Positions.{upFrom, some, kept}
+use Rattle.marks.specs.Tracer.{exemptHere}
+use Rattle.views.specs.Positions.{upFrom, some, kept}
 use Rattle.views.specs.DataRun.{leading, runLength, dataRun}
 use Rattle.views.specs.Labels.{labelled, labelsOf}
 use Rattle.views.specs.Mask.{masked, maskOf}
-use Rattle.meetings.specs.Arrivals.{heldAt, arrives, arrivalsOf}
-use Rattle.meetings.specs.Overlaps.{overlapsOf}
+use Rattle.arrivals.specs.Arrivals.{heldAt, arrives, arrivalsOf}
+use Rattle.views.specs.Overlaps.{overlapsOf}
 use Rattle.listing.specs.Hex.{digit, hex2, hex3, hex4, hexes}
 use Rattle.listing.specs.Line.{fields}
 use Rattle.listing.specs.Lines.{labelLine, overlapLine, arrivalLine, instrText, dataLine}

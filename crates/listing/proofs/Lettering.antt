@@ -7,7 +7,7 @@ use native.Mathlib.Nat.{not-suc-le-zero}
 use native.Mathlib.Numerals.{sub-one}
 use native.Mathlib.Omega.{arith}
 use lib.ListN.{length}
-use Rattle.listing.specs.Puts.{letters}
+use Rattle.text.specs.Puts.{letters}
 
 pub letters-more : (k w : ℕ) → 0 < k → (w ≡ 0 → ⊥) → letters k w ≡ (w % 256 ∷ []) ++ letters (k - 1) (w / 256)
 unfolding letters

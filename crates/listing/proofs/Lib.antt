@@ -1,4 +1,3 @@
-pub mod Putting
 pub mod Hexing
 pub mod Lettering
 pub mod Naming

@@ -16,21 +16,21 @@ use Rattle.instruction.specs.Forms.{sizeOf}
 use Rattle.instruction.specs.Mnemonic.{mnemonicOf}
 use Rattle.instruction.specs.Parts.{partsOf}
 use Rattle.instruction.specs.declared.instr.Instr.{Instr}
-use Rattle.operand.specs.declared.answer.CutOff.{CutOff}
-use Rattle.ways.specs.Here.{hereOf}
-use Rattle.ways.specs.Targets.{nextOf, targetsAnswer}
-use Rattle.ways.specs.declared.here.Here.the-variants.{Whole, Cut, Outside}
-use Rattle.meetings.specs.Overlaps.{overlapsIn}
-use Rattle.meetings.specs.declared.overlaps.Overlaps.{Overlaps}
-use Rattle.meetings.specs.declared.overlaps.Overlaps.the-variants.{Nothing, One, Two, Three}
+use Rattle.instruction.specs.declared.answer.CutOff.{CutOff}
+use Rattle.targets.specs.Here.{hereOf}
+use Rattle.targets.specs.Targets.{nextOf, targetsAnswer}
+use Rattle.targets.specs.declared.here.Here.the-variants.{Whole, Cut, Outside}
+use Rattle.views.specs.Overlaps.{overlapsIn}
+use Rattle.views.specs.declared.overlaps.Overlaps.{Overlaps}
+use Rattle.views.specs.declared.overlaps.Overlaps.the-variants.{Nothing, One, Two, Three}
 use Rattle.listing.specs.Hex.{hex4, hexes}
 use Rattle.listing.specs.Line.{fields}
 use Rattle.listing.specs.Lines.{labelLine, foundLine, overlapLine, arrivalLine, instrText, codeBy, codeLine, zeros, dataLine}
 use Rattle.listing.specs.Operand.{firstOf, operandsBy}
-use Rattle.listing.specs.Puts.{Puts, letters}
+use Rattle.text.specs.Puts.{Puts, letters}
 use Rattle.listing.proofs.Hexing.{hex4-length, hexes-length}
 use Rattle.listing.proofs.Lettering.{letters-length}
-use Rattle.listing.proofs.Putting.{puts-most}
+use Rattle.text.proofs.Putting.{puts-most}
 
 -- ---- the parts of a line
 

@@ -11,7 +11,7 @@ use Rattle.instruction.specs.Parts.{partsOf}
 use Rattle.instruction.specs.declared.instr.Instr.{Instr}
 use Rattle.instruction.proofs.Every.{and-left, and-right, upTo, holds}
 use Rattle.instruction.proofs.Known.{form-small}
-use Rattle.listing.specs.Puts.{letters}
+use Rattle.text.specs.Puts.{letters}
 
 abbrev alike : List ℕ → List ℕ → Bool
 alike [] [] = true

@@ -9,18 +9,18 @@ use native.Mathlib.Omega.{arith}
 use borrow.Author.Tests.{lt-ltb, le-ltb}
 use lib.Dec.{ltb}
 use lib.ListN.{length, length-append}
-use Rattle.operand.specs.Kinds.{kindsOf, threeOf}
-use Rattle.operand.specs.declared.kind.Kind.{Kind}
-use Rattle.operand.specs.declared.kind.Kind.the-variants.{Absent, Immediate, Direct, Register, BitNumber, Page, Far, Short, Long}
-use Rattle.operand.specs.declared.kind.Kinds.{Kinds}
-use Rattle.operand.specs.declared.kind.Shape.{Shape}
-use Rattle.operand.specs.declared.kind.Shape.the-variants.{Bare, Imm, D9, Ri, ImmD9, ImmRi, D9B3, A12, A16, R16, R8, D9B3R8, D9R8, RiR8, ImmR8, RiImmR8}
+use Rattle.instruction.specs.Kinds.{kindsOf, threeOf}
+use Rattle.instruction.specs.declared.kind.Kind.{Kind}
+use Rattle.instruction.specs.declared.kind.Kind.the-variants.{Absent, Immediate, Direct, Register, BitNumber, Page, Far, Short, Long}
+use Rattle.instruction.specs.declared.kind.Kinds.{Kinds}
+use Rattle.instruction.specs.declared.kind.Shape.{Shape}
+use Rattle.instruction.specs.declared.kind.Shape.the-variants.{Bare, Imm, D9, Ri, ImmD9, ImmRi, D9B3, A12, A16, R16, R8, D9B3R8, D9R8, RiR8, ImmR8, RiImmR8}
 use Rattle.instruction.specs.Encode.{formIn}
 use Rattle.instruction.specs.Parts.{partsOf}
 use Rattle.instruction.specs.declared.instr.Instr.{Instr}
 use Rattle.instruction.specs.declared.instr.Parts.{Parts}
-use Rattle.ways.specs.At.{placeOf}
-use Rattle.ways.specs.Targets.{isGiven}
+use Rattle.targets.specs.At.{placeOf}
+use Rattle.targets.specs.Targets.{isGiven}
 use Rattle.listing.specs.Hex.{digit, hex2, hex3, hex4}
 use Rattle.listing.specs.Line.{fields}
 use Rattle.listing.specs.Operand.{target, shown, shownAll, shownField, operandsBy}

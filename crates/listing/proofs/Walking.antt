@@ -11,7 +11,7 @@ use lib.Dec.{eqb}
 use lib.ListN.{length, getD, take, drop, length-take, length-drop}
 use lib.Seq.{length-take-le}
 use Rattle.reach.specs.Mark.{tracedMark}
-use Rattle.sight.specs.Positions.{upFrom}
+use Rattle.views.specs.Positions.{upFrom}
 use Rattle.views.specs.DataRun.{isData, leading, runLength, dataRun}
 use Rattle.views.proofs.DataRuns.{by-mask, data-inside, leading-on}
 use Rattle.listing.specs.Lines.{dataLine}

@@ -11,20 +11,20 @@ use lib.Dec.{eqb, ltb, leb}
 use lib.ListN.{length, getD, drop, length-append, length-take}
 use Rattle.instruction.specs.Parts.{partsOf}
 use Rattle.instruction.specs.declared.instr.Instr.{Instr}
-use Rattle.ways.specs.At.{formHere, sizeHere}
-use Rattle.ways.specs.Here.{hereOf}
-use Rattle.ways.specs.Targets.{nextOf}
-use Rattle.ways.specs.declared.here.Here.{Here}
-use Rattle.ways.specs.declared.here.Here.the-variants.{Whole, Cut, Outside}
-use Rattle.ways.proofs.WaysAre.{whole-inside, here-whole}
-use Rattle.ways.proofs.Within.{Small, form-here, form-is, size-short}
+use Rattle.targets.specs.At.{formHere, sizeHere}
+use Rattle.targets.specs.Here.{hereOf}
+use Rattle.targets.specs.Targets.{nextOf}
+use Rattle.targets.specs.declared.here.Here.{Here}
+use Rattle.targets.specs.declared.here.Here.the-variants.{Whole, Cut, Outside}
+use Rattle.targets.proofs.WaysAre.{whole-inside, here-whole}
+use Rattle.targets.proofs.Within.{Small, form-here, form-is, size-short}
 use Rattle.reach.specs.Mark.{tracedMark}
-use Rattle.sight.specs.Positions.{upFrom, kept, tracedAt}
-use Rattle.sight.proofs.Kept.{kept-few}
+use Rattle.views.specs.Positions.{upFrom, kept, tracedAt}
+use Rattle.views.proofs.Kept.{kept-few}
 use Rattle.views.specs.DataRun.{leading, isData, runLength, dataRun}
-use Rattle.meetings.specs.Arrivals.{arrivalsOf}
-use Rattle.meetings.specs.Overlaps.{fromBefore, overlapsOf}
-use Rattle.arrival_index.proofs.Counting.{total, total-same, arrivals-few}
+use Rattle.arrivals.specs.Arrivals.{arrivalsOf}
+use Rattle.views.specs.Overlaps.{fromBefore, overlapsOf}
+use Rattle.arrivals.proofs.Counting.{total, total-same, arrivals-few}
 use Rattle.listing.specs.Hex.{hex4, hexes}
 use Rattle.listing.specs.Line.{fields}
 use Rattle.listing.specs.Lines.{labelLine, foundLine, overlapLine, arrivalLine, instrText, hereLine, codeBy, codeLine, dataLine, zeros}

@@ -8,7 +8,7 @@ use lib.Dec.{ltb}
 use lib.ListN.{length}
 use Rattle.views.specs.Labels.{labelsOf}
 use Rattle.views.specs.Mask.{maskOf}
-use Rattle.arrival_index.specs.Index.{indexOf}
+use Rattle.arrivals.specs.Index.{indexOf}
 use Rattle.listing.specs.Walk.{walk}
 
 -- one of no cells is none

@@ -3,5 +3,4 @@ pub mod Line
 pub mod Operand
 pub mod Lines
 pub mod Walk
-pub mod Puts
 pub mod Lent

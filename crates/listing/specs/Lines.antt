@@ -12,10 +12,10 @@ use Rattle.instruction.specs.Forms.{sizeOf}
 use Rattle.instruction.specs.Mnemonic.{mnemonicOf}
 use Rattle.instruction.specs.Parts.{partsOf}
 use Rattle.instruction.specs.declared.instr.Instr.{Instr}
-use Rattle.ways.specs.Here.{hereOf}
-use Rattle.ways.specs.Targets.{nextOf}
-use Rattle.ways.specs.declared.here.Here.{Here}
-use Rattle.ways.specs.declared.here.Here.the-variants.{Whole, Cut, Outside}
+use Rattle.targets.specs.Here.{hereOf}
+use Rattle.targets.specs.Targets.{nextOf}
+use Rattle.targets.specs.declared.here.Here.{Here}
+use Rattle.targets.specs.declared.here.Here.the-variants.{Whole, Cut, Outside}
 use Rattle.listing.specs.Hex.{hex4, hexes}
 use Rattle.listing.specs.Line.{line}
 use Rattle.listing.specs.Operand.{operands}

@@ -7,15 +7,15 @@ use mathlib.Core.Bool.{cond}
 use mathlib.Core.List.{List, [], _∷_}
 use lib.Dec.{ltb}
 use lib.IntN.{ℤ}
-use Rattle.operand.specs.Answer.{Answer, accepted, refused}
-use Rattle.operand.specs.Kinds.{kindsOf}
-use Rattle.operand.specs.declared.kind.Kind.{Kind}
-use Rattle.operand.specs.declared.kind.Kind.the-variants.{Absent, Immediate, Direct, Register, BitNumber, Page, Far, Short, Long}
+use Rattle.instruction.specs.Answer.{Answer, accepted, refused}
+use Rattle.instruction.specs.Kinds.{kindsOf}
+use Rattle.instruction.specs.declared.kind.Kind.{Kind}
+use Rattle.instruction.specs.declared.kind.Kind.the-variants.{Absent, Immediate, Direct, Register, BitNumber, Page, Far, Short, Long}
 use Rattle.instruction.specs.Encode.{formIn}
 use Rattle.instruction.specs.Parts.{partsOf}
 use Rattle.instruction.specs.declared.instr.Instr.{Instr}
-use Rattle.ways.specs.At.{placeOf}
-use Rattle.ways.specs.Targets.{isGiven, targetsAnswer}
+use Rattle.targets.specs.At.{placeOf}
+use Rattle.targets.specs.Targets.{isGiven, targetsAnswer}
 use Rattle.listing.specs.Hex.{digit, hex2, hex3, hex4}
 
 -- a target by its position: 65,536 and more are outside memory, and so is what lies below 0

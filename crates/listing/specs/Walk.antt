@@ -8,12 +8,12 @@ use mathlib.Core.List.{List, [], _++_}
 use lib.Dec.{eqb}
 use lib.ListN.{length, getD}
 use Rattle.reach.specs.Mark.{tracedMark}
-use Rattle.ways.specs.Here.{hereOf}
+use Rattle.targets.specs.Here.{hereOf}
 use Rattle.views.specs.DataRun.{dataRun}
 use Rattle.views.specs.Labels.{labelsOf}
 use Rattle.views.specs.Mask.{maskOf}
-use Rattle.meetings.specs.Arrivals.{arrivalsOf}
-use Rattle.meetings.specs.Overlaps.{overlapsOf}
+use Rattle.arrivals.specs.Arrivals.{arrivalsOf}
+use Rattle.views.specs.Overlaps.{overlapsOf}
 use Rattle.listing.specs.Lines.{labelLine, overlapLine, arrivalLine, hereLine, dataLine}
 use Rattle.listing.specs.declared.tabbed.Arrivals.{Arrivals}
 use Rattle.listing.specs.declared.tabbed.Arrivals.the-variants.{Chosen, Declined}

@@ -1,16 +1,16 @@
 // One `I` line by itself.
 ghost use Rattle.listing.specs.Lines.{codeLine};
-ghost use Rattle.listing.specs.Puts.{Puts};
+ghost use Rattle.text.specs.Puts.{Puts};
 use crate::lines;
 use instruction::Instr;
-use ways::Here;
+use targets::Here;
 
 // The `I` line of bytes at p, ended by byte 10: how many bytes it has, 0 where decode or targets refuses. What falls past the end of the
 // room is not written; a line has at most 31 bytes.
 pub fn code_line(p: u32, bytes: &[u8], room: &mut [u8]) -> usize
     ensures { λ r. ⌜ Puts (codeLine p (now (bytes .entry))) 0 (now (room .entry)) (now (room .exit)) r ⌝ }
 {
-    match ways::instr_at(bytes, 0) {
+    match targets::instr_at(bytes, 0) {
         Here::Whole(i) => {
             if (Instr::HIGHEST_BASE as u64) < p as u64 + i.size() as u64 {
                 return 0;

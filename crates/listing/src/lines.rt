@@ -8,21 +8,21 @@ ghost use lib.Dec.{eqb};
 ghost use lib.ListN.{length};
 ghost use Rattle.instruction.specs.Encode.{formIn};
 ghost use Rattle.instruction.specs.Forms.{sizeOf};
-ghost use Rattle.ways.specs.Here.{hereOf};
-ghost use Rattle.meetings.specs.Arrivals.{arrivalsOf, nextArrival};
-ghost use Rattle.meetings.specs.Overlaps.{overlapsIn, overlapsOf};
-ghost use Rattle.arrival_index.specs.Index.{indexOf};
+ghost use Rattle.targets.specs.Here.{hereOf};
+ghost use Rattle.arrivals.specs.Arrivals.{arrivalsOf, nextArrival};
+ghost use Rattle.views.specs.Overlaps.{overlapsIn, overlapsOf};
+ghost use Rattle.arrivals.specs.Index.{indexOf};
 ghost use Rattle.listing.specs.Hex.{hex4};
 ghost use Rattle.listing.specs.Lent.{isLent, Indexed};
 ghost use Rattle.listing.specs.Line.{fields};
 ghost use Rattle.listing.specs.Lines.{labelLine, overlapLine, arrivalLine, instrText, hereLine, zeros, dataLine};
-ghost use Rattle.listing.specs.Puts.{Puts};
+ghost use Rattle.text.specs.Puts.{Puts};
 use crate::operands;
 use crate::put;
 use instruction::Instr;
-use meetings::Overlaps;
-use ways::Here;
-use ways::Image;
+use targets::Here;
+use targets::Image;
+use views::Overlaps;
 
 // `L`, where there is a target mark.
 pub fn put_label(out: &mut [u8], at: usize, p: u32, mark: u8) -> usize
@@ -78,7 +78,7 @@ pub fn put_overlaps(image: &[u8], marks: &[u8], out: &mut [u8], at: usize, p: u3
     requires { ⌜ at < 2 ^ 54 ⌝ }
     ensures { λ r. ⌜ (Puts (overlapLine p (overlapsOf (now (image .entry)) (now (marks .entry)) p)) at (now (out .entry)) (now (out .exit)) r) × (r ≤ at + 2 ^ 20) ⌝ }
 {
-    let o = meetings::overlaps_at(image, marks, p);
+    let o = views::overlaps_at(image, marks, p);
     if o.count() == 0 {
         return at;
     }
@@ -104,7 +104,7 @@ fn put_arrived(
     let mut q = first;
     while q < n {
         a = put::put_place(out, a, q);
-        q = arrival_index::next(index, image, marks, p, q);
+        q = arrivals::next(index, image, marks, p, q);
     }
     put::put_byte(out, a, b'\n')
 }
@@ -124,7 +124,7 @@ pub fn put_arrivals(
     if index.len() == 0 {
         return at;
     }
-    let first = arrival_index::first(index, p);
+    let first = arrivals::first(index, p);
     if image.len() <= first as usize {
         return at;
     }
@@ -137,7 +137,7 @@ pub fn put_instr(bytes: &[u8], out: &mut [u8], at: usize, p: u32, instr: Instr) 
     requires { ⌜ (at < 2 ^ 54) × (sizeOf (formIn instr) < 4) × (sizeOf (formIn instr) ≤ length (now bytes)) ⌝ }
     ensures { λ r. ⌜ (Puts (instrText p instr (now (bytes .entry))) at (now (out .entry)) (now (out .exit)) r) × (r ≤ at + 2 ^ 18) ⌝ }
 {
-    let t = operands::first_of(ways::targets(p, instr));
+    let t = operands::first_of(targets::targets(p, instr));
     let n = instr.size();
     let word = instr.mnemonic();
     let a1 = put::put_start(out, at, b'I', p);
@@ -151,7 +151,7 @@ pub fn put_here(image: &[u8], out: &mut [u8], at: usize, p: u32) -> usize
     requires { ⌜ at < 2 ^ 54 ⌝ }
     ensures { λ r. ⌜ (Puts (hereLine (now (image .entry)) p (hereOf (now (image .entry)) p)) at (now (out .entry)) (now (out .exit)) r) × (r ≤ at + 2 ^ 20) ⌝ }
 {
-    match ways::instr_at(image, p) {
+    match targets::instr_at(image, p) {
         Here::Whole(i) => put_instr(&image[p as usize..], out, at, p, i),
         Here::Cut(_) => at,
         Here::Outside => at,

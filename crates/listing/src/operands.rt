@@ -2,17 +2,17 @@
 ghost use mathlib.Core.Path.{_≡_};
 ghost use mathlib.Core.List.{[], _∷_};
 ghost use Prim.Native.Nat.{_^_, _<_};
-ghost use Rattle.ways.specs.Targets.{isGiven, targetsOf};
+ghost use Rattle.targets.specs.Targets.{isGiven, targetsOf};
 ghost use Rattle.listing.specs.Hex.{digit, hex2};
 ghost use Rattle.listing.specs.Line.{fields};
 ghost use Rattle.listing.specs.Operand.{target, shown, shownField, firstOf, operandsBy};
-ghost use Rattle.listing.specs.Puts.{Puts};
+ghost use Rattle.text.specs.Puts.{Puts};
 use crate::put;
 use instruction::Instr;
-use operand::Kind;
-use ways::Image;
-use ways::Targets;
-use ways::place;
+use instruction::Kind;
+use targets::Image;
+use targets::Targets;
+use targets::place;
 
 // The position of the first target.
 pub fn first_of(ways: Targets) -> u32

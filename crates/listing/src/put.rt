@@ -5,7 +5,7 @@ ghost use mathlib.Core.List.{[], _∷_};
 ghost use Prim.Native.Nat.{_^_, _≤_, _<_};
 ghost use lib.ListN.{length};
 ghost use Rattle.listing.specs.Hex.{digit, hex2, hex3, hex4, hexes};
-ghost use Rattle.listing.specs.Puts.{Puts, letters};
+ghost use Rattle.text.specs.Puts.{Puts, letters};
 
 pub fn put_byte(out: &mut [u8], at: usize, b: u8) -> usize
     requires { ⌜ at < 2 ^ 62 ⌝ }

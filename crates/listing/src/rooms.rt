@@ -1,7 +1,7 @@
 // Local rooms, each made by a function that says how long it is. Views are put into them where they stand, so that no copy is made.
 ghost use mathlib.Core.Path.{_≡_};
 ghost use lib.ListN.{length};
-use ways::Image;
+use targets::Image;
 
 // A byte for each position of every image.
 pub fn bytes() -> [u8; Image::LIMIT]

@@ -1,12 +1,12 @@
 // The tabbed listing.
 ghost use mathlib.Core.Path.{_≡_};
 ghost use mathlib.Core.Bool.{true};
-ghost use Rattle.sight.specs.View.{Sound, viewedOf, viewAnswer, viewRoom};
+ghost use Rattle.views.specs.View.{Sound, viewedOf, viewAnswer, viewRoom};
 ghost use Rattle.listing.specs.Lent.{isLent, Indexed, textOf};
 ghost use Rattle.listing.specs.Walk.{isChosen, unchosen, listingOf};
 use crate::rooms;
 use crate::walk;
-use sight::Viewed;
+use views::Viewed;
 
 // Whether the listing shows arrivals.
 pub enum Arrivals {
@@ -52,7 +52,7 @@ fn list_arrivals(image: &[u8], marks: &[u8], room: &mut [u8]) -> Viewed
 {
     let n = 3 * image.len();
     let mut index = rooms::cells();
-    arrival_index::index_into(image, marks, &mut index[..n]);
+    arrivals::index_into(image, marks, &mut index[..n]);
     list(image, marks, &index[..n], room)
 }
 
@@ -60,7 +60,7 @@ fn list_arrivals(image: &[u8], marks: &[u8], room: &mut [u8]) -> Viewed
 pub fn listing_with(image: &[u8], marks: &[u8], arrivals: Arrivals, room: &mut [u8]) -> Viewed
     ensures { λ r. ⌜ (viewedOf r ≡ viewAnswer (now (image .entry)) (now (marks .entry)) (listingOf (now (image .entry)) (now (marks .entry)) arrivals) (now (room .entry))) × (now (room .exit) ≡ viewRoom (now (image .entry)) (now (marks .entry)) (listingOf (now (image .entry)) (now (marks .entry)) arrivals) (now (room .entry))) ⌝ }
 {
-    let v = sight::check(image, marks);
+    let v = views::check(image, marks);
     if !v.is_written() {
         return v;
     }

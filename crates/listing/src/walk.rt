@@ -4,10 +4,10 @@ ghost use mathlib.Core.Bool.{cond};
 ghost use Prim.Native.Nat.{_+_, _^_, _≤_, _<_};
 ghost use lib.ListN.{length};
 ghost use Rattle.listing.specs.Lent.{isLent, Indexed};
-ghost use Rattle.listing.specs.Puts.{Puts, Needed};
+ghost use Rattle.text.specs.Puts.{Puts, Needed};
 ghost use Rattle.listing.specs.Walk.{codeLines, printed, passed, walk};
 use crate::lines;
-use marking::Mark;
+use marks::Mark;
 
 // The bytes that a position has at most, without arrivals.
 const MOST: usize = 60;

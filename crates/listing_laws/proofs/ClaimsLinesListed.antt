@@ -9,14 +9,14 @@ use native.Mathlib.Omega.{arith}
 use lib.Dec.{eqb, ltb, leb}
 use lib.ListN.{length, getD, drop, length-take}
 use borrow.Author.Tests.{eqb-true, le-leb, lt-ltb}
-use Rattle.ways.specs.At.{sizeHere}
-use Rattle.ways.proofs.Ands.{both}
-use Rattle.ways.proofs.Within.{size-short}
+use Rattle.targets.specs.At.{sizeHere}
+use Rattle.targets.proofs.Ands.{both}
+use Rattle.targets.proofs.Within.{size-short}
 use Rattle.reach.specs.Mark.{tracedMark}
 use Rattle.trace_laws.specs.ClaimsImages.{Bytes}
-use Rattle.sight.specs.Positions.{upFrom, kept, bit, tracedAt}
-use Rattle.sight.proofs.TracedAt.{traced-inside}
-use Rattle.sight.proofs.Ups.{up-at}
+use Rattle.views.specs.Positions.{upFrom, kept, bit, tracedAt}
+use Rattle.views.proofs.TracedAt.{traced-inside}
+use Rattle.views.proofs.Ups.{up-at}
 use Rattle.views.specs.DataRun.{leading, isData, runLength, dataRun}
 use Rattle.views.specs.Mask.{under, covers, masked, maskOf}
 use Rattle.views.proofs.DataRuns.{data-inside, by-mask}

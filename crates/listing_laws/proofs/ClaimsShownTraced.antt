@@ -10,29 +10,29 @@ use lib.Dec.{ltb}
 use lib.IntN.{ℤ}
 use lib.ListN.{length, getD, take, drop}
 use borrow.Author.Tests.{lt-ltb}
-use Rattle.operand.specs.Answer.{Answer, accepted}
-use Rattle.operand.proofs.Sign.{never}
+use Rattle.instruction.specs.Answer.{Answer, accepted}
+use Rattle.instruction.proofs.Sign.{never}
 use Rattle.instruction.specs.Decode.{decodeAnswer}
 use Rattle.instruction.specs.Encode.{formIn}
 use Rattle.instruction.specs.Forms.{sizeOf}
 use Rattle.instruction.specs.Mnemonic.{mnemonicOf}
 use Rattle.instruction.specs.Parts.{partsOf}
 use Rattle.instruction.specs.declared.instr.Instr.{Instr}
-use Rattle.ways.specs.At.{fitsHere, instrHere, waysHere}
-use Rattle.ways.specs.Targets.{nextOf, targetsIn, targetsAnswer}
-use Rattle.ways.proofs.Ands.{both, second-part}
-use Rattle.ways.proofs.AskedAlone.{found}
-use Rattle.ways.proofs.HereIs.{answer, whole-here}
-use Rattle.ways.proofs.Within.{within}
+use Rattle.targets.specs.At.{fitsHere, instrHere, waysHere}
+use Rattle.targets.specs.Targets.{nextOf, targetsIn, targetsAnswer}
+use Rattle.targets.proofs.Ands.{both, second-part}
+use Rattle.targets.proofs.AskedAlone.{found}
+use Rattle.targets.proofs.HereIs.{answer, whole-here}
+use Rattle.targets.proofs.Within.{within}
 use Rattle.reach.specs.ClaimsOrder.{Final}
 use Rattle.reach.specs.Mark.{tracedMark, cleared}
-use Rattle.marking.specs.Refusals.{damaged}
-use Rattle.marking.specs.Tracer.{tracerOf}
+use Rattle.marks.specs.Refusals.{damaged}
+use Rattle.marks.specs.Tracer.{tracerOf}
 use Rattle.trace.specs.Run.{outcomeOf}
 use Rattle.trace_laws.proofs.ClaimsImagesOrder.{image-run-final}
-use Rattle.sight.specs.Positions.{tracedAt}
-use Rattle.sight.specs.View.{offJmpf, misplaced, damagedHere}
-use Rattle.sight.proofs.TracedAt.{traced-inside}
+use Rattle.views.specs.Positions.{tracedAt}
+use Rattle.views.specs.View.{offJmpf, misplaced, damagedHere}
+use Rattle.views.proofs.TracedAt.{traced-inside}
 use Rattle.views_laws.specs.ClaimsCode.{Reachable}
 use Rattle.views_laws.proofs.ClaimsCodeBytes.{traced-reached, reached-traced}
 use Rattle.views_laws.proofs.Finished.{sized, covered, marks-are, ended}

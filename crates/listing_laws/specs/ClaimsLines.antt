@@ -5,7 +5,7 @@ use mathlib.Core.List.{List, [], _∷_, _++_, map}
 use mathlib.Core.Path.{_≡_}
 use lib.ListN.{length}
 use Rattle.trace_laws.specs.ClaimsImages.{Bytes}
-use Rattle.sight.specs.Positions.{positions, kept, tracedAt}
+use Rattle.views.specs.Positions.{positions, kept, tracedAt}
 use Rattle.views.specs.Labels.{labelsOf}
 use Rattle.views.specs.Mask.{maskOf}
 use Rattle.listing.specs.Walk.{isChosen, printed, passed, listingOf}

@@ -8,19 +8,19 @@ use mathlib.Core.List.{List, _∷_}
 use mathlib.Core.Path.{_≡_}
 use lib.IntN.{ℤ}
 use lib.ListN.{length, take, drop}
-use Rattle.operand.specs.Answer.{accepted}
+use Rattle.instruction.specs.Answer.{accepted}
 use Rattle.instruction.specs.Decode.{decodeAnswer}
 use Rattle.instruction.specs.Encode.{formIn}
 use Rattle.instruction.specs.Forms.{sizeOf}
 use Rattle.instruction.specs.Mnemonic.{mnemonicOf}
 use Rattle.instruction.specs.Parts.{partsOf}
 use Rattle.instruction.specs.declared.instr.Instr.{Instr}
-use Rattle.ways.specs.At.{fitsHere}
-use Rattle.ways.specs.Here.{hereOf}
-use Rattle.ways.specs.Targets.{targetsAnswer}
+use Rattle.targets.specs.At.{fitsHere}
+use Rattle.targets.specs.Here.{hereOf}
+use Rattle.targets.specs.Targets.{targetsAnswer}
 use Rattle.trace.specs.Run.{Said, runAnswer, runMarks}
 use Rattle.trace_laws.specs.ClaimsImages.{Bytes, Clean}
-use Rattle.sight.specs.Positions.{tracedAt}
+use Rattle.views.specs.Positions.{tracedAt}
 use Rattle.views_laws.specs.ClaimsCode.{Reachable}
 use Rattle.views_laws.specs.ClaimsSound.{Undamaged}
 use Rattle.listing.specs.Hex.{hex4, hexes}

@@ -7,10 +7,10 @@ use Prim.Native.Nat.{ℕ, _<_, _≤_}
 use lib.IntN.{pos}
 use lib.ListN.{length}
 use borrow.Author.Tests.{lt-ltb, le-ltb, ltb-false}
-use Rattle.operand.specs.Answer.{Answer, accepted, refused, Refusal, judge}
-use Rattle.operand.proofs.Accepting.{passed}
-use Rattle.operand.proofs.Judging.{pass, stop, done, refuses-too}
-use Rattle.operand.proofs.Sign.{never}
+use Rattle.instruction.specs.Answer.{Answer, accepted, refused, Refusal, judge}
+use Rattle.instruction.proofs.Accepting.{passed}
+use Rattle.instruction.proofs.Judging.{pass, stop, done, refuses-too}
+use Rattle.instruction.proofs.Sign.{never}
 use Rattle.map.specs.Words.{wordsFor}
 use Rattle.map.specs.Ask.{askRefusals, askedOf, isTold}
 use Rattle.map.specs.declared.ask.Asked.{Asked}

@@ -8,8 +8,8 @@ use native.Mathlib.Omega.{arith}
 use lib.Dec.{ltb}
 use lib.ListN.{getD}
 use borrow.Author.Tests.{lt-ltb, ltb-true, ltb-false}
-use Rattle.word.specs.Bits.{one, firstIn, firstZero}
-use Rattle.word.proofs.Stretches.{ones-one}
+use Rattle.map.specs.Bits.{one, firstIn, firstZero}
+use Rattle.map.proofs.Stretches.{ones-one}
 use Rattle.map.specs.Words.{codeAt, dataAt, Full}
 use Rattle.map.proofs.Runs.{first-is, first-none}
 use Rattle.map.proofs.InWords.{bit-at, zero-le, quiet, hit-from, hit-data}

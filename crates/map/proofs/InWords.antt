@@ -9,9 +9,9 @@ use lib.Count.{ones}
 use lib.Dec.{ltb, leb}
 use lib.ListN.{getD}
 use borrow.Author.Tests.{lt-ltb, le-ltb, le-leb, lt-leb, leb-true}
-use Rattle.ways.proofs.Ands.{not-second, first-alone, first-part, second-part}
-use Rattle.word.specs.Bits.{one, between, countIn, onesBetween, firstZero}
-use Rattle.word.proofs.Digits.{digits-all, ones-digits}
+use Rattle.targets.proofs.Ands.{not-second, first-alone, first-part, second-part}
+use Rattle.map.specs.Bits.{one, between, countIn, onesBetween, firstZero}
+use Rattle.map.proofs.Digits.{digits-all, ones-digits}
 use Rattle.map.specs.Words.{codeAt, dataAt}
 use Rattle.map.proofs.Runs.{count-add, count-none, count-moved, first-in, first-before, first-hit}
 

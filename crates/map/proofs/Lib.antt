@@ -1,5 +1,12 @@
+pub mod Digits
+pub mod Stretches
 pub mod Runs
 pub mod InWords
 pub mod Telling
 pub mod Finding
 pub mod Asking
+pub mod Packing
+pub mod Covering
+pub mod Sounding
+pub mod Marking
+pub mod Updating

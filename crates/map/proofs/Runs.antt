@@ -6,9 +6,9 @@ use Prim.Native.Nat.{ℕ, zero, suc, _+_, _<_, _≤_}
 use native.Mathlib.Omega.{arith}
 use lib.Dec.{eqb}
 use borrow.Author.Tests.{eqb-true, eqb-false}
-use Rattle.operand.proofs.Sign.{never}
-use Rattle.word.specs.Bits.{bit, countIn, firstIn}
-use Rattle.word.proofs.Digits.{digit-le}
+use Rattle.instruction.proofs.Sign.{never}
+use Rattle.map.specs.Bits.{bit, countIn, firstIn}
+use Rattle.map.proofs.Digits.{digit-le}
 
 pub count-add : (f : ℕ → Bool) (i j p : ℕ) → countIn f (i + j) p ≡ countIn f i p + countIn f j (p + i)
 unfolding countIn

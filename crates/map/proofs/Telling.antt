@@ -6,7 +6,7 @@ use Prim.Native.Nat.{ℕ, _+_, _*_, _-_, _/_, _%_, _^_, _<_, _≤_}
 use native.Mathlib.Omega.{arith}
 use lib.Count.{ones}
 use lib.ListN.{getD}
-use Rattle.word.specs.Bits.{countIn, onesBetween}
+use Rattle.map.specs.Bits.{countIn, onesBetween}
 use Rattle.map.specs.Words.{codeAt}
 use Rattle.map.proofs.Runs.{count-add, count-le}
 use Rattle.map.proofs.InWords.{in-word, whole-word}

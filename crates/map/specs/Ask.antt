@@ -6,8 +6,8 @@ use mathlib.Core.List.{List, [], _∷_}
 use lib.Dec.{ltb, leb}
 use lib.IntN.{pos}
 use lib.ListN.{length}
-use Rattle.operand.specs.Answer.{Answer, accepted, refused, Refusal, refuse, judge}
-use Rattle.word.specs.Bits.{bit, countIn, firstIn}
+use Rattle.instruction.specs.Answer.{Answer, accepted, refused, Refusal, refuse, judge}
+use Rattle.map.specs.Bits.{bit, countIn, firstIn}
 use Rattle.map.specs.Words.{wordsFor, codeAt, dataAt}
 use Rattle.map.specs.declared.ask.Asked.{Asked}
 use Rattle.map.specs.declared.ask.Asked.the-variants.{Told, LongImage, NoRoom, Outside}

@@ -5,7 +5,7 @@ use mathlib.Core.Bool.{Bool, true, not}
 use mathlib.Core.List.{List}
 use mathlib.Core.Path.{_≡_}
 use lib.ListN.{getD}
-use Rattle.word.specs.Bits.{one}
+use Rattle.map.specs.Bits.{one}
 
 -- how many words an image of n bytes needs
 abbrev pub wordsFor : ℕ → ℕ

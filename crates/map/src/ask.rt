@@ -1,10 +1,10 @@
 // The queries of a packed map: they lend the image's length and the words.
 ghost use mathlib.Core.Path.{_≡_};
-ghost use Rattle.operand.specs.Answer.{judge};
+ghost use Rattle.instruction.specs.Answer.{judge};
 ghost use Rattle.map.specs.Ask.{isTold, askedOf, askRefusals, testAnswer, countAnswer, firstAnswer};
 use crate::find;
 use crate::tell;
-use ways::Image;
+use targets::Image;
 
 pub enum Asked {
     // What was asked for.

@@ -2,14 +2,15 @@
 ghost use mathlib.Core.Path.{_≡_};
 ghost use Prim.Native.Nat.{_+_, _*_, _-_, _%_, _<_, _≤_};
 ghost use lib.ListN.{length};
-ghost use Rattle.word.specs.Bits.{firstIn};
+ghost use Rattle.map.specs.Bits.{firstIn};
 ghost use Rattle.map.specs.Words.{codeAt, dataAt, Full};
+use crate::bits;
 
 pub fn is_code(words: &[u64], q: u32) -> bool
     requires { ⌜ q < 64 * length (now words) ⌝ }
     ensures { λ r. ⌜ r ≡ codeAt (now (words .entry)) q ⌝ }
 {
-    word::is_one(words[(q / 64) as usize], q % 64)
+    bits::is_one(words[(q / 64) as usize], q % 64)
 }
 
 // How far from q on, where a word begins, there are words of ones alone; one that reaches past `to` is not looked at.
@@ -35,7 +36,7 @@ pub fn next_data(words: &[u64], from: u32, to: u32) -> u32
     let mut q = from;
     while q < to {
         let base = q / 64 * 64;
-        let i = word::first_zero(words[(q / 64) as usize], q % 64);
+        let i = bits::first_zero(words[(q / 64) as usize], q % 64);
         if i < 64 {
             if base + i < to {
                 return base + i;

@@ -2,8 +2,9 @@
 ghost use mathlib.Core.Path.{_≡_};
 ghost use Prim.Native.Nat.{_*_, _-_, _≤_};
 ghost use lib.ListN.{length, getD};
-ghost use Rattle.word.specs.Bits.{countIn, onesBetween};
+ghost use Rattle.map.specs.Bits.{countIn, onesBetween};
 ghost use Rattle.map.specs.Words.{codeAt};
+use crate::bits;
 
 // How many bits of a stretch of one word are 1; there are none where the word is missing.
 fn ones_at(words: &[u64], j: u32, from: u32, to: u32) -> u32
@@ -11,9 +12,9 @@ fn ones_at(words: &[u64], j: u32, from: u32, to: u32) -> u32
 {
     let at = j as usize;
     if words.len() <= at {
-        return word::ones_between(0, from, to);
+        return bits::ones_between(0, from, to);
     }
-    word::ones_between(words[at], from, to)
+    bits::ones_between(words[at], from, to)
 }
 
 // The ones of whole words, from the first on and before the last.

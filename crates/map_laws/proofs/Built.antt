@@ -8,18 +8,18 @@ use mathlib.Core.List.{List, [], _∷_, _++_}
 use lib.Dec.{ltb}
 use lib.ListN.{length, getD, drop, List·getD-append}
 use borrow.Author.Tests.{lt-ltb, le-ltb, ltb-false}
-use Rattle.operand.specs.Answer.{Answer, accepted, Refusal, judge}
-use Rattle.operand.proofs.Accepting.{passed}
-use Rattle.word.specs.Bits.{one}
-use Rattle.word.proofs.Digits.{one-digits}
+use Rattle.instruction.specs.Answer.{Answer, accepted, Refusal, judge}
+use Rattle.instruction.proofs.Accepting.{passed}
+use Rattle.map.specs.Bits.{one}
+use Rattle.map.proofs.Digits.{one-digits}
 use Rattle.map.specs.Words.{wordsFor, codeAt}
 use Rattle.views.specs.Mask.{masked, maskOf}
-use Rattle.sight.specs.View.{Sound, viewRefusals, roomAnswer, viewAnswer}
-use Rattle.sight.proofs.Viewing.{shown-as}
-use Rattle.mapping.specs.Packed.{packed}
-use Rattle.mapping.specs.Build.{buildAnswer, buildWords}
-use Rattle.mapping.proofs.Packing.{inside, map-at}
-use Rattle.mapping.proofs.Marking.{packed-mask, packed-length}
+use Rattle.views.specs.View.{Sound, viewRefusals, roomAnswer, viewAnswer}
+use Rattle.views.proofs.Viewing.{shown-as}
+use Rattle.map.specs.Packed.{packed}
+use Rattle.map.specs.Build.{buildAnswer, buildWords}
+use Rattle.map.proofs.Packing.{inside, map-at}
+use Rattle.map.proofs.Marking.{packed-mask, packed-length}
 
 -- a list of refusals that goes on: where the whole accepts, its beginning does, and so does the rest
 halves : (rs qs : List Refusal) (a k : ℕ) → judge (rs ++ qs) a ≡ accepted k → _≡_ {A = Answer ℕ} (judge rs 0) (accepted 0) × (judge qs a ≡ accepted k)

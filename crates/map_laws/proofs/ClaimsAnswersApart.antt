@@ -4,14 +4,14 @@ use Prim.Native.Nat.{ℕ}
 use mathlib.Core.Path.{_≡_, refl}
 use mathlib.Core.Bool.{cond}
 use lib.Dec.{eqb}
-use Rattle.operand.specs.Answer.{Answer, accepted, refused}
+use Rattle.instruction.specs.Answer.{Answer, accepted, refused}
 use Rattle.instruction_laws.proofs.Undone.{undone, numberAt}
 use Rattle.map.specs.Ask.{askedOf}
 use Rattle.map.specs.declared.ask.Asked.{Asked}
 use Rattle.map.specs.declared.ask.Asked.the-variants as ask
-use Rattle.mapping.specs.Update.{updatedOf}
-use Rattle.mapping.specs.declared.update.Updated.{Updated}
-use Rattle.mapping.specs.declared.update.Updated.the-variants as update
+use Rattle.map.specs.Update.{updatedOf}
+use Rattle.map.specs.declared.update.Updated.{Updated}
+use Rattle.map.specs.declared.update.Updated.the-variants as update
 use Rattle.map_laws.specs.ClaimsAnswers.{AskedApart, UpdatedApart}
 
 abbrev asked : Answer ℕ → Asked

@@ -9,17 +9,17 @@ use lib.Dec.{eqb, ltb, leb}
 use lib.ListN.{length, getD, take, drop}
 use lib.Seq.{drop-at, drop-cons}
 use borrow.Author.Tests.{le-ltb, lt-leb}
-use Rattle.word.specs.Bits.{bit, countIn, firstIn}
-use Rattle.word.proofs.Digits.{first-same}
+use Rattle.map.specs.Bits.{bit, countIn, firstIn}
+use Rattle.map.proofs.Digits.{first-same}
 use Rattle.map.specs.Words.{wordsFor, codeAt, dataAt}
 use Rattle.map.specs.Ask.{testAnswer, countAnswer, firstAnswer}
 use Rattle.map.proofs.Asking.{told}
 use Rattle.views.specs.Mask.{masked, maskOf}
 use Rattle.views.proofs.Masking.{mask-length}
-use Rattle.sight.proofs.Ups.{up-at}
-use Rattle.sight.proofs.Viewing.{small}
-use Rattle.mapping.specs.Packed.{packed}
-use Rattle.mapping.proofs.Marking.{packed-length}
+use Rattle.views.proofs.Ups.{up-at}
+use Rattle.views.proofs.Viewing.{small}
+use Rattle.map.specs.Packed.{packed}
+use Rattle.map.proofs.Marking.{packed-length}
 use Rattle.map_laws.specs.ClaimsMap.{sum, Answers, BuiltAnswers, BuiltPast}
 use Rattle.map_laws.proofs.Built.{built, bit-inside, bit-past}
 use lib.ListN.{length-append}

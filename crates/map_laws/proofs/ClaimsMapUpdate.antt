@@ -6,23 +6,23 @@ use mathlib.Core.List.{List, _++_}
 use Prim.Native.Nat.{ℕ, _+_, _<_, _≤_}
 use native.Mathlib.Omega.{arith}
 use lib.ListN.{length, drop, length-append}
-use Rattle.operand.specs.Answer.{accepted}
-use Rattle.ways.specs.At.{sizeHere}
+use Rattle.instruction.specs.Answer.{accepted}
+use Rattle.targets.specs.At.{sizeHere}
 use Rattle.reach.specs.Tracer.{took}
-use Rattle.stepping.specs.Step.{stepMarks}
-use Rattle.marking.specs.Tracer.{tracerOf}
+use Rattle.trace.specs.Step.{stepMarks}
+use Rattle.marks.specs.Tracer.{tracerOf}
 use Rattle.trace_laws.proofs.Accepted.{Went, went}
-use Rattle.word.specs.Bits.{between}
+use Rattle.map.specs.Bits.{between}
 use Rattle.map.specs.Words.{wordsFor}
 use Rattle.views.specs.Mask.{masked, maskOf}
-use Rattle.sight.specs.View.{Sound}
-use Rattle.mapping.specs.Packed.{packed, covered}
-use Rattle.mapping.specs.Build.{buildAnswer, buildWords}
-use Rattle.mapping.specs.Update.{updateAnswer, updateWords}
-use Rattle.mapping.proofs.Packing.{map-same, stretch-more, covered-append}
-use Rattle.mapping.proofs.Marking.{packed-mask, packed-length}
-use Rattle.mapping.proofs.Sounding.{undamaged, fits-within}
-use Rattle.mapping.proofs.Updating.{set-all}
+use Rattle.views.specs.View.{Sound}
+use Rattle.map.specs.Packed.{packed, covered}
+use Rattle.map.specs.Build.{buildAnswer, buildWords}
+use Rattle.map.specs.Update.{updateAnswer, updateWords}
+use Rattle.map.proofs.Packing.{map-same, stretch-more, covered-append}
+use Rattle.map.proofs.Marking.{packed-mask, packed-length}
+use Rattle.map.proofs.Sounding.{undamaged, fits-within}
+use Rattle.map.proofs.Updating.{set-all}
 use Rattle.map_laws.specs.ClaimsMap.{KeptUp, UpdatedIsBuilt}
 use Rattle.map_laws.proofs.Built.{Done, built, builds}
 use Rattle.map_laws.proofs.Stepped.{masked-more, traced-here, sound-after}

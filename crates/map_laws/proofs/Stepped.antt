@@ -8,20 +8,20 @@ use native.Mathlib.Omega.{arith}
 use lib.Dec.{eqb}
 use lib.ListN.{length, getD}
 use borrow.Author.Tests.{lt-ltb, le-leb, eq-eqb, ne-eqb, eqb-true}
-use Rattle.ways.specs.At.{sizeHere}
+use Rattle.targets.specs.At.{sizeHere}
 use Rattle.reach.specs.Mark.{tracedMark}
 use Rattle.reach.specs.Takes.{Ready}
 use Rattle.reach.specs.Tracer.{mark, took}
 use Rattle.reach.proofs.Mark.{traced-test}
 use Rattle.reach.proofs.Took.{Moved, itself, kept, called, moved, mark-traced, length-took}
-use Rattle.marking.specs.Tracer.{tracerOf}
-use Rattle.word.specs.Bits.{between}
+use Rattle.marks.specs.Tracer.{tracerOf}
+use Rattle.map.specs.Bits.{between}
 use Rattle.views.specs.Mask.{under, covers, masked}
-use Rattle.sight.specs.Positions.{upFrom, some}
-use Rattle.sight.specs.View.{Sound, damagedHere}
-use Rattle.sight.proofs.Refusing.{left-from, sound}
+use Rattle.views.specs.Positions.{upFrom, some}
+use Rattle.views.specs.View.{Sound, damagedHere}
+use Rattle.views.proofs.Refusing.{left-from, sound}
 use Rattle.views_laws.proofs.ClaimsSoundRun.{step-good}
-use Rattle.mapping.proofs.Packing.{begins, begins-none}
+use Rattle.map.proofs.Packing.{begins, begins-none}
 
 -- ---- one test more for one position
 

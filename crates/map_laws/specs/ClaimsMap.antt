@@ -7,15 +7,15 @@ use mathlib.Core.List.{List, [], _∷_}
 use mathlib.Core.Path.{_≡_}
 use lib.Dec.{eqb}
 use lib.ListN.{length, getD, take, drop}
-use Rattle.operand.specs.Answer.{accepted}
-use Rattle.ways.specs.At.{sizeHere}
-use Rattle.stepping.specs.Step.{Said, stepAnswer, stepMarks}
+use Rattle.instruction.specs.Answer.{accepted}
+use Rattle.targets.specs.At.{sizeHere}
+use Rattle.trace.specs.Step.{Said, stepAnswer, stepMarks}
 use Rattle.views.specs.Mask.{maskOf}
-use Rattle.word.specs.Bits.{firstIn}
+use Rattle.map.specs.Bits.{firstIn}
 use Rattle.map.specs.Words.{wordsFor, codeAt}
 use Rattle.map.specs.Ask.{testAnswer, countAnswer, firstAnswer}
-use Rattle.mapping.specs.Build.{buildAnswer, buildWords}
-use Rattle.mapping.specs.Update.{updateAnswer, updateWords}
+use Rattle.map.specs.Build.{buildAnswer, buildWords}
+use Rattle.map.specs.Update.{updateAnswer, updateWords}
 
 -- the marks m before a step at p, the words as lent: after the step both calls are accepted, and the map that was built before it and then
 -- updated is the map built afresh

@@ -1,10 +1,10 @@
 // A reader: it holds the lent text of a listing, and the place of the line that is next. Each function over it is proved by a walk of its
-// MIR, by hand; `reading::read::read_line` does the work, and `read`, whose parameters are plain, needs no walk where it is called.
+// MIR, by hand; `read_back::read::read_line` does the work, and `read`, whose parameters are plain, needs no walk where it is called.
 ghost use mathlib.Core.Path.{_≡_};
-ghost use Rattle.reading.specs.Read.{readOf, readAnswer};
-use placing::Place;
-use reading::read::Read;
-use reading::read::read_line;
+ghost use Rattle.read_back.specs.Read.{readOf, readAnswer};
+use read_back::Place;
+use read_back::read::Read;
+use read_back::read::read_line;
 
 pub struct Reader<'a> {
     pub text: &'a [u8],

@@ -10,7 +10,7 @@ use lib.Dec.{leb}
 use lib.ListN.{length, getD, drop, drop-of-length-le, List·getD-eq-default}
 use lib.Seq.{drop-cons}
 use borrow.Author.Tests.{leb-true, leb-false, le-leb, lt-leb}
-use Rattle.operand.proofs.Sign.{never}
+use Rattle.instruction.proofs.Sign.{never}
 use Rattle.text.specs.Hex.{within, isDigit, digitOf, allHex}
 
 or-false : (t : Bool) → t ≡ (t || false)

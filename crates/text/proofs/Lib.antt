@@ -1,3 +1,4 @@
+pub mod Putting
 pub mod Ands
 pub mod Cases
 pub mod Cuts
@@ -6,3 +7,5 @@ pub mod Fielding
 pub mod Fours
 pub mod Pairs
 pub mod PairPuts
+pub mod Decimals
+pub mod RefusalPutting

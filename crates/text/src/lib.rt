@@ -1,6 +1,8 @@
-// Pieces of text: upper-case hex digits, bytes and four-digit numbers in hex, and a text cut at each byte of one kind.
+// Pieces of text: hex and decimal digits, bytes and numbers, lines and fields, and the line of a refusal.
 pub mod bytes;
 pub mod cut;
+mod decimal;
 pub mod fields;
 pub mod four;
 pub mod hex;
+pub mod refusal;

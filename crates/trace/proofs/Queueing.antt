@@ -9,10 +9,10 @@ use Rattle.reach.specs.Note.{note, fresh}
 use Rattle.reach.specs.Queue.{Noted}
 use Rattle.reach.specs.Queue as queue
 use Rattle.reach.specs.Tracer.{found}
-use Rattle.taking.specs.Taken.{TakenUp}
-use Rattle.ways.specs.Ways.{placesIn}
-use Rattle.marking.specs.Tracer.{tracerOf}
-use Rattle.taking.specs.declared.take.Taken.{Taken}
+use Rattle.marks.specs.Taken.{TakenUp}
+use Rattle.targets.specs.Ways.{placesIn}
+use Rattle.marks.specs.Tracer.{tracerOf}
+use Rattle.marks.specs.declared.take.Taken.{Taken}
 
 -- ps written into o from its end t on, which leaves o′ and the end t′
 abbrev pub Put : List ℕ → ℕ → List ℕ → List ℕ → ℕ → Type 0

@@ -7,11 +7,11 @@ use lib.Dec.{ltb}
 use lib.IntN.{ℤ, pos}
 use lib.ListN.{length}
 use borrow.Author.Tests.{lt-ltb, le-ltb}
-use Rattle.operand.specs.Answer.{Answer, accepted, refused, Refusal, refuse}
-use Rattle.operand.proofs.Judging.{pass, stop, done}
+use Rattle.instruction.specs.Answer.{Answer, accepted, refused, Refusal, refuse}
+use Rattle.instruction.proofs.Judging.{pass, stop, done}
 use Rattle.trace.specs.Run.{Said, ranOf, runJudged, runAnswer, runMarks, runOrder, RanTo, StepsTied}
 use Rattle.trace.specs.declared.run.Ran.{Ran}
-use Rattle.marking.proofs.Sizing as sizing
+use Rattle.marks.proofs.Sizing as sizing
 
 module _ (image marks order entries : List ℕ) (limit : ℕ) where
   abbrev n : ℕ

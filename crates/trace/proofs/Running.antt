@@ -5,9 +5,9 @@ use mathlib.Core.List.{List}
 use Prim.Native.Nat.{ℕ, _≤_}
 use native.Mathlib.Omega.{arith}
 use lib.ListN.{length, take}
-use Rattle.operand.specs.Answer.{refused}
-use Rattle.operand.specs.CutOff.{cutValues}
-use Rattle.operand.specs.declared.answer.CutOff.{CutOff}
+use Rattle.instruction.specs.Answer.{refused}
+use Rattle.instruction.specs.CutOff.{cutValues}
+use Rattle.instruction.specs.declared.answer.CutOff.{CutOff}
 use Rattle.instruction.specs.Decode.{cutAt}
 use Rattle.reach.specs.Mark.{cleared, tracedMark, count}
 use Rattle.reach.specs.Queue.{Noted}
@@ -19,7 +19,7 @@ use Rattle.reach.proofs.Noted.{noted-long}
 use Rattle.reach.proofs.Order.{cleared-base}
 use Rattle.reach.proofs.Run.{run-takes}
 use Rattle.trace.specs.Run.{outcomeOf, endOf, ranOf, ranAnswer, RanTo, StepsTied}
-use Rattle.marking.specs.Tracer.{tracerOf}
+use Rattle.marks.specs.Tracer.{tracerOf}
 use Rattle.trace.specs.declared.run.Counts.{Counts}
 use Rattle.trace.specs.declared.run.Ran.{Ran}
 use Rattle.trace.specs.declared.run.Ran.the-variants.{Finished, Stopped, Cut}

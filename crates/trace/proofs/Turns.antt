@@ -5,13 +5,13 @@ use mathlib.Core.Bool.{true, false}
 use mathlib.Core.List.{List}
 use Prim.Native.Nat.{ℕ}
 use native.Mathlib.Omega.{arith}
-use Rattle.operand.specs.CutOff.{cutValues}
-use Rattle.operand.specs.declared.answer.CutOff.{CutOff}
+use Rattle.instruction.specs.CutOff.{cutValues}
+use Rattle.instruction.specs.declared.answer.CutOff.{CutOff}
 use Rattle.instruction.specs.Decode.{cutAt}
 use Rattle.reach.specs.Queue.{TakenUp}
 use Rattle.trace.specs.Run.{Turned}
-use Rattle.marking.specs.Tracer.{tracerOf}
-use Rattle.ways.specs.At.{fitsHere}
+use Rattle.marks.specs.Tracer.{tracerOf}
+use Rattle.targets.specs.At.{fitsHere}
 use Rattle.trace.specs.declared.run.Turn.the-variants.{On, Off}
 
 module _ (image m o : List ℕ) (p tail : ℕ) where

@@ -7,16 +7,16 @@ use mathlib.Core.Path.{_≡_}
 use lib.Dec.{ltb}
 use lib.IntN.{pos}
 use lib.ListN.{length, take}
-use Rattle.operand.specs.Answer.{Answer, accepted, refused, Refusal, refuse, judge, after}
-use Rattle.operand.specs.CutOff.{cutValues}
-use Rattle.operand.specs.declared.answer.CutOff.{CutOff}
+use Rattle.instruction.specs.Answer.{Answer, accepted, refused, Refusal, refuse, judge, after}
+use Rattle.instruction.specs.CutOff.{cutValues}
+use Rattle.instruction.specs.declared.answer.CutOff.{CutOff}
 use Rattle.instruction.specs.Decode.{cutAt}
 use Rattle.reach.specs.Mark.{cleared, tracedMark, count}
 use Rattle.reach.specs.Queue.{TakenUp}
 use Rattle.reach.specs.Run.{End, finished, stopped, cutOff, Outcome, steps, noted, ordered, runOf}
-use Rattle.marking.specs.Refusals.{sizeRefusals}
-use Rattle.marking.specs.Tracer.{tracerOf}
-use Rattle.ways.specs.At.{fitsHere}
+use Rattle.marks.specs.Refusals.{sizeRefusals}
+use Rattle.marks.specs.Tracer.{tracerOf}
+use Rattle.targets.specs.At.{fitsHere}
 use Rattle.trace.specs.declared.run.Turn.{Turn}
 use Rattle.trace.specs.declared.run.Turn.the-variants.{On, Off}
 use Rattle.trace.specs.declared.run.Ran.{Ran}

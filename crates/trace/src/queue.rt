@@ -4,8 +4,8 @@ ghost use Prim.Native.Nat.{_+_, _≤_};
 ghost use lib.ListN.{length};
 ghost use lib.Seq.{sets};
 ghost use Rattle.reach.specs.Queue.{Noted};
-ghost use Rattle.ways.specs.Ways.{placesIn};
-use ways::Places;
+ghost use Rattle.targets.specs.Ways.{placesIn};
+use targets::Places;
 
 // Writes these positions at the list's end: its new end.
 pub fn put(order: &mut [u32], tail: usize, ps: Places) -> usize
@@ -35,7 +35,7 @@ pub fn put_entries(marks: &mut [u8], order: &mut [u32], n: usize, entries: &[u32
     let mut tail: usize = 0;
     let mut i = 0;
     while i < entries.len() {
-        let noted = taking::note_place(marks, n, entries[i]);
+        let noted = marks::note_place(marks, n, entries[i]);
         tail = put(order, tail, noted);
         i += 1;
     }

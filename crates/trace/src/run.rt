@@ -6,11 +6,11 @@ ghost use Prim.Native.Nat.{_+_, _≤_, _<_};
 ghost use lib.ListN.{length};
 ghost use Rattle.reach.specs.Tracer.{found};
 ghost use Rattle.trace.specs.Run.{ranOf, runAnswer, runMarks, runOrder, RanTo, StepsTied, Turned};
-ghost use Rattle.marking.specs.Tracer.{tracerOf};
+ghost use Rattle.marks.specs.Tracer.{tracerOf};
 use crate::queue;
-use operand::CutOff;
-use ways::Image;
-use ways::Ways;
+use instruction::CutOff;
+use targets::Image;
+use targets::Ways;
 
 // The steps, and the positions noted.
 pub struct Counts {
@@ -53,9 +53,9 @@ fn take_next(image: &[u8], marks: &mut [u8], order: &mut [u32], p: u32, tail: us
     requires { ⌜ tail + length (found (tracerOf (now image)) (now marks) p) ≤ length (now order) ⌝ }
     ensures { λ r. ⌜ Turned (now (image .entry)) (now (marks .entry)) (now (order .entry)) p tail r (now (marks .exit)) (now (order .exit)) ⌝ }
 {
-    match ways::ways_at(image, p) {
+    match targets::ways_at(image, p) {
         Ways::Goes(to) => {
-            let taken = taking::take_up(image, marks, p, to);
+            let taken = marks::take_up(image, marks, p, to);
             let noted = taken.noted;
             Turn::On(queue::put(order, tail, noted))
         }
@@ -70,7 +70,7 @@ fn run_on(image: &[u8], marks: &mut [u8], order: &mut [u32], entries: &[u32], li
     ensures { λ r. ⌜ RanTo (now (image .entry)) (now (marks .entry)) (now (order .entry)) (now (entries .entry)) limit r (now (marks .exit)) (now (order .exit)) ⌝ }
 {
     let n = image.len();
-    marking::clear(marks, n);
+    marks::clear(marks, n);
     let most = limit as usize;
     let mut tail = queue::put_entries(marks, order, n, entries);
     let mut head: usize = 0;

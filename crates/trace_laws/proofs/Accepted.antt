@@ -8,18 +8,18 @@ use mathlib.Core.List.{List, [], _∷_}
 use lib.Dec.{eqb, ltb}
 use lib.ListN.{length, getD}
 use borrow.Author.Tests.{le-ltb, ltb-true, ltb-false, leb-false, eqb-true, eqb-false}
-use Rattle.operand.specs.Answer.{Answer, accepted, judge, after}
-use Rattle.operand.proofs.Judging.{pass, done}
-use Rattle.operand.proofs.Sign.{never}
-use Rattle.operand.proofs.Accepting.{passed}
+use Rattle.instruction.specs.Answer.{Answer, accepted, judge, after}
+use Rattle.instruction.proofs.Judging.{pass, done}
+use Rattle.instruction.proofs.Sign.{never}
+use Rattle.instruction.proofs.Accepting.{passed}
 use Rattle.reach.specs.Takes.{Ready}
 use Rattle.reach.specs.Tracer.{targets, took}
-use Rattle.marking.specs.Refusals.{damaged}
-use Rattle.stepping.specs.Step.{idle, damages, damageRefusals, stepRefusals, Said, saidOf, stepAnswer, stepMarks}
-use Rattle.marking.specs.Tracer.{tracerOf}
-use Rattle.ways.specs.At.{fitsHere, flashHere}
-use Rattle.ways.proofs.Ands.{not-second}
-use Rattle.stepping.proofs.StepAnswers.{idle-marks, whole}
+use Rattle.marks.specs.Refusals.{damaged}
+use Rattle.trace.specs.Step.{idle, damages, damageRefusals, stepRefusals, Said, saidOf, stepAnswer, stepMarks}
+use Rattle.marks.specs.Tracer.{tracerOf}
+use Rattle.targets.specs.At.{fitsHere, flashHere}
+use Rattle.targets.proofs.Ands.{not-second}
+use Rattle.trace.proofs.StepAnswers.{idle-marks, whole}
 
 -- what an accepted step says
 pub record Went (image m : List ℕ) (p : ℕ) : Type 0 where

@@ -8,16 +8,16 @@ use native.Mathlib.Nat.{add-mod-mod}
 use native.Mathlib.Omega.{arith}
 use borrow.Author.Tests.{eqb-true, not-false}
 use lib.IntN.{ℤ, pos, natAbs, _+ℤ_, _-ℤ_, +ℤ-comm, -ℤ-+ℤ-cancel}
-use Rattle.operand.specs.Answer.{accepted, Refusal, judge}
-use Rattle.operand.specs.declared.kind.Kind.{Kind}
-use Rattle.operand.specs.declared.kind.Kind.the-variants.{Absent, Immediate, Direct, Register, BitNumber, Page, Far, Short, Long}
-use Rattle.operand.proofs.Sign.{natural}
-use Rattle.field.specs.Code.{codeOf}
-use Rattle.field.specs.Resolve.{noAddress, top, wrapped, operandRefusals, fieldOf}
-use Rattle.field.proofs.Resolving.{address-is, wraps-is}
+use Rattle.instruction.specs.Answer.{accepted, Refusal, judge}
+use Rattle.instruction.specs.declared.kind.Kind.{Kind}
+use Rattle.instruction.specs.declared.kind.Kind.the-variants.{Absent, Immediate, Direct, Register, BitNumber, Page, Far, Short, Long}
+use Rattle.instruction.proofs.Sign.{natural}
+use Rattle.instruction.specs.Code.{codeOf}
+use Rattle.instruction.specs.Resolution.{noAddress, top, wrapped, operandRefusals, fieldOf}
+use Rattle.instruction.proofs.Resolving.{address-is, wraps-is}
 use Rattle.instruction_laws.specs.PartsMade.{used}
-use Rattle.operand.proofs.Accepting.{passed}
-use Rattle.ways.specs.Targets.{addressOf}
+use Rattle.instruction.proofs.Accepting.{passed}
+use Rattle.targets.specs.Targets.{addressOf}
 
 -- a sum that wraps undoes a difference that wraps
 around : (n base r : ℕ) → n ≤ 65535 → 1 ≤ base → (r + base % 65536) % 65536 ≡ n % 65536 → (base - 1 + (r + 1) % 65536) % 65536 ≡ n

@@ -8,13 +8,13 @@ use mathlib.Core.Path.{_≡_, refl, sym, ap, _∙_}
 use mathlib.Core.Logic.{_⊎_, inl, inr, ⊎-elim}
 use mathlib.Core.List.{List, [], _∷_}
 use lib.ListN.{length, take}
-use Rattle.operand.specs.Answer.{Answer, accepted, refused}
+use Rattle.instruction.specs.Answer.{Answer, accepted, refused}
 use Rattle.reach.specs.Mark.{tracedMark, count}
 use Rattle.reach.proofs.Count.{count-under}
 use Rattle.reach.proofs.Took.{count-took}
 use Rattle.trace_laws.specs.ClaimsImages.{Steps, stay, further, Still, ImageCanEnd}
-use Rattle.stepping.specs.Step.{Said, stepAnswer, stepMarks}
-use Rattle.marking.specs.Tracer.{tracerOf}
+use Rattle.trace.specs.Step.{Said, stepAnswer, stepMarks}
+use Rattle.marks.specs.Tracer.{tracerOf}
 use Rattle.trace_laws.proofs.Accepted.{went}
 
 module _ (image : List ℕ) where

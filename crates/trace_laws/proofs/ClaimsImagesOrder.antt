@@ -7,8 +7,8 @@ use mathlib.Core.Logic.{inl, inr}
 use mathlib.Core.List.{List}
 use lib.ListN.{length, getD}
 use borrow.Author.Tests.{ltb-false}
-use Rattle.operand.specs.Answer.{Answer, accepted, after}
-use Rattle.operand.proofs.Accepting.{passed}
+use Rattle.instruction.specs.Answer.{Answer, accepted, after}
+use Rattle.instruction.proofs.Accepting.{passed}
 use Rattle.reach.specs.Mark.{cleared, IsTraced}
 use Rattle.reach.specs.Note.{note}
 use Rattle.reach.specs.Takes.{Takes, stay, up, ToEnd}
@@ -22,9 +22,9 @@ use Rattle.reach.proofs.Takes.{takes-bound}
 use Rattle.reach.proofs.Took.{Moved, itself, kept, called, moved, mark-traced, length-took}
 use Rattle.trace_laws.specs.ClaimsImages as claims
 use Rattle.trace.specs.Run.{outcomeOf}
-use Rattle.stepping.specs.Start.{startAnswer, startMarks}
-use Rattle.stepping.specs.Step.{saidOf}
-use Rattle.marking.specs.Tracer.{tracerOf}
+use Rattle.trace.specs.Start.{startAnswer, startMarks}
+use Rattle.trace.specs.Step.{saidOf}
+use Rattle.marks.specs.Tracer.{tracerOf}
 use Rattle.trace_laws.proofs.Accepted.{went, Sound, ready-accepted}
 use Rattle.trace_laws.proofs.Unflashed.{plain}
 

@@ -8,13 +8,13 @@ use mathlib.Core.List.{List, [], _∷_}
 use lib.IntN.{ℤ}
 use lib.ListN.{length}
 use borrow.Author.Tests.{leb-false, ltb-false}
-use Rattle.operand.specs.Answer.{Answer, accepted, refused, judge}
-use Rattle.operand.specs.CutOff.{cutValues}
-use Rattle.operand.proofs.Judging.{other-passed, this-spoke, done}
-use Rattle.operand.proofs.Sign.{never}
+use Rattle.instruction.specs.Answer.{Answer, accepted, refused, judge}
+use Rattle.instruction.specs.CutOff.{cutValues}
+use Rattle.instruction.proofs.Judging.{other-passed, this-spoke, done}
+use Rattle.instruction.proofs.Sign.{never}
 use Rattle.instruction.specs.Decode.{cutAt}
 use Rattle.instruction_laws.specs.Missing.{OneOrTwo}
-use Rattle.operand.proofs.Accepting.{passed}
+use Rattle.instruction.proofs.Accepting.{passed}
 use Rattle.instruction_laws.proofs.Missing.{cut-missing}
 use Rattle.reach.specs.Mark.{cleared}
 use Rattle.reach.specs.Run.{End, finished, stopped, cutOff, steps, noted}
@@ -22,9 +22,9 @@ use Rattle.reach.specs.Tracer.{targets}
 use Rattle.reach.proofs.Order.{cleared-base}
 use Rattle.reach.proofs.Run.{run-ending}
 use Rattle.trace.specs.Run.{runJudged, ranAnswer, endOf, outcomeOf, orElse, runAnswer}
-use Rattle.stepping.specs.Step.{damages, damageRefusals, stepRefusals, stepAnswer}
-use Rattle.marking.specs.Tracer.{tracerOf}
-use Rattle.ways.specs.At.{fitsHere}
+use Rattle.trace.specs.Step.{damages, damageRefusals, stepRefusals, stepAnswer}
+use Rattle.marks.specs.Tracer.{tracerOf}
+use Rattle.targets.specs.At.{fitsHere}
 use Rattle.trace_laws.specs.ClaimsImages.{Bytes}
 use Rattle.trace_laws.specs.ClaimsMissing.{StepMissing, RunMissing}
 

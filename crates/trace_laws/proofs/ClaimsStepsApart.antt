@@ -6,23 +6,23 @@ use mathlib.Core.Bool.{cond}
 use mathlib.Core.List.{List}
 use lib.Dec.{eqb}
 use lib.IntN.{ℤ}
-use Rattle.operand.specs.Answer.{Answer, accepted, refused}
+use Rattle.instruction.specs.Answer.{Answer, accepted, refused}
 use Rattle.trace_laws.specs.ClaimsSteps.{StartedApart, SteppedApart, RanApart, SweptApart}
 use Rattle.trace.specs.Run.{ranOf}
 use Rattle.trace.specs.Run as running
-use Rattle.stepping.specs.Start.{startedOf}
-use Rattle.stepping.specs.Step.{Said, steppedOf}
+use Rattle.trace.specs.Start.{startedOf}
+use Rattle.trace.specs.Step.{Said, steppedOf}
 use Rattle.trace.specs.declared.run.Counts.{Counts}
 use Rattle.trace.specs.declared.run.Ran.{Ran}
 use Rattle.trace.specs.declared.run.Ran.the-variants as ran
-use Rattle.stepping.specs.declared.start.Started.{Started}
-use Rattle.stepping.specs.declared.start.Started.the-variants as started
-use Rattle.stepping.specs.declared.step.Stepped.{Stepped}
-use Rattle.stepping.specs.declared.step.Stepped.the-variants as stepped
-use Rattle.sweeping.specs.Sweep.{sweptOf}
-use Rattle.sweeping.specs.Sweep as sweeping
-use Rattle.sweeping.specs.declared.sweep.Swept.{Swept}
-use Rattle.sweeping.specs.declared.sweep.Swept.the-variants as swept
+use Rattle.trace.specs.declared.start.Started.{Started}
+use Rattle.trace.specs.declared.start.Started.the-variants as started
+use Rattle.trace.specs.declared.step.Stepped.{Stepped}
+use Rattle.trace.specs.declared.step.Stepped.the-variants as stepped
+use Rattle.sweep.specs.Sweep.{sweptOf}
+use Rattle.sweep.specs.Sweep as sweeping
+use Rattle.sweep.specs.declared.sweep.Swept.{Swept}
+use Rattle.sweep.specs.declared.sweep.Swept.the-variants as swept
 use Rattle.instruction_laws.proofs.Undone.{undone, numberAt, cut}
 
 abbrev start-answered : Answer ℕ → Started

@@ -5,11 +5,11 @@ use mathlib.Core.Bool.{cond}
 use mathlib.Core.List.{List, [], _∷_}
 use lib.Dec.{eqb}
 use lib.IntN.{ℤ}
-use Rattle.operand.specs.Answer.{Answer, accepted, refused}
+use Rattle.instruction.specs.Answer.{Answer, accepted, refused}
 use Rattle.trace_laws.specs.ClaimsTargets.{TargetsApart}
-use Rattle.ways.specs.Targets.{targetsOf}
-use Rattle.ways.specs.declared.target.Targets.{Targets}
-use Rattle.ways.specs.declared.target.Targets.the-variants.{Nowhere, One, Two, PastEnd, Unfit}
+use Rattle.targets.specs.Targets.{targetsOf}
+use Rattle.targets.specs.declared.target.Targets.{Targets}
+use Rattle.targets.specs.declared.target.Targets.the-variants.{Nowhere, One, Two, PastEnd, Unfit}
 use Rattle.instruction_laws.proofs.Undone.{undone, numberAt, misfit}
 
 abbrev among : List ℤ → Targets

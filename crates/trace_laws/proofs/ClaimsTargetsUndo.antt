@@ -5,7 +5,7 @@ use mathlib.Core.Path.{_≡_, ap, sym, _∙_}
 use Prim.Native.Nat.{ℕ, _+_, _-_, _≤_}
 use native.Mathlib.Omega.{arith}
 use lib.IntN.{pos}
-use Rattle.operand.specs.Answer.{accepted}
+use Rattle.instruction.specs.Answer.{accepted}
 use Rattle.instruction.specs.Encode.{formIn}
 use Rattle.instruction.specs.Flow.{flowOf}
 use Rattle.instruction.specs.Forms.{formAt, sizeOf}
@@ -14,8 +14,8 @@ use Rattle.instruction.specs.Resolve.{resolveAnswer}
 use Rattle.instruction.specs.declared.flow.Flow.{Flow}
 use Rattle.instruction.specs.declared.instr.Instr.{Instr}
 use Rattle.trace_laws.specs.ClaimsTargets.{lastIn, TargetsUndoResolve}
-use Rattle.ways.specs.Targets.{nextOf, byFlow, targetsIn, targetsAnswer}
-use Rattle.ways.proofs.AskedAlone.{found}
+use Rattle.targets.specs.Targets.{nextOf, byFlow, targetsIn, targetsAnswer}
+use Rattle.targets.proofs.AskedAlone.{found}
 use Rattle.trace_laws.proofs.ResolvedAddress.{high, address}
 use Rattle.instruction_laws.proofs.ResolvedFits.{resolved-fits}
 

@@ -5,24 +5,24 @@ use mathlib.Core.List.{append-nil}
 use Prim.Native.Nat.{ℕ, _≤_}
 use native.Mathlib.Omega.{arith}
 use borrow.Author.Tests.{ltb-false}
-use Rattle.operand.specs.Answer.{accepted}
-use Rattle.operand.specs.Kinds.{kindAt}
-use Rattle.operand.specs.declared.kind.Kind.{Kind}
-use Rattle.operand.proofs.Judging.{accepts}
+use Rattle.instruction.specs.Answer.{accepted}
+use Rattle.instruction.specs.Kinds.{kindAt}
+use Rattle.instruction.specs.declared.kind.Kind.{Kind}
+use Rattle.instruction.proofs.Judging.{accepts}
 use Rattle.instruction.specs.Encode.{formIn}
 use Rattle.instruction.specs.Forms.{sizeOf}
 use Rattle.instruction.specs.Parts.{partsOf}
 use Rattle.instruction.specs.Resolve.{resolveAnswer}
-use Rattle.field.specs.Resolve.{operandRefusals, fieldOf}
+use Rattle.instruction.specs.Resolution.{operandRefusals, fieldOf}
 use Rattle.instruction.specs.declared.instr.Instr.{Instr}
 use Rattle.instruction.specs.declared.instr.Parts.{Parts}
 use Rattle.instruction.proofs.Known.{known}
 use Rattle.instruction.proofs.Shapes.{size-range}
 use Rattle.instruction_laws.specs.PartsMade.{used, usedIn}
-use Rattle.operand.proofs.Accepting.{passed}
+use Rattle.instruction.proofs.Accepting.{passed}
 use Rattle.instruction_laws.proofs.PartsMade.{parted}
 use Rattle.trace_laws.specs.ClaimsTargets.{lastIn}
-use Rattle.ways.specs.Targets.{addressOf, addressIn}
+use Rattle.targets.specs.Targets.{addressOf, addressIn}
 use Rattle.trace_laws.proofs.AddressBack.{address-back}
 
 -- an instruction has no operand beside those of its form

@@ -11,10 +11,10 @@ use borrow.Author.Tests.{eqb-true, ltb-true, ltb-false}
 use Rattle.instruction.specs.Forms.{numberOf}
 use Rattle.reach.specs.ClaimsOrder.{Plain}
 use Rattle.trace_laws.specs.ClaimsImages.{Bytes, Clean}
-use Rattle.marking.specs.Tracer.{tracerOf, exemptHere}
-use Rattle.ways.specs.At.{formHere, flashHere}
-use Rattle.ways.proofs.Ands.{first-part, second-part}
-use Rattle.marking.proofs.Jmpf.{jmpf-by-byte, two-before}
+use Rattle.marks.specs.Tracer.{tracerOf, exemptHere}
+use Rattle.targets.specs.At.{formHere, flashHere}
+use Rattle.targets.proofs.Ands.{first-part, second-part}
+use Rattle.marks.proofs.Jmpf.{jmpf-by-byte, two-before}
 
 module _ (image : List ℕ) (B : Bytes image) (C : Clean image) (p : ℕ) where
   -- the three bytes

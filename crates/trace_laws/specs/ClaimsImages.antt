@@ -5,14 +5,14 @@ use Prim.Native.Nat.{ℕ, _+_, _<_, _≤_}
 use mathlib.Core.List.{List, [], _∷_}
 use mathlib.Core.Path.{_≡_}
 use lib.ListN.{length, getD}
-use Rattle.operand.specs.Answer.{accepted}
+use Rattle.instruction.specs.Answer.{accepted}
 use Rattle.reach.specs.ClaimsOrder.{Final}
 use Rattle.reach.specs.Mark.{cleared}
 use Rattle.reach.specs.Run.{finished}
 use Rattle.trace.specs.Run.{outcomeOf}
-use Rattle.stepping.specs.Start.{startAnswer, startMarks}
-use Rattle.stepping.specs.Step.{Said, stepAnswer, stepMarks}
-use Rattle.marking.specs.Tracer.{tracerOf}
+use Rattle.trace.specs.Start.{startAnswer, startMarks}
+use Rattle.trace.specs.Step.{Said, stepAnswer, stepMarks}
+use Rattle.marks.specs.Tracer.{tracerOf}
 
 -- an image is a list of bytes
 abbrev pub Bytes : List ℕ → Type 0

@@ -4,10 +4,10 @@ use Prim.Native.Nat.{ℕ}
 use mathlib.Core.List.{List}
 use mathlib.Core.Path.{_≡_}
 use lib.IntN.{ℤ}
-use Rattle.operand.specs.Answer.{refused}
+use Rattle.instruction.specs.Answer.{refused}
 use Rattle.instruction_laws.specs.Missing.{OneOrTwo}
 use Rattle.trace.specs.Run.{runAnswer}
-use Rattle.stepping.specs.Step.{stepAnswer}
+use Rattle.trace.specs.Step.{stepAnswer}
 use Rattle.trace_laws.specs.ClaimsImages.{Bytes}
 
 abbrev pub StepMissing : Type 0

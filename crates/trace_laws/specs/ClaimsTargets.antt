@@ -4,7 +4,7 @@ use Prim.Native.Nat.{ℕ, _-_, _≤_}
 use mathlib.Core.List.{[], _∷_}
 use mathlib.Core.Path.{_≡_}
 use lib.IntN.{ℤ, pos}
-use Rattle.operand.specs.Answer.{accepted, Apart}
+use Rattle.instruction.specs.Answer.{accepted, Apart}
 use Rattle.instruction.specs.Encode.{formIn}
 use Rattle.instruction.specs.Flow.{flowOf}
 use Rattle.instruction.specs.Forms.{sizeOf}
@@ -12,7 +12,7 @@ use Rattle.instruction.specs.Parts.{partsOf}
 use Rattle.instruction.specs.Resolve.{resolveAnswer}
 use Rattle.instruction.specs.declared.flow.Flow.the-variants.{Jump, Branch}
 use Rattle.instruction.specs.declared.instr.Instr.{Instr}
-use Rattle.ways.specs.Targets.{lastOf, targetsOf, targetsAnswer}
+use Rattle.targets.specs.Targets.{lastOf, targetsOf, targetsAnswer}
 
 -- the number and values of the answers tell all cases and all values apart
 abbrev pub TargetsApart : Type 0

@@ -5,8 +5,8 @@ ghost use lib.ListN.{length};
 use libc::STDERR_FILENO;
 use libc::STDIN_FILENO;
 use libc::STDOUT_FILENO;
-use sight::Viewed;
-use unlister::Said;
+use unlist_text::Said;
+use views::Viewed;
 
 // 77 bytes for each of 65,536 positions, as long as a listing with arrivals can be, and one byte more, by which a longer text is noticed.
 fn listing() -> [u8; 5_046_273]
@@ -23,7 +23,7 @@ fn output() -> [u8; 133_120]
 }
 
 fn show(text: &[u8], length: usize, out: &mut [u8]) {
-    if let Viewed::Written(n) = unlister::unlist_text(text, length, out) {
+    if let Viewed::Written(n) = unlist_text::unlist_text(text, length, out) {
         if n <= out.len() {
             io::write_all(STDOUT_FILENO, &out[0..n]);
         }
@@ -47,7 +47,7 @@ fn unlist(length: usize) {
 fn main() {
     let mut word = io::buffer();
     let n = os::arg(1, &mut word);
-    match unlister::number(&word[0..n]) {
+    match unlist_text::number(&word[0..n]) {
         Said::Told(length) => unlist(length),
         Said::Untold => {
             io::write_all(

@@ -31,7 +31,7 @@ fn decode(numbers: &[i64; 11]) -> bool {
         return false;
     }
     let mut answer = [0i64; 5];
-    let number = exports::pw_decode(&bytes[0..end], &mut answer);
+    let number = pottagewing::pw_decode(&bytes[0..end], &mut answer);
     let given = [
         narrow::of_byte(n),
         narrow::of_byte(bytes[0]),
@@ -65,7 +65,7 @@ fn encode(numbers: &[i64; 11]) -> bool {
         return false;
     }
     let mut answer = [0i64; 5];
-    let number = exports::pw_encode(first, a, b, c, &mut out[0..end], &mut answer);
+    let number = pottagewing::pw_encode(first, a, b, c, &mut out[0..end], &mut answer);
     if number == 0 {
         answer[1] = narrow::of_byte(out[0]);
         answer[2] = narrow::of_byte(out[1]);
@@ -82,7 +82,7 @@ fn resolve(numbers: &[i64; 11]) -> bool {
     let c = narrow::operand(numbers[3]);
     let base = narrow::word(numbers[4]);
     let mut answer = [0i64; 5];
-    let number = exports::pw_resolve(first, a, b, c, base, &mut answer);
+    let number = pottagewing::pw_resolve(first, a, b, c, base, &mut answer);
     let given = inputs(first, a, b, c, narrow::of_word(base));
     same(numbers, &given, number, &answer)
 }
@@ -94,7 +94,7 @@ fn targets(numbers: &[i64; 11]) -> bool {
     let c = narrow::operand(numbers[3]);
     let position = narrow::word(numbers[4]);
     let mut answer = [0i64; 5];
-    let number = exports::pw_targets(position, first, a, b, c, &mut answer);
+    let number = pottagewing::pw_targets(position, first, a, b, c, &mut answer);
     let given = inputs(first, a, b, c, narrow::of_word(position));
     same(numbers, &given, number, &answer)
 }

@@ -52,7 +52,7 @@ const OTHER: u32 = 255;
 fn trace(image: &[u8], entries: &[u32; 2], places: i64, values: i64, answer: &mut [i64; 5]) -> u32 {
     let mut marks = [OLD_MARK; 10];
     let mut order = [OLD_PLACE; 10];
-    let number = exports::pw_run(image, &mut marks, &mut order, entries, NO_LIMIT, answer);
+    let number = pottagewing::pw_run(image, &mut marks, &mut order, entries, NO_LIMIT, answer);
     if are(&order, &marks, places, values) {
         number
     } else {

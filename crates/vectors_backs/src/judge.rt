@@ -5,7 +5,7 @@ ghost use lib.ListN.{length};
 use crate::case;
 use crate::case::Case;
 use crate::part;
-use restoring::Restored;
+use read_back::Restored;
 
 // What stands in the rooms before.
 const OLD: u8 = b'~';
@@ -77,7 +77,7 @@ fn call(c: Case, text: &[u8], image: &mut [u8], marks: &mut [u8]) -> Restored {
     if marks.len() < k {
         return too_long();
     }
-    restoring::read_back(&text[0..t], c.length, &mut image[0..n], &mut marks[0..k])
+    read_back::read_back(&text[0..t], c.length, &mut image[0..n], &mut marks[0..k])
 }
 
 // The last letter says which answer is meant, and its number what the answer holds.

@@ -1,7 +1,7 @@
 // The calls, in a room that holds no output before.
-use input::Parsed;
+use list_text::Parsed;
 use listing::Arrivals;
-use sight::Viewed;
+use views::Viewed;
 
 // What stands in the room before.
 const OLD: u8 = b'~';
@@ -27,7 +27,7 @@ fn is_old(room: &[u8]) -> bool {
 
 fn call(letter: u8, input: &[u8], marks: &[u8], room: &mut [u8]) -> Viewed {
     match letter {
-        b'=' => lister::list_text(input, room),
+        b'=' => list_text::list_text(input, room),
         b'-' => listing::listing_with(input, marks, Arrivals::Declined, room),
         b'+' => listing::listing_with(input, marks, Arrivals::Chosen, room),
         _ => listing::listing(input, marks, room),
@@ -41,7 +41,7 @@ pub fn bad_line(letter: u8, text: &[u8]) -> usize {
     }
     let mut entries = [0u32; 1];
     let mut image = [0u8; 1];
-    let Parsed::Malformed(n) = input::parse(text, &mut entries, &mut image) else {
+    let Parsed::Malformed(n) = list_text::parse(text, &mut entries, &mut image) else {
         return 0;
     };
     n

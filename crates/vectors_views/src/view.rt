@@ -20,11 +20,11 @@ fn ask(
     answer: &mut [i64; 5],
 ) -> u32 {
     match letter {
-        b'M' => exports::pw_mask(image, marks, bytes, answer),
-        b'L' => exports::pw_target_marks(image, marks, bytes, answer),
-        b'O' => exports::pw_overlaps(image, marks, p, places, answer),
-        b'A' => exports::pw_arrivals(image, marks, p, places, answer),
-        b'B' => exports::pw_data_run(image, marks, p, answer),
+        b'M' => pottagewing::pw_mask(image, marks, bytes, answer),
+        b'L' => pottagewing::pw_target_marks(image, marks, bytes, answer),
+        b'O' => pottagewing::pw_overlaps(image, marks, p, places, answer),
+        b'A' => pottagewing::pw_arrivals(image, marks, p, places, answer),
+        b'B' => pottagewing::pw_data_run(image, marks, p, answer),
         _ => OTHER,
     }
 }

@@ -11,7 +11,7 @@ use borrow.Author.Tests.{le-ltb, lt-ltb, ltb-true}
 use lib.Dec.{eqb, ltb}
 use lib.ListN.{length, getD, take, drop, drop-of-length-le, List·getD-eq-default}
 use lib.Seq.{take-nil}
-use Rattle.sight.specs.Positions.{upFrom}
+use Rattle.views.specs.Positions.{upFrom}
 use Rattle.views.specs.DataRun.{leading, isData, runLength, dataRun}
 
 -- inside a list, the default is not read

@@ -11,12 +11,12 @@ use lib.ListN.{length, getD, set, take, drop, replicate, length-map, length-repl
 use lib.Seq.{getD-set-same, getD-set-other, getD-take, ext-getD, length-take-le, drop-set-lt, drop-at}
 use borrow.Author.Tests.{le-ltb, ltb-true, ltb-false, eqb-true, eqb-false}
 use Rattle.reach.specs.Mark.{cleared, tracedMark}
-use Rattle.marking.specs.Clear.{wiped}
-use Rattle.marking.specs.Tracer.{exemptHere}
-use Rattle.ways.specs.Ways.{nameOf}
-use Rattle.sight.specs.Positions.{upFrom, positions, some, bit}
-use Rattle.sight.proofs.Ors.{or-second, or-start}
-use Rattle.sight.proofs.Ups.{up-length, up-at, some-snoc}
+use Rattle.marks.specs.Clear.{wiped}
+use Rattle.marks.specs.Tracer.{exemptHere}
+use Rattle.targets.specs.Ways.{nameOf}
+use Rattle.views.specs.Positions.{upFrom, positions, some, bit}
+use Rattle.views.proofs.Ors.{or-second, or-start}
+use Rattle.views.proofs.Ups.{up-length, up-at, some-snoc}
 use Rattle.views.specs.Labels.{namedFrom, names, labelled, labelsOf, labelAt}
 
 module _ (image m : List ℕ) (p : ℕ) where

@@ -1,3 +1,15 @@
+pub mod Ors
+pub mod Checking
+pub mod Ups
+pub mod Refusing
+pub mod Rooming
+pub mod Viewing
+pub mod Fronts
+pub mod Kept
+pub mod Laid
+pub mod TracedAt
+pub mod Carrying
 pub mod Masking
 pub mod Labelling
 pub mod DataRuns
+pub mod Overlapping

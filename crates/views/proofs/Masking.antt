@@ -9,12 +9,12 @@ use native.Mathlib.Nat.{zero-add}
 use lib.Dec.{ltb, leb}
 use lib.ListN.{length, getD, length-map}
 use borrow.Author.Tests.{lt-ltb, le-ltb, ltb-true, ltb-false, le-leb, lt-leb}
-use Rattle.ways.specs.At.{sizeHere}
-use Rattle.ways.proofs.Ands.{not-first, not-second}
+use Rattle.targets.specs.At.{sizeHere}
+use Rattle.targets.proofs.Ands.{not-first, not-second}
 use Rattle.reach.specs.Mark.{tracedMark}
-use Rattle.sight.specs.Positions.{upFrom, positions, some, bit, tracedAt}
-use Rattle.sight.proofs.Ors.{or-rest, or-start, or-assoc}
-use Rattle.sight.proofs.Ups.{up-next, up-start, up-length, up-at}
+use Rattle.views.specs.Positions.{upFrom, positions, some, bit, tracedAt}
+use Rattle.views.proofs.Ors.{or-rest, or-start, or-assoc}
+use Rattle.views.proofs.Ups.{up-next, up-start, up-length, up-at}
 use Rattle.views.specs.Mask.{under, covers, masked, maskOf, endWith}
 
 -- of two ends the further one decides

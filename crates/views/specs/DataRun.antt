@@ -6,7 +6,7 @@ use mathlib.Core.Bool.{Bool, cond, _&&_}
 use mathlib.Core.List.{List, [], _∷_}
 use lib.Dec.{eqb, ltb}
 use lib.ListN.{length, getD, take, drop}
-use Rattle.sight.specs.Positions.{upFrom}
+use Rattle.views.specs.Positions.{upFrom}
 
 -- how many of these positions, from the first on, pass the test one after another
 unfoldable pub leading : (ℕ → Bool) → List ℕ → ℕ

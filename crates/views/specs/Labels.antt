@@ -6,10 +6,10 @@ use mathlib.Core.Bool.{Bool, cond}
 use mathlib.Core.List.{List, map}
 use lib.Dec.{eqb, ltb}
 use lib.ListN.{getD, set}
-use Rattle.ways.specs.Ways.{nameOf}
+use Rattle.targets.specs.Ways.{nameOf}
 use Rattle.reach.specs.Mark.{tracedMark}
-use Rattle.marking.specs.Tracer.{exemptHere}
-use Rattle.sight.specs.Positions.{positions, some, bit}
+use Rattle.marks.specs.Tracer.{exemptHere}
+use Rattle.views.specs.Positions.{positions, some, bit}
 
 -- what the position p names if it is traced and not under the exception; 65,536 is outside every image
 abbrev pub namedFrom : List ℕ → List ℕ → ℕ → ℕ

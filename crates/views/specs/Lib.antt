@@ -1,3 +1,6 @@
+pub mod Positions
+pub mod View
 pub mod Mask
 pub mod Labels
 pub mod DataRun
+pub mod Overlaps

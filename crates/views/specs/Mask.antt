@@ -5,9 +5,9 @@ use mathlib.Core.Bool.{Bool, cond, _&&_}
 use mathlib.Core.List.{List, map}
 use lib.Dec.{ltb, leb}
 use lib.ListN.{getD}
-use Rattle.ways.specs.At.{sizeHere}
+use Rattle.targets.specs.At.{sizeHere}
 use Rattle.reach.specs.Mark.{tracedMark}
-use Rattle.sight.specs.Positions.{positions, some, bit, tracedAt}
+use Rattle.views.specs.Positions.{positions, some, bit, tracedAt}
 
 -- b is a byte of the instruction at p
 abbrev pub under : List ℕ → ℕ → ℕ → Bool

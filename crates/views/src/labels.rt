@@ -4,11 +4,12 @@ ghost use mathlib.Core.Path.{_≡_};
 ghost use mathlib.Core.List.{_++_};
 ghost use Prim.Native.Nat.{_≤_, _<_};
 ghost use lib.ListN.{length, drop};
-ghost use Rattle.sight.specs.View.{viewedOf, viewAnswer, viewRoom};
+ghost use Rattle.views.specs.View.{viewedOf, viewAnswer, viewRoom};
 ghost use Rattle.views.specs.Labels.{labelsOf, namedFrom, labelAt};
-use marking::Mark;
-use sight::Viewed;
-use ways::Image;
+use crate::view;
+use crate::view::Viewed;
+use marks::Mark;
+use targets::Image;
 
 // What a traced position names, or a position outside every image.
 fn named_from(image: &[u8], marks: &[u8], p: u32) -> u32
@@ -18,10 +19,10 @@ fn named_from(image: &[u8], marks: &[u8], p: u32) -> u32
     if !Mark::is_traced(marks[p as usize]) {
         return Image::NOWHERE;
     }
-    if marking::is_exempt(image, marks, p) {
+    if marks::is_exempt(image, marks, p) {
         return Image::NOWHERE;
     }
-    ways::name_at(image, p)
+    targets::name_at(image, p)
 }
 
 // 1 at a position inside.
@@ -40,7 +41,7 @@ fn write_labels(image: &[u8], marks: &[u8], room: &mut [u8])
     ensures { λ _. ⌜ now (room .exit) ≡ labelsOf (now (image .entry)) (now (marks .entry)) ++ drop (length (now (image .entry))) (now (room .entry)) ⌝ }
 {
     let n = image.len();
-    marking::clear(room, n);
+    marks::clear(room, n);
     let mut p: usize = 0;
     while p < n {
         let t = named_from(image, marks, p as u32);
@@ -53,7 +54,7 @@ fn write_labels(image: &[u8], marks: &[u8], room: &mut [u8])
 pub fn target_marks(image: &[u8], marks: &[u8], room: &mut [u8]) -> Viewed
     ensures { λ r. ⌜ (viewedOf r ≡ viewAnswer (now (image .entry)) (now (marks .entry)) (labelsOf (now (image .entry)) (now (marks .entry))) (now (room .entry))) × (now (room .exit) ≡ viewRoom (now (image .entry)) (now (marks .entry)) (labelsOf (now (image .entry)) (now (marks .entry))) (now (room .entry))) ⌝ }
 {
-    let v = sight::check(image, marks);
+    let v = view::check(image, marks);
     if !v.is_written() {
         return v;
     }

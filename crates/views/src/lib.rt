@@ -1,10 +1,19 @@
-// The views over marks that show each position of an image: which bytes are code, what is named; and runs of data.
-// Ported from src/disasm.rs of wtetzner/waterbear (Apache-2.0, see NOTICE), and changed: each view fills lent room from the marks.
+// Views over marks: what every view refuses, which positions are traced, the byte mask, the target marks, overlaps, and runs of data.
+mod damage;
 pub mod data;
 pub mod labels;
 pub mod mask;
+pub mod overlaps;
+pub mod traced;
+pub mod view;
 
 pub use data::Run;
 pub use data::data_run;
 pub use labels::target_marks;
 pub use mask::build_byte_mask;
+pub use overlaps::Overlaps;
+pub use overlaps::find_overlaps;
+pub use overlaps::overlaps_at;
+pub use traced::is_traced_at;
+pub use view::Viewed;
+pub use view::check;

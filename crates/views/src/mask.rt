@@ -4,10 +4,11 @@ ghost use mathlib.Core.Path.{_≡_};
 ghost use mathlib.Core.List.{_++_};
 ghost use Prim.Native.Nat.{_≤_, _<_};
 ghost use lib.ListN.{length, drop};
-ghost use Rattle.sight.specs.View.{viewedOf, viewAnswer, viewRoom};
+ghost use Rattle.views.specs.View.{viewedOf, viewAnswer, viewRoom};
 ghost use Rattle.views.specs.Mask.{maskOf, endWith};
-use marking::Mark;
-use sight::Viewed;
+use crate::view;
+use crate::view::Viewed;
+use marks::Mark;
 
 // Where the code up to and with p ends, if what stands before p ends there.
 fn end_with(image: &[u8], marks: &[u8], p: u32, end: usize) -> usize
@@ -15,7 +16,7 @@ fn end_with(image: &[u8], marks: &[u8], p: u32, end: usize) -> usize
     ensures { λ r. ⌜ r ≡ endWith (now (image .entry)) (now (marks .entry)) p end ⌝ }
 {
     if Mark::is_traced(marks[p as usize]) {
-        let e = p as usize + ways::size_at(image, p) as usize;
+        let e = p as usize + targets::size_at(image, p) as usize;
         if end < e {
             return e;
         }
@@ -41,7 +42,7 @@ fn write_mask(image: &[u8], marks: &[u8], mask: &mut [u8])
 pub fn build_byte_mask(image: &[u8], marks: &[u8], mask: &mut [u8]) -> Viewed
     ensures { λ r. ⌜ (viewedOf r ≡ viewAnswer (now (image .entry)) (now (marks .entry)) (maskOf (now (image .entry)) (now (marks .entry))) (now (mask .entry))) × (now (mask .exit) ≡ viewRoom (now (image .entry)) (now (marks .entry)) (maskOf (now (image .entry)) (now (marks .entry))) (now (mask .entry))) ⌝ }
 {
-    let v = sight::check(image, marks);
+    let v = view::check(image, marks);
     if !v.is_written() {
         return v;
     }

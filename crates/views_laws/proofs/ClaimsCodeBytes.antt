@@ -10,17 +10,17 @@ use native.Mathlib.Nat.{zero-add}
 use lib.Dec.{ltb, leb, eqb}
 use lib.ListN.{length, getD}
 use borrow.Author.Tests.{lt-ltb, ltb-true, le-leb, leb-true, eqb-true}
-use Rattle.operand.proofs.Sign.{never}
-use Rattle.ways.specs.At.{sizeHere, fitsHere, waysHere}
-use Rattle.ways.proofs.Ands.{both, first-part, second-part}
+use Rattle.instruction.proofs.Sign.{never}
+use Rattle.targets.specs.At.{sizeHere, fitsHere, waysHere}
+use Rattle.targets.proofs.Ands.{both, first-part, second-part}
 use Rattle.reach.specs.ClaimsOrder.{Final}
 use Rattle.reach.specs.Mark.{traced, flash, tracedMark, cleared}
 use Rattle.reach.specs.Reach.{Reach}
 use Rattle.reach.proofs.Cleared.{cleared-at}
-use Rattle.marking.specs.Tracer.{tracerOf}
+use Rattle.marks.specs.Tracer.{tracerOf}
 use Rattle.trace_laws.proofs.ClaimsImagesOrder.{image-run-final}
-use Rattle.sight.specs.Positions.{bit, tracedAt}
-use Rattle.sight.proofs.Ups.{up-at}
+use Rattle.views.specs.Positions.{bit, tracedAt}
+use Rattle.views.proofs.Ups.{up-at}
 use Rattle.views.specs.Mask.{under, covers, masked, maskOf}
 use Rattle.views_laws.specs.ClaimsCode.{Code, CodeBytes}
 use Rattle.views_laws.proofs.Finished.{sized, covered, marks-are, ended}

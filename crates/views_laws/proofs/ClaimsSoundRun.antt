@@ -8,8 +8,8 @@ use native.Mathlib.Omega.{arith}
 use lib.Dec.{eqb, leb}
 use lib.ListN.{length, getD}
 use Rattle.instruction.specs.Forms.{numberOf}
-use Rattle.ways.specs.At.{formHere, fitsHere, flashHere}
-use Rattle.ways.proofs.Ands.{first-part, second-part}
+use Rattle.targets.specs.At.{formHere, fitsHere, flashHere}
+use Rattle.targets.proofs.Ands.{first-part, second-part}
 use Rattle.reach.specs.Mark.{flash, traced, tracedMark, cleared}
 use Rattle.reach.specs.Note.{note}
 use Rattle.reach.specs.Takes.{Ready, Takes, stay, up}
@@ -21,9 +21,9 @@ use Rattle.reach.proofs.Run.{run-takes}
 use Rattle.reach.proofs.Took.{Moved, itself, kept, called, moved, length-took}
 use Rattle.reach.proofs.Note.{length-note}
 use Rattle.trace.specs.Run.{outcomeOf}
-use Rattle.marking.specs.Refusals.{damaged}
-use Rattle.marking.specs.Tracer.{tracerOf, exemptHere}
-use Rattle.sight.specs.View.{offJmpf, misplaced, damagedHere}
+use Rattle.marks.specs.Refusals.{damaged}
+use Rattle.marks.specs.Tracer.{tracerOf, exemptHere}
+use Rattle.views.specs.View.{offJmpf, misplaced, damagedHere}
 use Rattle.views_laws.specs.ClaimsSound.{RunUndamaged}
 
 module _ (image : List ℕ) where

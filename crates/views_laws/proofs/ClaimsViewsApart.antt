@@ -5,17 +5,17 @@ use mathlib.Core.Path.{_≡_, refl}
 use mathlib.Core.Bool.{cond}
 use mathlib.Core.List.{List, [], _∷_}
 use lib.Dec.{eqb}
-use Rattle.operand.specs.Answer.{Answer, accepted, refused}
+use Rattle.instruction.specs.Answer.{Answer, accepted, refused}
 use Rattle.instruction_laws.proofs.Undone.{undone, numberAt}
-use Rattle.ways.specs.Ways.{placesIn, placesNamed}
-use Rattle.ways.specs.declared.place.Places.{Places}
-use Rattle.ways.specs.declared.place.Places.the-variants.{Nothing, First, Both}
-use Rattle.sight.specs.View.{viewedOf}
-use Rattle.sight.specs.declared.view.Viewed.{Viewed}
-use Rattle.sight.specs.declared.view.Viewed.the-variants.{Written, LongImage, ShortMarks, Damaged, NoRoom}
-use Rattle.meetings.specs.Overlaps.{overlapsIn}
-use Rattle.meetings.specs.declared.overlaps.Overlaps.{Overlaps}
-use Rattle.meetings.specs.declared.overlaps.Overlaps.the-variants as over
+use Rattle.targets.specs.Ways.{placesIn, placesNamed}
+use Rattle.targets.specs.declared.place.Places.{Places}
+use Rattle.targets.specs.declared.place.Places.the-variants.{Nothing, First, Both}
+use Rattle.views.specs.View.{viewedOf}
+use Rattle.views.specs.declared.view.Viewed.{Viewed}
+use Rattle.views.specs.declared.view.Viewed.the-variants.{Written, LongImage, ShortMarks, Damaged, NoRoom}
+use Rattle.views.specs.Overlaps.{overlapsIn}
+use Rattle.views.specs.declared.overlaps.Overlaps.{Overlaps}
+use Rattle.views.specs.declared.overlaps.Overlaps.the-variants as over
 use Rattle.views_laws.specs.ClaimsViews.{ViewedApart, OverlapsApart, PlacesApart}
 
 abbrev answered : Answer ℕ → Viewed

@@ -1,27 +1,27 @@
 -- The starred edges, computed.
 -- Assumes nothing.
 use mathlib.Core.Path.{refl}
-use Rattle.operand.specs.Answer.{judge}
+use Rattle.instruction.specs.Answer.{judge}
 use Rattle.instruction.specs.Decode.{cutAt, decodeAnswer, fieldsIn}
 use Rattle.instruction.specs.Encode.{bytesIn}
 use Rattle.instruction.specs.Forms.{forms, formAt, formOf, numberOf}
-use Rattle.operand.specs.Kinds.{kindsOf}
+use Rattle.instruction.specs.Kinds.{kindsOf}
 use Rattle.instruction.specs.Parts.{partsOf, madeOf}
-use Rattle.field.specs.Pattern.{pattern, bytesOf, onto, given, next}
+use Rattle.instruction.specs.Pattern.{pattern, bytesOf, onto, given, next}
 use Rattle.instruction.specs.Resolve.{resolveAnswer}
-use Rattle.field.specs.Resolve.{operandRefusals, fieldOf}
-use Rattle.operand.specs.Range.{unfit}
+use Rattle.instruction.specs.Resolution.{operandRefusals, fieldOf}
+use Rattle.instruction.specs.Range.{unfit}
 use Rattle.instruction.specs.Flow.{stops, jumps, branches, flowOf}
-use Rattle.ways.specs.At.{fitsHere, instrHere, waysHere, flashHere, nameHere}
-use Rattle.ways.specs.Targets.{addressOf, addressIn, targetsIn, targetsAnswer}
-use Rattle.ways.specs.Ways.{nameOf}
+use Rattle.targets.specs.At.{fitsHere, instrHere, waysHere, flashHere, nameHere}
+use Rattle.targets.specs.Targets.{addressOf, addressIn, targetsIn, targetsAnswer}
+use Rattle.targets.specs.Ways.{nameOf}
 use Rattle.reach.specs.Mark.{tracedMark, cleared}
 use Rattle.reach.specs.Note.{isOpen, note, fresh}
 use Rattle.reach.specs.Run.{runFrom, runOf}
 use Rattle.reach.specs.Tracer.{targets, mark, took, found}
 use Rattle.trace.specs.Run.{outcomeOf, runMarks, runOrder}
-use Rattle.marking.specs.Tracer.{exemptHere}
-use Rattle.sight.specs.Positions.{upFrom, some}
+use Rattle.marks.specs.Tracer.{exemptHere}
+use Rattle.views.specs.Positions.{upFrom, some}
 use Rattle.views.specs.Labels.{labelled, labelsOf}
 use Rattle.views_laws.specs.Edges.{Edges}
 

@@ -9,9 +9,9 @@ use lib.Dec.{ltb}
 use lib.IntN.{ℤ}
 use lib.ListN.{length}
 use borrow.Author.Tests.{ltb-false}
-use Rattle.operand.specs.Answer.{Answer, accepted, refused, after}
-use Rattle.operand.proofs.Judging.{pass, stop}
-use Rattle.operand.proofs.Sign.{never}
+use Rattle.instruction.specs.Answer.{Answer, accepted, refused, after}
+use Rattle.instruction.proofs.Judging.{pass, stop}
+use Rattle.instruction.proofs.Sign.{never}
 use Rattle.reach.specs.Run.{End, finished, stopped, cutOff, Outcome, steps, noted}
 use Rattle.trace.specs.Run.{Said, runJudged, runAnswer, runMarks, ranAnswer, endOf, outcomeOf, orElse}
 

@@ -4,8 +4,8 @@ use mathlib.Core.Path.{_≡_, refl, sym, ap, _∙_}
 use mathlib.Core.Bool.{Bool, true, false, _||_}
 use Prim.Native.Nat.{ℕ, zero, suc, _+_, _<_, _≤_}
 use native.Mathlib.Omega.{arith}
-use Rattle.operand.proofs.Sign.{never}
-use Rattle.sight.specs.Positions.{upFrom, some}
+use Rattle.instruction.proofs.Sign.{never}
+use Rattle.views.specs.Positions.{upFrom, some}
 
 -- the one that passes
 pub record Passes (f : ℕ → Bool) (k q : ℕ) : Type 0 where

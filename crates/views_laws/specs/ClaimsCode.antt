@@ -6,11 +6,11 @@ use mathlib.Core.List.{List, []}
 use mathlib.Core.Logic.{_⊎_}
 use mathlib.Core.Path.{_≡_}
 use lib.ListN.{length, getD}
-use Rattle.operand.specs.Answer.{accepted}
-use Rattle.ways.specs.At.{sizeHere, fitsHere, waysHere}
+use Rattle.instruction.specs.Answer.{accepted}
+use Rattle.targets.specs.At.{sizeHere, fitsHere, waysHere}
 use Rattle.reach.specs.Reach.{Reach}
 use Rattle.trace.specs.Run.{Said, runAnswer, runMarks}
-use Rattle.marking.specs.Tracer.{tracerOf}
+use Rattle.marks.specs.Tracer.{tracerOf}
 use Rattle.trace_laws.specs.ClaimsImages.{Bytes, Clean}
 use Rattle.views.specs.Mask.{maskOf}
 

@@ -6,7 +6,7 @@ use mathlib.Core.List.{List}
 use mathlib.Core.Path.{_≡_}
 use lib.ListN.{length}
 use Rattle.trace.specs.Run.{outcomeOf}
-use Rattle.sight.specs.View.{damagedHere}
+use Rattle.views.specs.View.{damagedHere}
 
 -- no position of the image is damaged
 abbrev pub Undamaged : List ℕ → List ℕ → Type 0

@@ -6,11 +6,11 @@ use mathlib.Core.List.{List, [], _∷_}
 use mathlib.Core.Path.{_≡_}
 use lib.ListN.{getD, replicate, take}
 use lib.IntN.{pos, negsuc}
-use Rattle.operand.specs.Answer.{accepted, refused}
+use Rattle.instruction.specs.Answer.{accepted, refused}
 use Rattle.instruction.specs.Decode.{decodeAnswer}
 use Rattle.instruction.specs.Encode.{bytesIn}
 use Rattle.instruction.specs.Resolve.{resolveAnswer}
-use Rattle.ways.specs.Targets.{targetsAnswer}
+use Rattle.targets.specs.Targets.{targetsAnswer}
 use Rattle.trace.specs.Run.{runMarks, runOrder}
 use Rattle.views.specs.Labels.{labelsOf}
 use Rattle.instruction.specs.declared.instr.Instr.the-variants.{Not1, Br, «Mov_d9», Call, Jmpf, Brf, Jmp}

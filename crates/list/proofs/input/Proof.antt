@@ -1,4 +1,4 @@
--- `list::input` has the length that its type says.
+-- `input` has the length that its type says.
 -- Assumes nothing.
 use mathlib.Core.Path.{sym}
 use Prim.Native.Nat.{ℕ}

@@ -1,4 +1,4 @@
--- `reader::moved` meets its contract: a walk of its MIR, by hand. A struct is made anew of the slice that the one passed holds, and another place.
+-- `moved` meets its contract: a walk of its MIR, by hand. A struct is made anew of the slice that the one passed holds, and another place.
 -- The struct is Copy: what it owns is had twice, one copy is kept whole for the exit, and the other, with the facts of the new place, is what the result owns.
 -- Assumes nothing.
 use mathlib.Core.Path.{refl}
@@ -27,9 +27,9 @@ use denote.Triple.Entry.{Vals, onEntry}
 use denote.Triple.Spec.{Meets, tripleOf}
 use denote.Triple.Table.{entered}
 use denote.Triple.Walked.{says, Stays, walkOf, Walks, ends-at, walked, walk-meets}
-use Rattle.placing.specs.declared.place.Place.{Place}
-use Rattle.placing.proofs.place.Place as P
-use Rattle.placing.proofs.place.Place.Laws as P′
+use Rattle.read_back.specs.declared.place.Place.{Place}
+use Rattle.read_back.proofs.place.Place as P
+use Rattle.read_back.proofs.place.Place.Laws as P′
 use Rattle.reader.specs.declared.Reader.{Reader}
 use Rattle.reader.proofs.Reader as T
 use Rattle.reader.proofs.Reader.Laws as T′

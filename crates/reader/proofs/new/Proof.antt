@@ -1,4 +1,4 @@
--- `reader::new` meets its contract: a walk of its MIR, by hand. A `Reader` is made of the slice and the place passed, in the result's local.
+-- `new` meets its contract: a walk of its MIR, by hand. A `Reader` is made of the slice and the place passed, in the result's local.
 -- A `&[u8]` is Copy, so what it owns is had twice: once for text at exit, and once inside the result, beside the facts of the place.
 -- Assumes nothing.
 use mathlib.Core.Path.{refl}
@@ -32,9 +32,9 @@ use denote.Triple.Entry.{Vals, onEntry}
 use denote.Triple.Spec.{Meets, tripleOf}
 use denote.Triple.Table.{entered}
 use denote.Triple.Walked.{says, Stays, walkOf, Walks, ends-at, walked, walk-meets}
-use Rattle.placing.specs.declared.place.Place.{Place}
-use Rattle.placing.proofs.place.Place as P
-use Rattle.placing.proofs.place.Place.Laws as P′
+use Rattle.read_back.specs.declared.place.Place.{Place}
+use Rattle.read_back.proofs.place.Place as P
+use Rattle.read_back.proofs.place.Place.Laws as P′
 use Rattle.reader.specs.declared.Reader.{Reader}
 use Rattle.reader.proofs.Reader as T
 use Rattle.reader.proofs.Reader.Laws as T′

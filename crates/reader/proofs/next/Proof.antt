@@ -1,4 +1,4 @@
--- `reader::next` meets its contract: a walk of its MIR, by hand. The struct is taken apart, and `read_line` is called on the slice and the place. All that the proof knows of `read_line` is that it meets its contract.
+-- `next` meets its contract: a walk of its MIR, by hand. The struct is taken apart, and `read_line` is called on the slice and the place. All that the proof knows of `read_line` is that it meets its contract.
 -- The struct is Copy: what it owns is had twice, and one copy is kept whole for the exit. The callee takes the fields in their order and nothing else, so what the fields own together is what it asks, by computation. The lifetime's token goes to it, and comes back.
 -- Assumes nothing.
 use mathlib.Core.Path.{_≡_, refl}
@@ -34,16 +34,16 @@ use denote.Triple.Spec.{Meets, tripleOf}
 use denote.Triple.Table.{entered, cited}
 use denote.Triple.Walked.{says, Stays, walkOf, Walks, ends-at, walked, walk-meets}
 use denote.Triple.Clauses.{ensured, lasts}
-use Rattle.operand.specs.Answer.{Answer}
-use Rattle.reading.specs.Read.{Found, readOf, readAnswer}
-use Rattle.reading.specs.declared.read.Read.{Read}
-use Rattle.placing.proofs.place.Place as P
-use Rattle.placing.proofs.place.Place.Laws as P′
-use Rattle.reading.proofs.read.Read as S
-use Rattle.reading.proofs.read.read_line as line
-use Rattle.reading.proofs.read.read_line.Symbol as line-def
-use Rattle.reading.proofs.read.read_line.Symbol.{name as #reading·read-line}
-use Rattle.reading.proofs.read.read_line.Met as line-thm
+use Rattle.instruction.specs.Answer.{Answer}
+use Rattle.read_back.specs.Read.{Found, readOf, readAnswer}
+use Rattle.read_back.specs.declared.read.Read.{Read}
+use Rattle.read_back.proofs.place.Place as P
+use Rattle.read_back.proofs.place.Place.Laws as P′
+use Rattle.read_back.proofs.read.Read as S
+use Rattle.read_back.proofs.read.read_line as line
+use Rattle.read_back.proofs.read.read_line.Symbol as line-def
+use Rattle.read_back.proofs.read.read_line.Symbol.{name as #read-back·read-line}
+use Rattle.read_back.proofs.read.read_line.Met as line-thm
 use Rattle.reader.specs.declared.Reader.{Reader}
 use Rattle.reader.proofs.Reader as T
 use Rattle.reader.proofs.Reader.Laws as T′
@@ -106,7 +106,7 @@ module _ {M : Type 1} (𝓤 : URA M) (H : Heap 𝓤) (A : Atoms 𝓤) (W : Given
       suffices ! _ (ends-at 𝓤 H A next.ended stayed (next.clauses 𝓤 H A mem run) W (((κ, tt), (q, tt), tt, (d, tt), (mach ∷ [], tt)), tt) u r (tt, tt) (tt, tt)) $ says ! e $
       move ! (1 ∷ []) $ frame ! $ nothing ! $ move ! (2 ∷ 0 ∷ []) $ fjoin ! $ frame ! $ done !
 
-  module _ (C : Calls 𝓤 H) (Λ : Loops 𝓤 H) (fm : FmC 𝓤 H (W .laws) C) (known : Triple 𝓤 (C #reading·read-line) (Line 𝓤 H A mem run)) where
+  module _ (C : Calls 𝓤 H) (Λ : Loops 𝓤 H) (fm : FmC 𝓤 H (W .laws) C) (known : Triple 𝓤 (C #read-back·read-line) (Line 𝓤 H A mem run)) where
     walk : Typed (Row (κ, tt) .mir) (mach ∷ []) → ent 𝓤 (onEntry 𝓤 H A next.signature (κ, tt) (q, tt) (d, tt) (mach ∷ [], tt)) (WpFn 𝓤 H C Λ code.function (mach ∷ []) Post)
     walk wt =
         qed W (raw (onEntry 𝓤 H A next.signature (κ, tt) (q, tt) (d, tt) (mach ∷ [], tt)) ∷ []) ∵ enter ! C Λ code.function (mach ∷ []) _ $
@@ -124,13 +124,13 @@ module _ {M : Type 1} (𝓤 : URA M) (H : Heap 𝓤) (A : Atoms 𝓤) (W : Given
         move ! (9 ∷ 10 ∷ []) $ free1 ! $ move ! (7 ∷ 8 ∷ []) $ free1 ! $ move ! (5 ∷ 6 ∷ []) $ free1 ! $ move ! (3 ∷ 4 ∷ []) $ free1 ! $ free0 ! $ by ! (exits r u e)))))))))
 
 module _ {M : Type 1} (𝓤 : URA M) (H : Heap 𝓤) (A : Atoms 𝓤) (W : Given 𝓤 H A) (mem : Memory → SProp 𝓤) (run : Routine → Fun 𝓤) where
-  next-walks : (C : Calls 𝓤 H) (Λ : Loops 𝓤 H) → FmC 𝓤 H (W .laws) C → Triple 𝓤 (C #reading·read-line) (Line 𝓤 H A mem run)
+  next-walks : (C : Calls 𝓤 H) (Λ : Loops 𝓤 H) → FmC 𝓤 H (W .laws) C → Triple 𝓤 (C #read-back·read-line) (Line 𝓤 H A mem run)
       → Walks 𝓤 H A next.ended stayed (WpFn 𝓤 H C Λ code.function) (next.clauses 𝓤 H A mem run)
   next-walks C Λ fm known = walked 𝓤 H A next.ended stayed (next.clauses 𝓤 H A mem run) (WpFn 𝓤 H C Λ code.function) (λ κs. (reader-vals κs, tt)) (λ κs. (reader-tells κs, tt))
       (λ κs qs bounds a g are. via 𝓤 _ (fst∗ 𝓤 _ (emp 𝓤)) (walk 𝓤 H A W mem run (κs .0) (qs .0) (a .0) C Λ fm known (reader-typed 𝓤 H A W (namedLft 1 0 tt κs) (a .0) _ (are .0))))
 
 next-meets : {M : Type 1} (𝓤 : URA M) (H : Heap 𝓤) (A : Atoms 𝓤) (W : Given 𝓤 H A) (mem : Memory → SProp 𝓤) (run : Routine → Fun 𝓤) (𝓣 : Tables 𝓤 H)
-    → Triple 𝓤 (𝓣 .C #reading·read-line) (Line 𝓤 H A mem run)
+    → Triple 𝓤 (𝓣 .C #read-back·read-line) (Line 𝓤 H A mem run)
     → Meets 𝓤 H A next.signature (WpFn 𝓤 H (𝓣 .C) (𝓣 .Λ) code.function) (next.spec 𝓤 H A mem run)
 next-meets 𝓤 H A W mem run 𝓣 known = walk-meets 𝓤 H A next.ended stayed W (reader-goes 𝓤 H A W, tt) (next.clauses 𝓤 H A mem run) (WpFn 𝓤 H (𝓣 .C) (𝓣 .Λ) code.function) (WpFn-mono 𝓤 H (W .laws) 𝓣 code.function)
     (next-walks 𝓤 H A W mem run (𝓣 .C) (𝓣 .Λ) (fmOf 𝓤 H (W .laws) 𝓣) known)
@@ -141,4 +141,4 @@ next-spec 𝓤 H 𝓜 𝓖 𝓡 =
     entered 𝓤 H (tripleOf 𝓤 H (𝓖 .A) next.signature (next.spec 𝓤 H (𝓖 .A) (𝓜 .mem) (𝓡 .run)))
     (tables 𝓤 H 𝓜 𝓡 code.env .C) (tables 𝓤 H 𝓜 𝓡 code.env .Λ) #reader·next code.function (code.unfolded 𝓤 H 𝓜 𝓡)
     (next-meets 𝓤 H (𝓖 .A) (givenOf 𝓤 H 𝓜 𝓖) (𝓜 .mem) (𝓡 .run) (tablesOf 𝓤 H 𝓜 (tables 𝓤 H 𝓜 𝓡 code.env))
-    (cited 𝓤 H (Line 𝓤 H (𝓖 .A) (𝓜 .mem) (𝓡 .run)) 𝓜 𝓡 code.env #reading·read-line line-def.routine code.calls-reading·read·read-line (line-thm.met 𝓤 H 𝓜 𝓖 𝓡)))
+    (cited 𝓤 H (Line 𝓤 H (𝓖 .A) (𝓜 .mem) (𝓡 .run)) 𝓜 𝓡 code.env #read-back·read-line line-def.routine code.calls-read-back·read·read-line (line-thm.met 𝓤 H 𝓜 𝓖 𝓡)))

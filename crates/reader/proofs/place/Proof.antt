@@ -1,4 +1,4 @@
--- `reader::place` meets its contract: a walk of its MIR, by hand. The place is read from a field of the struct, and the struct is seen at exit as it was passed.
+-- `place` meets its contract: a walk of its MIR, by hand. The place is read from a field of the struct, and the struct is seen at exit as it was passed.
 -- The facts of the place are in the relation of the struct that holds it.
 -- Assumes nothing.
 use mathlib.Core.Path.{refl}
@@ -26,8 +26,8 @@ use denote.Triple.Entry.{onEntry}
 use denote.Triple.Spec.{Meets, tripleOf}
 use denote.Triple.Table.{entered}
 use denote.Triple.Walked.{says, Stays, walkOf, Walks, ends-at, walked, walk-meets}
-use Rattle.placing.proofs.place.Place as P
-use Rattle.placing.proofs.place.Place.Laws as P′
+use Rattle.read_back.proofs.place.Place as P
+use Rattle.read_back.proofs.place.Place.Laws as P′
 use Rattle.reader.specs.declared.Reader.{Reader}
 use Rattle.reader.proofs.Reader.Laws as T′
 use Rattle.reader.proofs.Walk.{Row, reader-stays, reader-vals, reader-tells, place-is, reader-goes, place-typed, reader-typed, place-makes}

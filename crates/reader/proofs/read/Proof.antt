@@ -1,4 +1,4 @@
--- `reader::read` meets its contract: a walk of its MIR, by hand. A `Reader` that one call returns is held in a local and passed to the next. All that the proof knows of `new` and of `next` is that each meets its contract.
+-- `read` meets its contract: a walk of its MIR, by hand. A `Reader` that one call returns is held in a local and passed to the next. All that the proof knows of `new` and of `next` is that each meets its contract.
 -- The machine value that `new` returns is stored and passed on as it is. In a local of a body MIR erases the lifetime of the struct's type, so the value is shown to have the type at `erased`: what the struct owns does not say the lifetime's name.
 -- Assumes nothing.
 use mathlib.Core.Path.{_≡_, refl, ap, _∙_}
@@ -32,13 +32,13 @@ use denote.Triple.Spec.{Meets, tripleOf}
 use denote.Triple.Table.{entered, cited}
 use denote.Triple.Walked.{says, Stays, walkOf, Walks, ends-at, walked, walk-meets}
 use denote.Triple.Clauses.{ensured, lasts}
-use Rattle.operand.specs.Answer.{Answer}
-use Rattle.reading.specs.Read.{Found, readOf, readAnswer}
-use Rattle.placing.specs.declared.place.Place.{Place}
-use Rattle.reading.specs.declared.read.Read.{Read}
-use Rattle.placing.proofs.place.Place as P
-use Rattle.placing.proofs.place.Place.Laws as P′
-use Rattle.reading.proofs.read.Read as S
+use Rattle.instruction.specs.Answer.{Answer}
+use Rattle.read_back.specs.Read.{Found, readOf, readAnswer}
+use Rattle.read_back.specs.declared.place.Place.{Place}
+use Rattle.read_back.specs.declared.read.Read.{Read}
+use Rattle.read_back.proofs.place.Place as P
+use Rattle.read_back.proofs.place.Place.Laws as P′
+use Rattle.read_back.proofs.read.Read as S
 use Rattle.reader.specs.declared.Reader.{Reader}
 use Rattle.reader.proofs.Walk.{Row, text-stays, place-stays, place-vals, place-tells, text-goes, place-goes, text-typed, place-typed, reader-typed, answer-typed, text-twice, place-makes}
 use Rattle.reader.proofs.new as new

@@ -1,4 +1,4 @@
--- `unlist::listing` has the length that its type says.
+-- `listing` has the length that its type says.
 -- Assumes nothing.
 use mathlib.Core.Path.{sym}
 use Prim.Native.Nat.{ℕ}

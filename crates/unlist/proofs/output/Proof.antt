@@ -1,4 +1,4 @@
--- `unlist::output` has the length that its type says.
+-- `output` has the length that its type says.
 -- Assumes nothing.
 use mathlib.Core.Path.{sym}
 use Prim.Native.Nat.{ℕ}

@@ -8,7 +8,7 @@ use mir.Val.{toZ, ofZ}
 use Rattle.instruction.specs.Forms.{forms, formAt}
 use Rattle.instruction.specs.Parts.{madeOf}
 use Rattle.instruction.proofs.Rest.{only}
-use Rattle.operand.proofs.Sign.{back}
+use Rattle.instruction.proofs.Sign.{back}
 use Rattle.instruction.proofs.build.build.Statement.{statement}
 use Rattle.instruction.proofs.build.build.Tie as tie
 

@@ -1,7 +1,7 @@
 -- `eights::fixed` meets its contract, word by word.
 -- Assumes nothing.
 use mathlib.Core.Path.{refl}
-use Rattle.field.specs.Pattern.{pattern, bytesOf, onto, given, next}
+use Rattle.instruction.specs.Pattern.{pattern, bytesOf, onto, given, next}
 use Rattle.instruction.specs.Eights.{eight, fixedAt}
 use Rattle.instruction.specs.Forms.{forms, formAt}
 use Rattle.instruction.proofs.Bytes.{arm}

@@ -4,7 +4,7 @@ use mathlib.Core.Path.{_≡_}
 use Prim.Native.Nat.{ℕ, _*_, _/_, _%_, _^_, _<_}
 use native.Mathlib.Omega.{arith}
 use borrow.Author.Needs.{needs}
-use Rattle.field.specs.Pattern.{pattern, bytesOf, onto, given, next}
+use Rattle.instruction.specs.Pattern.{pattern, bytesOf, onto, given, next}
 use Rattle.instruction.specs.Eights.{eight, fixedAt}
 use Rattle.instruction.specs.Forms.{forms, formAt}
 use Rattle.instruction.proofs.Bytes.{read}

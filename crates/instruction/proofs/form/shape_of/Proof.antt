@@ -7,8 +7,8 @@ use native.Mathlib.Omega.{arith}
 use lib.Dec.{lit<}
 use lib.ListN.{getD}
 use borrow.Author.Needs.{needs}
-use Rattle.operand.specs.declared.kind.Shape.{Shape}
-use Rattle.operand.specs.declared.kind.Shape.the-variants.{Bare, Imm, D9, Ri, ImmD9, ImmRi, D9B3, A12, A16, R16, R8, D9B3R8, D9R8, RiR8, ImmR8, RiImmR8}
+use Rattle.instruction.specs.declared.kind.Shape.{Shape}
+use Rattle.instruction.specs.declared.kind.Shape.the-variants.{Bare, Imm, D9, Ri, ImmD9, ImmRi, D9B3, A12, A16, R16, R8, D9B3R8, D9R8, RiR8, ImmR8, RiImmR8}
 use Rattle.instruction.specs.Eights.{eight, place, placeAt}
 use Rattle.instruction.specs.Forms.{forms, formAt}
 use Rattle.instruction.proofs.Bytes.{read}

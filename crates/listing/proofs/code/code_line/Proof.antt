@@ -7,12 +7,12 @@ use native.Mathlib.Omega.{arith}
 use borrow.Author.Needs.{needs}
 use Rattle.instruction.specs.Encode.{formIn}
 use Rattle.instruction.specs.Forms.{sizeOf}
-use Rattle.ways.specs.Here.{hereOf}
-use Rattle.ways.specs.declared.here.Here.the-variants.{Whole}
-use Rattle.ways.proofs.WaysAre.{here-whole, whole-inside}
-use Rattle.ways.proofs.Within.{Within, within, size-short}
+use Rattle.targets.specs.Here.{hereOf}
+use Rattle.targets.specs.declared.here.Here.the-variants.{Whole}
+use Rattle.targets.proofs.WaysAre.{here-whole, whole-inside}
+use Rattle.targets.proofs.Within.{Within, within, size-short}
 use Rattle.listing.proofs.Lining.{code-here, code-past, code-cut, code-none}
-use Rattle.listing.proofs.Putting.{puts-as, puts-none}
+use Rattle.text.proofs.Putting.{puts-as, puts-none}
 use Rattle.listing.proofs.code.code_line.Statement.{statement}
 use Rattle.listing.proofs.code.code_line.Tie as tie
 

@@ -8,13 +8,13 @@ use native.Mathlib.Omega.{arith}
 use borrow.Author.Needs.{needs}
 use borrow.Author.Tests.{lt-ltb, le-ltb}
 use lib.ListN.{length}
-use Rattle.meetings.specs.Arrivals.{arrivalsOf, nextArrival}
-use Rattle.meetings.proofs.Arriving.{leftFrom, all-left, none-left, Next, next-is}
-use Rattle.arrival_index.specs.Index.{firstIn}
-use Rattle.arrival_index.proofs.ClaimsIndexed.{first-indexed}
+use Rattle.arrivals.specs.Arrivals.{arrivalsOf, nextArrival}
+use Rattle.arrivals.proofs.Arriving.{leftFrom, all-left, none-left, Next, next-is}
+use Rattle.arrivals.specs.Index.{firstIn}
+use Rattle.arrivals.proofs.ClaimsIndexed.{first-indexed}
 use Rattle.listing.specs.Lent.{isLent}
 use Rattle.listing.proofs.Lining.{puts-begin, not-chosen, no-arrivals, arrivals}
-use Rattle.listing.proofs.Putting.{puts-as, puts-none, puts-then}
+use Rattle.text.proofs.Putting.{puts-as, puts-none, puts-then}
 use Rattle.listing.proofs.lines.put_arrivals.Statement.{statement}
 use Rattle.listing.proofs.lines.put_arrivals.Tie as tie
 

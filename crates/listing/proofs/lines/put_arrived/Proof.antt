@@ -6,15 +6,15 @@ use Prim.Native.Nat.{ℕ, _+_, _*_, _^_, _<_, _≤_}
 use native.Mathlib.Omega.{arith}
 use borrow.Author.Needs.{needs}
 use lib.ListN.{length}
-use Rattle.meetings.specs.Arrivals.{heldAt, arrivalsOf}
-use Rattle.meetings.proofs.Arriving.{leftFrom, all-left, none-left, few, Next, next-is, passed}
-use Rattle.arrival_index.specs.Index.{nextIn}
-use Rattle.arrival_index.proofs.ClaimsIndexed.{next-indexed}
-use Rattle.arrival_index.proofs.Nexts.{left-arrives}
+use Rattle.arrivals.specs.Arrivals.{heldAt, arrivalsOf}
+use Rattle.arrivals.proofs.Arriving.{leftFrom, all-left, none-left, few, Next, next-is, passed}
+use Rattle.arrivals.specs.Index.{nextIn}
+use Rattle.arrivals.proofs.ClaimsIndexed.{next-indexed}
+use Rattle.arrivals.proofs.Nexts.{left-arrives}
 use Rattle.listing.specs.Hex.{hex4}
 use Rattle.listing.specs.Line.{fields}
 use Rattle.listing.proofs.Lining.{puts-place}
-use Rattle.listing.proofs.Putting.{Going, going-from, going-next, going-over, puts-length, puts-most}
+use Rattle.text.proofs.Putting.{Going, going-from, going-next, going-over, puts-length, puts-most}
 use Rattle.listing.proofs.lines.put_arrived.Statement.{statement}
 use Rattle.listing.proofs.lines.put_arrived.Tie as tie
 

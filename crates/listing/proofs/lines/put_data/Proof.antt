@@ -4,7 +4,7 @@ use Prim.Native.Nat.{_≤_, _<_, _+_, _^_}
 use native.Mathlib.Omega.{arith}
 use borrow.Author.Needs.{needs}
 use Rattle.listing.proofs.Lining.{puts-begin, puts-bytes, no-data, data-shown}
-use Rattle.listing.proofs.Putting.{puts-as, puts-most, puts-none, puts-then}
+use Rattle.text.proofs.Putting.{puts-as, puts-most, puts-none, puts-then}
 use Rattle.listing.proofs.lines.put_data.Statement.{statement}
 use Rattle.listing.proofs.lines.put_data.Tie as tie
 

@@ -4,11 +4,11 @@ use mathlib.Core.Path.{sym, ap}
 use mathlib.Core.List.{List, map}
 use Prim.Native.Nat.{ℕ}
 use borrow.Author.Needs.{needs}
-use Rattle.meetings.specs.Overlaps.{overlapsIn}
-use Rattle.meetings.specs.declared.overlaps.Overlaps.{Overlaps}
+use Rattle.views.specs.Overlaps.{overlapsIn}
+use Rattle.views.specs.declared.overlaps.Overlaps.{Overlaps}
 use Rattle.listing.specs.Hex.{hex4}
 use Rattle.listing.specs.Line.{fields}
-use Rattle.listing.proofs.Putting.{puts-as}
+use Rattle.text.proofs.Putting.{puts-as}
 use Rattle.listing.proofs.lines.put_found.Statement.{statement}
 use Rattle.listing.proofs.lines.put_found.Tie as tie
 

@@ -6,13 +6,13 @@ use Prim.Native.Nat.{ℕ, _+_, _^_, _≤_, _<_}
 use native.Mathlib.Omega.{arith}
 use borrow.Author.Needs.{needs}
 use lib.ListN.{length, length-drop}
-use Rattle.ways.specs.Here.{hereOf}
-use Rattle.ways.specs.declared.here.Here.the-variants.{Whole}
-use Rattle.ways.proofs.HereIs.{to-end}
-use Rattle.ways.proofs.WaysAre.{here-whole, whole-inside}
-use Rattle.ways.proofs.Within.{Within, within, size-short}
+use Rattle.targets.specs.Here.{hereOf}
+use Rattle.targets.specs.declared.here.Here.the-variants.{Whole}
+use Rattle.targets.proofs.HereIs.{to-end}
+use Rattle.targets.proofs.WaysAre.{here-whole, whole-inside}
+use Rattle.targets.proofs.Within.{Within, within, size-short}
 use Rattle.listing.specs.Lines.{instrText, hereLine}
-use Rattle.listing.proofs.Putting.{puts-as, puts-none}
+use Rattle.text.proofs.Putting.{puts-as, puts-none}
 use Rattle.listing.proofs.lines.put_here.Statement.{statement}
 use Rattle.listing.proofs.lines.put_here.Tie as tie
 

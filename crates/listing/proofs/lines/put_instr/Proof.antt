@@ -8,10 +8,10 @@ use lib.ListN.{length, take, length-take}
 use Rattle.instruction.specs.Encode.{formIn}
 use Rattle.instruction.specs.Forms.{sizeOf}
 use Rattle.listing.specs.Operand.{firstOf}
-use Rattle.listing.specs.Puts.{letters}
+use Rattle.text.specs.Puts.{letters}
 use Rattle.listing.proofs.Lining.{puts-begin, puts-bytes, puts-word, instr}
 use Rattle.listing.proofs.Naming.{spelled}
-use Rattle.listing.proofs.Putting.{puts-as, puts-most, puts-then}
+use Rattle.text.proofs.Putting.{puts-as, puts-most, puts-then}
 use Rattle.listing.proofs.Showing.{operands-length}
 use Rattle.listing.proofs.lines.put_instr.Statement.{statement}
 use Rattle.listing.proofs.lines.put_instr.Tie as tie

@@ -4,7 +4,7 @@ use Prim.Native.Nat.{_≤_, _<_, _+_, _^_}
 use native.Mathlib.Omega.{arith}
 use borrow.Author.Needs.{needs}
 use Rattle.listing.proofs.Lining.{puts-begin, no-label, label}
-use Rattle.listing.proofs.Putting.{puts-as, puts-none, puts-then}
+use Rattle.text.proofs.Putting.{puts-as, puts-none, puts-then}
 use Rattle.listing.proofs.lines.put_label.Statement.{statement}
 use Rattle.listing.proofs.lines.put_label.Tie as tie
 

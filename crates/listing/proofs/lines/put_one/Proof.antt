@@ -5,7 +5,7 @@ use native.Mathlib.Omega.{arith}
 use borrow.Author.Needs.{needs}
 use Rattle.listing.specs.Line.{fields}
 use Rattle.listing.proofs.Lining.{puts-place}
-use Rattle.listing.proofs.Putting.{puts-then}
+use Rattle.text.proofs.Putting.{puts-then}
 use Rattle.listing.proofs.lines.put_one.Statement.{statement}
 use Rattle.listing.proofs.lines.put_one.Tie as tie
 

@@ -4,9 +4,9 @@ use Prim.Native.Nat.{ℕ, _≤_, _<_, _+_, _^_}
 use mathlib.Core.List.{List}
 use native.Mathlib.Omega.{arith}
 use borrow.Author.Needs.{needs}
-use Rattle.meetings.specs.Overlaps.{overlapsOf}
+use Rattle.views.specs.Overlaps.{overlapsOf}
 use Rattle.listing.proofs.Lining.{puts-begin, found-length, no-overlaps, overlaps}
-use Rattle.listing.proofs.Putting.{puts-as, puts-most, puts-none, puts-then}
+use Rattle.text.proofs.Putting.{puts-as, puts-most, puts-none, puts-then}
 use Rattle.listing.proofs.lines.put_overlaps.Statement.{statement}
 use Rattle.listing.proofs.lines.put_overlaps.Tie as tie
 

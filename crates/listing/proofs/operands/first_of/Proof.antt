@@ -2,10 +2,10 @@
 -- Assumes nothing.
 use mathlib.Core.Path.{sym, ap, _∙_}
 use borrow.Author.Needs.{needs}
-use Rattle.ways.specs.At.{placeOf}
-use Rattle.ways.specs.Targets.{targetsOf}
-use Rattle.ways.specs.declared.target.Targets.{Targets}
-use Rattle.ways.proofs.ReadBack.{Read}
+use Rattle.targets.specs.At.{placeOf}
+use Rattle.targets.specs.Targets.{targetsOf}
+use Rattle.targets.specs.declared.target.Targets.{Targets}
+use Rattle.targets.proofs.ReadBack.{Read}
 use Rattle.listing.specs.Operand.{firstOf}
 use Rattle.listing.proofs.operands.first_of.Statement.{statement}
 use Rattle.listing.proofs.operands.first_of.Tie as tie

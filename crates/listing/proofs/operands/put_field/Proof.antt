@@ -3,7 +3,7 @@
 use mathlib.Core.Path.{sym, _∙_}
 use borrow.Author.Needs.{needs}
 use borrow.Author.Tests.{not-true, not-false}
-use Rattle.listing.proofs.Putting.{puts-as, puts-none, puts-then}
+use Rattle.text.proofs.Putting.{puts-as, puts-none, puts-then}
 use Rattle.listing.proofs.Showing.{is-field, is-none}
 use Rattle.listing.proofs.operands.put_field.Statement.{statement}
 use Rattle.listing.proofs.operands.put_field.Tie as tie

@@ -1,7 +1,7 @@
 -- `operands::put_immediate` meets its contract.
 -- Assumes nothing.
 use borrow.Author.Needs.{needs}
-use Rattle.listing.proofs.Putting.{puts-then}
+use Rattle.text.proofs.Putting.{puts-then}
 use Rattle.listing.proofs.operands.put_immediate.Statement.{statement}
 use Rattle.listing.proofs.operands.put_immediate.Tie as tie
 

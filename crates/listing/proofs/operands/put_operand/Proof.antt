@@ -1,7 +1,7 @@
 -- `operands::put_operand` meets its contract: an arm each.
 -- Assumes nothing.
 use borrow.Author.Needs.{needs}
-use Rattle.listing.proofs.Putting.{puts-as, puts-none}
+use Rattle.text.proofs.Putting.{puts-as, puts-none}
 use Rattle.listing.proofs.Showing.{is-absent, is-immediate, is-direct, is-register, is-bit, is-page, is-far, is-short, is-long}
 use Rattle.listing.proofs.operands.put_operand.Statement.{statement}
 use Rattle.listing.proofs.operands.put_operand.Tie as tie

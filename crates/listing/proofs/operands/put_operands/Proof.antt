@@ -4,9 +4,9 @@ use mathlib.Core.Path.{ap, _∙_}
 use Prim.Native.Nat.{_≤_, _<_, _+_, _^_}
 use native.Mathlib.Omega.{arith}
 use borrow.Author.Needs.{needs}
-use Rattle.ways.specs.At.{placeOf}
-use Rattle.ways.proofs.ReadBack.{Read}
-use Rattle.listing.proofs.Putting.{puts-as, puts-most, puts-then}
+use Rattle.targets.specs.At.{placeOf}
+use Rattle.targets.proofs.ReadBack.{Read}
+use Rattle.text.proofs.Putting.{puts-as, puts-most, puts-then}
 use Rattle.listing.proofs.Showing.{field-length, is-operands}
 use Rattle.listing.proofs.operands.put_operands.Statement.{statement}
 use Rattle.listing.proofs.operands.put_operands.Tie as tie

@@ -1,7 +1,7 @@
 -- `operands::put_register` meets its contract.
 -- Assumes nothing.
 use borrow.Author.Needs.{needs}
-use Rattle.listing.proofs.Putting.{puts-then}
+use Rattle.text.proofs.Putting.{puts-then}
 use Rattle.listing.proofs.operands.put_register.Statement.{statement}
 use Rattle.listing.proofs.operands.put_register.Tie as tie
 

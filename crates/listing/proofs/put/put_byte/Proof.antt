@@ -1,7 +1,7 @@
 -- `put::put_byte` meets its contract.
 -- Assumes nothing.
 use borrow.Author.Needs.{needs}
-use Rattle.listing.proofs.Putting.{puts-past}
+use Rattle.text.proofs.Putting.{puts-past}
 use Rattle.listing.proofs.put.put_byte.Statement.{statement}
 use Rattle.listing.proofs.put.put_byte.Tie as tie
 

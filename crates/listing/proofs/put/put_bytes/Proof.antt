@@ -8,7 +8,7 @@ use borrow.Author.Needs.{needs}
 use lib.ListN.{length, drop, getD}
 use Rattle.listing.specs.Hex.{hexes}
 use Rattle.listing.proofs.Hexing.{hexes-more, hexes-end, hex2-length}
-use Rattle.listing.proofs.Putting.{Going, going-start, going-next, going-over, puts-length, puts-then}
+use Rattle.text.proofs.Putting.{Going, going-start, going-next, going-over, puts-length, puts-then}
 use Rattle.listing.proofs.put.put_bytes.Statement.{statement}
 use Rattle.listing.proofs.put.put_bytes.Tie as tie
 

@@ -1,7 +1,7 @@
 -- `put::put_place` meets its contract.
 -- Assumes nothing.
 use borrow.Author.Needs.{needs}
-use Rattle.listing.proofs.Putting.{puts-then}
+use Rattle.text.proofs.Putting.{puts-then}
 use Rattle.listing.proofs.put.put_place.Statement.{statement}
 use Rattle.listing.proofs.put.put_place.Tie as tie
 

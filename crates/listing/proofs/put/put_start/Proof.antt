@@ -1,7 +1,7 @@
 -- `put::put_start` meets its contract.
 -- Assumes nothing.
 use borrow.Author.Needs.{needs}
-use Rattle.listing.proofs.Putting.{puts-then}
+use Rattle.text.proofs.Putting.{puts-then}
 use Rattle.listing.proofs.put.put_start.Statement.{statement}
 use Rattle.listing.proofs.put.put_start.Tie as tie
 

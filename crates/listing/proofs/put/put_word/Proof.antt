@@ -5,9 +5,9 @@ use mathlib.Core.Path.{_≡_, refl, _∙_}
 use native.Mathlib.Omega.{arith}
 use borrow.Author.Needs.{needs}
 use lib.ListN.{length}
-use Rattle.listing.specs.Puts.{letters}
+use Rattle.text.specs.Puts.{letters}
 use Rattle.listing.proofs.Lettering.{letters-more, letters-stop, letters-end}
-use Rattle.listing.proofs.Putting.{Going, going-start, going-next, going-over, puts-length, puts-then}
+use Rattle.text.proofs.Putting.{Going, going-start, going-next, going-over, puts-length, puts-then}
 use Rattle.listing.proofs.put.put_word.Statement.{statement}
 use Rattle.listing.proofs.put.put_word.Tie as tie
 

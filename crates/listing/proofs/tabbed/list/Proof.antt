@@ -5,17 +5,17 @@ use mathlib.Core.List.{List}
 use Prim.Native.Nat.{ℕ, _-_, _≤_}
 use borrow.Author.Needs.{needs}
 use lib.ListN.{length, take, drop}
-use Rattle.sight.specs.View.{Sound}
-use Rattle.sight.proofs.Viewing.{small, covered}
+use Rattle.views.specs.View.{Sound}
+use Rattle.views.proofs.Viewing.{small, covered}
 use Rattle.views.specs.Labels.{labelsOf}
 use Rattle.views.specs.Mask.{maskOf}
 use Rattle.views.proofs.Labelling.{labels-length}
 use Rattle.views.proofs.Masking.{mask-length}
 use Rattle.listing.specs.Lent.{isLent, Indexed, textOf}
-use Rattle.listing.specs.Puts.{Needed}
+use Rattle.text.specs.Puts.{Needed}
 use Rattle.listing.specs.Walk.{walk}
 use Rattle.listing.proofs.Answering.{in-front, long-enough, part-is, is-text, too-small, all-written}
-use Rattle.listing.proofs.Putting.{puts-as}
+use Rattle.text.proofs.Putting.{puts-as}
 use Rattle.listing.proofs.tabbed.list.Statement.{statement}
 use Rattle.listing.proofs.tabbed.list.Tie as tie
 

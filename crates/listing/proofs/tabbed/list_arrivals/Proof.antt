@@ -7,9 +7,9 @@ use native.Mathlib.Omega.{arith}
 use borrow.Author.Needs.{needs}
 use lib.ListN.{length, take, drop, length-append}
 use lib.Seq.{length-take-le, take-at}
-use Rattle.sight.proofs.Viewing.{small}
-use Rattle.arrival_index.specs.Index.{indexOf}
-use Rattle.arrival_index.proofs.Indexing.{own-room}
+use Rattle.views.proofs.Viewing.{small}
+use Rattle.arrivals.specs.Index.{indexOf}
+use Rattle.arrivals.proofs.Indexing.{own-room}
 use Rattle.listing.proofs.Answering.{index-text, same-text}
 use Rattle.listing.proofs.tabbed.list_arrivals.Statement.{statement}
 use Rattle.listing.proofs.tabbed.list_arrivals.Tie as tie

@@ -6,9 +6,9 @@ use mathlib.Core.List.{List}
 use Prim.Native.Nat.{ℕ}
 use borrow.Author.Needs.{needs}
 use borrow.Author.Tests.{not-true, not-false}
-use Rattle.operand.proofs.Sign.{never}
-use Rattle.sight.specs.View.{Sound}
-use Rattle.sight.proofs.Viewing.{is-sound, refused-all}
+use Rattle.instruction.proofs.Sign.{never}
+use Rattle.views.specs.View.{Sound}
+use Rattle.views.proofs.Viewing.{is-sound, refused-all}
 use Rattle.listing.specs.Walk.{listingOf}
 use Rattle.listing.proofs.Answering.{is-listing, same-text}
 use Rattle.listing.proofs.tabbed.listing_with.Statement.{statement}

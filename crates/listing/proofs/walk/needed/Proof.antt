@@ -8,7 +8,7 @@ use borrow.Author.Needs.{needs}
 use lib.ListN.{length}
 use Rattle.listing.specs.Lent.{isLent}
 use Rattle.listing.specs.Walk.{walk}
-use Rattle.listing.proofs.Putting.{puts-needed}
+use Rattle.text.proofs.Putting.{puts-needed}
 use Rattle.listing.proofs.Widths.{all-width}
 use Rattle.listing.proofs.walk.needed.Statement.{statement}
 use Rattle.listing.proofs.walk.needed.Tie as tie

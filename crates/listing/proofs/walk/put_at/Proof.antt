@@ -8,7 +8,7 @@ use borrow.Author.Needs.{needs}
 use lib.ListN.{getD}
 use Rattle.reach.specs.Mark.{tracedMark}
 use Rattle.listing.specs.Lent.{isLent}
-use Rattle.listing.proofs.Putting.{puts-as, puts-none}
+use Rattle.text.proofs.Putting.{puts-as, puts-none}
 use Rattle.listing.proofs.Walking.{print-code, print-none, print-data, run-length}
 use Rattle.listing.proofs.walk.put_at.Statement.{statement}
 use Rattle.listing.proofs.walk.put_at.Tie as tie

@@ -6,7 +6,7 @@ use borrow.Author.Needs.{needs}
 use lib.ListN.{getD}
 use Rattle.listing.specs.Walk.{codeLines}
 use Rattle.listing.proofs.Lining.{label-length}
-use Rattle.listing.proofs.Putting.{puts-most, puts-then}
+use Rattle.text.proofs.Putting.{puts-most, puts-then}
 use Rattle.listing.proofs.walk.put_code.Statement.{statement}
 use Rattle.listing.proofs.walk.put_code.Tie as tie
 

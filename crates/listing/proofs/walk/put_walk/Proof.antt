@@ -7,7 +7,7 @@ use native.Mathlib.Omega.{arith}
 use lib.ListN.{length}
 use Rattle.listing.specs.Lent.{isLent}
 use Rattle.listing.specs.Walk.{passed, walk}
-use Rattle.listing.proofs.Putting.{Going, going-from, going-next, going-over, puts-length}
+use Rattle.text.proofs.Putting.{Going, going-from, going-next, going-over, puts-length}
 use Rattle.listing.proofs.Walking.{leftAt, left-start, left-next, left-end, step-fits}
 use Rattle.listing.proofs.walk.put_walk.Statement.{statement}
 use Rattle.listing.proofs.walk.put_walk.Tie as tie

@@ -6,7 +6,7 @@ use native.Mathlib.Omega.{arith}
 use borrow.Author.Needs.{needs}
 use borrow.Author.Tests.{not-true, not-false, ltb-false}
 use lib.Dec.{ltb}
-use Rattle.operand.proofs.Neither.{neither}
+use Rattle.instruction.proofs.Neither.{neither}
 use Rattle.map.specs.Ask.{countAnswer}
 use Rattle.map.proofs.Asking.{Good, good, refused-all, told-all}
 use Rattle.map.proofs.ask.count.Statement.{statement}

@@ -7,7 +7,7 @@ use borrow.Author.Needs.{needs}
 use borrow.Author.Tests.{not-true, not-false, leb-false}
 use lib.Dec.{leb}
 use mir.Val.{boolByte}
-use Rattle.word.specs.Bits.{bit}
+use Rattle.map.specs.Bits.{bit}
 use Rattle.map.specs.Ask.{testAnswer}
 use Rattle.map.proofs.Asking.{Good, good, refused-all, told-all}
 use Rattle.map.proofs.ask.test.Statement.{statement}

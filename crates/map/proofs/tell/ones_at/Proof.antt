@@ -4,7 +4,7 @@ use mathlib.Core.Path.{sym, ap, _∙_}
 use Prim.Native.Nat.{ℕ}
 use borrow.Author.Needs.{needs}
 use lib.ListN.{List·getD-eq-default}
-use Rattle.word.specs.Bits.{onesBetween}
+use Rattle.map.specs.Bits.{onesBetween}
 use Rattle.map.proofs.tell.ones_at.Statement.{statement}
 use Rattle.map.proofs.tell.ones_at.Tie as tie
 

@@ -8,8 +8,8 @@ use native.Mathlib.Omega.{arith}
 use borrow.Author.Needs.{needs}
 use lib.ListN.{length, length-set, set}
 use lib.Seq.{sets}
-use Rattle.ways.specs.Ways.{placesIn}
-use Rattle.ways.specs.declared.place.Places.{Places}
+use Rattle.targets.specs.Ways.{placesIn}
+use Rattle.targets.specs.declared.place.Places.{Places}
 use Rattle.trace.proofs.Queueing.{Put, room-for}
 use Rattle.trace.proofs.queue.put.Statement.{statement}
 use Rattle.trace.proofs.queue.put.Tie as tie

@@ -9,8 +9,8 @@ use Rattle.reach.proofs.Begin.{stand-begin}
 use Rattle.reach.proofs.Came.{came-finished, came-stopped, came-cut}
 use Rattle.reach.proofs.Stand.{Stand, stand-tail, stand-inside, stand-room}
 use Rattle.reach.proofs.StandTurn.{stand-turn}
-use Rattle.marking.specs.Tracer.{tracerOf}
-use Rattle.marking.proofs.Clearing.{wiped-is}
+use Rattle.marks.specs.Tracer.{tracerOf}
+use Rattle.marks.proofs.Clearing.{wiped-is}
 use Rattle.trace.proofs.Running.{Begun, begun-of, ran-finished, ran-stopped, ran-cut}
 use Rattle.trace.proofs.run.run_on.Statement.{statement}
 use Rattle.trace.proofs.run.run_on.Tie as tie

@@ -6,13 +6,13 @@ use mathlib.Core.List.{List}
 use Prim.Native.Nat.{ℕ}
 use borrow.Author.Needs.{needs}
 use lib.ListN.{length}
-use Rattle.ways.specs.Ways.{placesIn}
-use Rattle.ways.specs.At.{fitsHere, waysHere}
-use Rattle.marking.specs.Tracer.{tracerOf}
-use Rattle.taking.specs.Taken.{TakenUp}
-use Rattle.taking.proofs.TakeUp.{by-ways}
+use Rattle.targets.specs.Ways.{placesIn}
+use Rattle.targets.specs.At.{fitsHere, waysHere}
+use Rattle.marks.specs.Tracer.{tracerOf}
+use Rattle.marks.specs.Taken.{TakenUp}
+use Rattle.marks.proofs.TakeUp.{by-ways}
 use Rattle.trace.proofs.Queueing.{taken-put, room-for}
-use Rattle.ways.proofs.WaysAre.{goes-whole, goes-cut, never-outside}
+use Rattle.targets.proofs.WaysAre.{goes-whole, goes-cut, never-outside}
 use Rattle.trace.proofs.Turns.{turned-on, turned-off}
 use Rattle.trace.proofs.run.take_next.Statement.{statement}
 use Rattle.trace.proofs.run.take_next.Tie as tie

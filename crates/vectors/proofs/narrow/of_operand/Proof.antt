@@ -3,7 +3,7 @@
 use borrow.Author.Needs.{needs}
 use mir.Facts.{toZ-ofZ}
 use mir.Syntax.{w32}
-use Rattle.reply.proofs.Wider.{wider}
+use Rattle.c_answers.proofs.Wider.{wider}
 use Rattle.vectors.proofs.narrow.of_operand.Statement.{statement}
 use Rattle.vectors.proofs.narrow.of_operand.Tie as tie
 

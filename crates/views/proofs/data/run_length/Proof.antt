@@ -6,7 +6,7 @@ use native.Mathlib.Omega.{arith}
 use borrow.Author.Needs.{needs}
 use borrow.Author.Tests.{not-true, not-false}
 use lib.ListN.{length}
-use Rattle.sight.specs.Positions.{upFrom}
+use Rattle.views.specs.Positions.{upFrom}
 use Rattle.views.specs.DataRun.{isData, leading, runLength}
 use Rattle.views.proofs.DataRuns.{data-inside, leading-none, leading-ends, leading-on}
 use Rattle.views.proofs.data.run_length.Statement.{statement}

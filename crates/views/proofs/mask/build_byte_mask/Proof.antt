@@ -6,8 +6,8 @@ use Prim.Native.Nat.{ℕ}
 use borrow.Author.Needs.{needs}
 use borrow.Author.Tests.{not-true, not-false}
 use lib.ListN.{length}
-use Rattle.sight.specs.View.{Sound}
-use Rattle.sight.proofs.Viewing.{is-sound, small, covered, refused-all, no-room-for, shown-as}
+use Rattle.views.specs.View.{Sound}
+use Rattle.views.proofs.Viewing.{is-sound, small, covered, refused-all, no-room-for, shown-as}
 use Rattle.views.specs.Mask.{maskOf}
 use Rattle.views.proofs.Masking.{mask-length}
 use Rattle.views.proofs.mask.build_byte_mask.Statement.{statement}

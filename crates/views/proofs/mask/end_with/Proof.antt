@@ -5,7 +5,7 @@ use Prim.Native.Nat.{_<_, _≤_}
 use native.Mathlib.Omega.{arith}
 use borrow.Author.Needs.{needs}
 use lib.ListN.{length}
-use Rattle.ways.proofs.Within.{size-short}
+use Rattle.targets.proofs.Within.{size-short}
 use Rattle.views.proofs.Masking.{ends-further, ends-nearer, ends-untraced}
 use Rattle.views.proofs.mask.end_with.Statement.{statement}
 use Rattle.views.proofs.mask.end_with.Tie as tie

@@ -9,8 +9,8 @@ use borrow.Author.Needs.{needs}
 use lib.Dec.{ltb}
 use lib.ListN.{length, set, take, drop, length-set}
 use mir.Val.{boolByte}
-use Rattle.sight.specs.Positions.{bit}
-use Rattle.sight.proofs.Fronts.{front-next, front-end}
+use Rattle.views.specs.Positions.{bit}
+use Rattle.views.proofs.Fronts.{front-next, front-end}
 use Rattle.views.specs.Mask.{maskOf}
 use Rattle.views.proofs.Masking.{Masks, masks-start, masks-next, masks-here, mask-length}
 use Rattle.views.proofs.mask.write_mask.Statement.{statement}

@@ -8,12 +8,12 @@ use borrow.Author.Needs.{needs}
 use lib.ListN.{length, getD}
 use mir.Syntax.{w32}
 use mir.Val.{toZ, ofZ}
-use Rattle.operand.specs.Answer.{refused}
-use Rattle.operand.specs.CutOff.{cutValues}
-use Rattle.operand.specs.declared.answer.CutOff.{CutOff}
-use Rattle.operand.specs.declared.kind.Shape.{Shape}
-use Rattle.field.specs.Layout.{fieldsBy}
-use Rattle.field.specs.declared.layout.Fields.{Fields}
+use Rattle.instruction.specs.Answer.{refused}
+use Rattle.instruction.specs.CutOff.{cutValues}
+use Rattle.instruction.specs.declared.answer.CutOff.{CutOff}
+use Rattle.instruction.specs.declared.kind.Shape.{Shape}
+use Rattle.instruction.specs.Layout.{fieldsBy}
+use Rattle.instruction.specs.declared.layout.Fields.{Fields}
 use Rattle.instruction.specs.Forms.{formAt, formOf, sizeOf}
 use Rattle.instruction.specs.Parts.{madeOf}
 use Rattle.instruction.proofs.Decoding.{nothing, cut, cut-from-start, found}

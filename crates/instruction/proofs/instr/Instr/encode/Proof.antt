@@ -7,8 +7,8 @@ use borrow.Author.Needs.{needs}
 use lib.IntN.{ℤ}
 use mir.Syntax.{w32}
 use mir.Val.{toZ, ofZ}
-use Rattle.operand.specs.Answer.{accepted}
-use Rattle.field.specs.Layout.{roomAfter}
+use Rattle.instruction.specs.Answer.{accepted}
+use Rattle.instruction.specs.Layout.{roomAfter}
 use Rattle.instruction.specs.Encode.{fitAnswer, fitOf}
 use Rattle.instruction.specs.declared.instr.Instr.{Instr}
 use Rattle.instruction.proofs.Encoding.{refuses, short, wrote}

@@ -6,13 +6,13 @@ use borrow.Author.Needs.{needs}
 use lib.IntN.{ℤ}
 use mir.Syntax.{w32}
 use mir.Val.{toZ, ofZ}
-use Rattle.operand.specs.Range.{unfit}
+use Rattle.instruction.specs.Range.{unfit}
 use Rattle.instruction.specs.Parts.{partsOf}
 use Rattle.instruction.specs.declared.instr.Instr.{Instr}
 use Rattle.instruction.specs.declared.instr.Parts.{Parts}
-use Rattle.operand.specs.declared.kind.Kind.{Kind}
-use Rattle.operand.specs.declared.kind.Kinds.{Kinds}
-use Rattle.field.proofs.Named.{named}
+use Rattle.instruction.specs.declared.kind.Kind.{Kind}
+use Rattle.instruction.specs.declared.kind.Kinds.{Kinds}
+use Rattle.instruction.proofs.Named.{named}
 use Rattle.instruction.proofs.Encoding.{Unfit1, Unfit2, Unfit3, fit1, fit2, fit3, fits}
 use Rattle.instruction.proofs.instr.Instr.fit.Statement.{statement}
 use Rattle.instruction.proofs.instr.Instr.fit.Tie as tie

@@ -3,7 +3,7 @@
 use mathlib.Core.Path.{ap, _∙_}
 use borrow.Author.Needs.{needs}
 use Rattle.instruction.specs.Forms.{formAt}
-use Rattle.operand.specs.Kinds.{threeOf}
+use Rattle.instruction.specs.Kinds.{threeOf}
 use Rattle.instruction.specs.declared.instr.Parts.{Parts}
 use Rattle.instruction.proofs.Known.{form-small}
 use Rattle.instruction.proofs.instr.Instr.kinds.Statement.{statement}

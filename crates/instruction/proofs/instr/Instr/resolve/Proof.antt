@@ -6,11 +6,11 @@ use borrow.Author.Needs.{needs}
 use lib.IntN.{ℤ}
 use mir.Syntax.{w32}
 use mir.Val.{toZ, ofZ}
-use Rattle.operand.specs.Answer.{Answer}
-use Rattle.operand.specs.Kinds.{threeOf}
-use Rattle.operand.specs.declared.kind.Kinds.{Kinds}
-use Rattle.field.specs.Resolve.{resolutionOf, fieldsAnswer}
-use Rattle.field.specs.declared.layout.Fields.{Fields}
+use Rattle.instruction.specs.Answer.{Answer}
+use Rattle.instruction.specs.Kinds.{threeOf}
+use Rattle.instruction.specs.declared.kind.Kinds.{Kinds}
+use Rattle.instruction.specs.Resolution.{resolutionOf, fieldsAnswer}
+use Rattle.instruction.specs.declared.layout.Fields.{Fields}
 use Rattle.instruction.specs.Encode.{formIn}
 use Rattle.instruction.specs.Parts.{partsOf, madeOf}
 use Rattle.instruction.specs.declared.instr.Instr.{Instr}

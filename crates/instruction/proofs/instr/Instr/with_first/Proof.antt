@@ -4,7 +4,7 @@ use mathlib.Core.Path.{ap, _∙_}
 use borrow.Author.Needs.{needs}
 use Rattle.instruction.specs.Parts.{madeOf}
 use Rattle.instruction.proofs.Reading.{make4}
-use Rattle.operand.proofs.Sign.{back}
+use Rattle.instruction.proofs.Sign.{back}
 use Rattle.instruction.proofs.instr.Instr.with_first.Statement.{statement}
 use Rattle.instruction.proofs.instr.Instr.with_first.Tie as tie
 

@@ -1,3 +1,0 @@
-pub mod Index
-pub mod Entered
-pub mod ClaimsIndex

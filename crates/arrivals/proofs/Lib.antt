@@ -1,0 +1,9 @@
+pub mod HeldTargets
+pub mod Nexts
+pub mod Entering
+pub mod Indexing
+pub mod Asking
+pub mod ClaimsIndexed
+pub mod Counting
+pub mod Holding
+pub mod Arriving

@@ -1,0 +1,33 @@
+-- Arrivals. Document 01, 'Views': at p, ascending, each traced position with p among the targets it had when taken up (mark 3: none). None if
+-- p is not inside.
+-- Assumes nothing.
+use Prim.Native.Nat.{ℕ, _-_}
+use mathlib.Core.Bool.{Bool, cond, _&&_}
+use mathlib.Core.List.{List, [], _∷_}
+use lib.Dec.{eqb, ltb}
+use lib.ListN.{length}
+use Rattle.targets.specs.Ways.{isWhole}
+use Rattle.reach.specs.Tracer.{held}
+use Rattle.marks.specs.Tracer.{tracerOf}
+use Rattle.views.specs.Positions.{upFrom, positions, some, kept, tracedAt}
+
+-- the targets that the traced position q had when it was taken up. No step takes up an instruction that is cut off, nor any in an image
+-- past its limit
+unfoldable pub heldAt : List ℕ → List ℕ → ℕ → List ℕ
+heldAt image m q = cond (tracedAt image m q && isWhole image q) (held (tracerOf image) m q) []
+
+-- p is inside, and among the targets that q had
+unfoldable pub arrives : List ℕ → List ℕ → ℕ → ℕ → Bool
+arrives image m p q = ltb p (length image) && some (eqb p) (heldAt image m q)
+
+unfoldable pub arrivalsOf : List ℕ → List ℕ → ℕ → List ℕ
+arrivalsOf image m p = kept (arrives image m p) (positions image)
+
+-- the first of these positions, or else n
+abbrev pub firstOr : ℕ → List ℕ → ℕ
+firstOr n [] = n
+firstOr n (q ∷ qs) = q
+
+-- the lowest arrival at p from q on; where there is none 65,536, which is outside every image
+unfoldable pub nextArrival : List ℕ → List ℕ → ℕ → ℕ → ℕ
+nextArrival image m p q = firstOr 65536 (kept (arrives image m p) (upFrom (length image - q) q))

@@ -1,0 +1,39 @@
+-- An index of all arrivals: at each position the lowest, and for each position the next after it at either of its targets. Document 01,
+-- 'Views': arrivals at p, ascending.
+-- Assumes nothing.
+use Prim.Native.Nat.{ℕ, _+_, _*_}
+use mathlib.Core.Bool.{cond, _||_, not}
+use mathlib.Core.List.{List, _++_, map}
+use lib.Dec.{eqb, ltb}
+use lib.ListN.{length, getD}
+use Rattle.views.specs.Positions.{positions}
+use Rattle.arrivals.specs.Arrivals.{heldAt, nextArrival}
+
+-- the first target that q had is number 0, the second number 1; where it had none, 65,536, which is outside every image
+abbrev pub targetOf : List ℕ → List ℕ → ℕ → ℕ → ℕ
+targetOf image m j q = getD (heldAt image m q) j 65536
+
+-- the lowest arrival after q where q went by its target number j
+unfoldable pub afterBy : List ℕ → List ℕ → ℕ → ℕ → ℕ
+afterBy image m j q = nextArrival image m (targetOf image m j q) (q + 1)
+
+-- of all positions: the lowest arrivals, the next by the first target, the next by the second
+unfoldable pub indexOf : List ℕ → List ℕ → List ℕ
+indexOf image m =
+    map (λ (p : ℕ). nextArrival image m p 0) (positions image)
+    ++ (map (afterBy image m 0) (positions image) ++ map (afterBy image m 1) (positions image))
+
+-- it is put into a room of its own length; for an image past its limit nothing is
+unfoldable pub roomOf : List ℕ → List ℕ → List ℕ → List ℕ
+roomOf image m room = cond (ltb 65536 (length image) || not (eqb (length room) (3 * length image))) room (indexOf image m)
+
+-- what is asked of an index: the lowest arrival at p
+abbrev pub firstIn : List ℕ → ℕ → ℕ
+firstIn index p = getD index p 65536
+
+-- the next at p after q in an image of n bytes, by the targets that q had; none past the limit
+unfoldable pub nextIn : List ℕ → ℕ → List ℕ → ℕ → ℕ → ℕ
+nextIn index n held p q =
+    cond (ltb 65536 n) 65536
+    (cond (eqb p (getD held 0 65536)) (getD index (n + q) 65536)
+    (cond (eqb p (getD held 1 65536)) (getD index (2 * n + q) 65536) 65536))

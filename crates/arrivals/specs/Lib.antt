@@ -1,0 +1,4 @@
+pub mod Index
+pub mod Entered
+pub mod ClaimsIndex
+pub mod Arrivals

@@ -1,0 +1,9 @@
+pub mod Wider
+pub mod Told
+pub mod Fitting
+pub mod Named
+pub mod Sizes
+pub mod Lengths
+pub mod Shown
+pub mod BackBounds
+pub mod MapBounds

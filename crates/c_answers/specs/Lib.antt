@@ -1,0 +1,9 @@
+pub mod Reply
+pub mod Codec
+pub mod CodecCounts
+pub mod Tracing
+pub mod TraceCounts
+pub mod Listing
+pub mod ViewCounts
+pub mod BackCounts
+pub mod MapCounts

@@ -1,0 +1,36 @@
+// What the C face hands over: the number of a refusal and five values, for each answer.
+pub mod ask;
+pub mod back;
+mod back_outcome;
+pub mod codec;
+mod codec_outcome;
+pub mod keep;
+pub mod listed;
+mod map_outcome;
+pub mod reply;
+mod trace_outcome;
+pub mod tracing;
+mod view_outcome;
+pub mod viewing;
+
+pub use ask::map_count;
+pub use ask::map_first_data;
+pub use ask::map_test;
+pub use back::read_back;
+pub use codec::decode;
+pub use codec::encode;
+pub use codec::resolve;
+pub use codec::targets;
+pub use keep::map_build;
+pub use keep::map_update;
+pub use listed::list_text;
+pub use listed::listing;
+pub use reply::Reply;
+pub use tracing::run;
+pub use tracing::start;
+pub use tracing::step;
+pub use viewing::arrivals;
+pub use viewing::data_run;
+pub use viewing::mask;
+pub use viewing::overlaps;
+pub use viewing::target_marks;

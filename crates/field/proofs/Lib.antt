@@ -1,9 +1,0 @@
-pub mod Bits
-pub mod Sign
-pub mod Reading
-pub mod Writing
-pub mod Over
-pub mod Laid
-pub mod Named
-pub mod Resolving
-pub mod Resolved

@@ -1,4 +1,0 @@
-pub mod Pattern
-pub mod Code
-pub mod Layout
-pub mod Resolve

@@ -1,4 +1,0 @@
-pub mod Bytes
-pub mod ClaimsInput
-pub mod Entries
-pub mod Text

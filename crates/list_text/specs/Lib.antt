@@ -1,0 +1,6 @@
+pub mod Bytes
+pub mod ClaimsInput
+pub mod Entries
+pub mod Text
+pub mod Output
+pub mod ClaimsOutput

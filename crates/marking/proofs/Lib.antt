@@ -1,3 +1,0 @@
-pub mod Clearing
-pub mod Jmpf
-pub mod Sizing

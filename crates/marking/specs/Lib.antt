@@ -1,3 +1,0 @@
-pub mod Tracer
-pub mod Clear
-pub mod Refusals

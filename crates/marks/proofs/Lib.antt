@@ -1,0 +1,5 @@
+pub mod Clearing
+pub mod Jmpf
+pub mod Sizing
+pub mod OneNoted
+pub mod TakeUp

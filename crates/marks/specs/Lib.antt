@@ -1,0 +1,4 @@
+pub mod Tracer
+pub mod Clear
+pub mod Refusals
+pub mod Taken

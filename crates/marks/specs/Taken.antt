@@ -1,0 +1,20 @@
+-- What is said of a position taken up. Document 01, 'Marks and steps'.
+-- Assumes nothing.
+use Prim.Native.Nat.{ℕ}
+use mathlib.Core.List.{List}
+use mathlib.Core.Path.{_≡_}
+use Rattle.targets.specs.Ways.{placesIn}
+use Rattle.reach.specs.Tracer.{Tracer, mark, took, found}
+use Rattle.marks.specs.Tracer.{tracerOf}
+use Rattle.marks.specs.declared.take.Taken.{Taken}
+
+-- the tracer of an image where the instruction at hand has these targets
+abbrev pub goingTo : List ℕ → List ℕ → Tracer
+goingTo image ts =
+    let G = tracerOf image in record { size = G .size; fits = G .fits; ways = λ p. ts; exempt = G .exempt }
+
+-- the position p taken up, with the marks m before and m′ after: its mark, what it found, and the marks
+pub record TakenUp (G : Tracer) (m : List ℕ) (p : ℕ) (r : Taken) (m′ : List ℕ) : Type 0 where
+  pub mark-is : r .mark ≡ mark G m p
+  pub noted-are : placesIn (r .noted) ≡ found G m p
+  pub marks-are : m′ ≡ took G m p

@@ -1,3 +1,0 @@
-pub mod Overlapping
-pub mod Holding
-pub mod Arriving

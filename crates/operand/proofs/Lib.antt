@@ -1,5 +1,0 @@
-pub mod Sign
-pub mod Neither
-pub mod Judging
-pub mod Accepting
-pub mod Carried

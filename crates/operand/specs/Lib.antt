@@ -1,4 +1,0 @@
-pub mod Answer
-pub mod CutOff
-pub mod Kinds
-pub mod Range

@@ -1,0 +1,22 @@
+-- `codec::pw_resolve` meets its contract.
+-- Assumes nothing.
+use mathlib.Core.Path.{_∙_, ap}
+use borrow.Author.Needs.{needs}
+use Rattle.instruction.specs.declared.instr.Instr.{Instr}
+use Rattle.instruction.specs.Resolve.{resolveAnswer}
+use Rattle.c_answers.specs.Reply.{replyOf}
+use Rattle.c_answers.specs.Codec.{instrValues}
+use Rattle.c_answers.proofs.Named.{named-is}
+use Rattle.c_answers.proofs.Told.{given}
+use Rattle.pottagewing.proofs.codec.pw_resolve.Statement.{statement}
+use Rattle.pottagewing.proofs.codec.pw_resolve.Tie as tie
+
+returns : tie.Need-returns
+returns c =
+    let r = c .before .before in
+    let s = r .before in
+    let e = named-is (s .args .first) (s .fits .a) (s .fits .b) (s .fits .c) in
+    given (r .resolve .ensures ∙ ap (λ (j : Instr). replyOf instrValues (resolveAnswer j (s .args .base))) e) (c .give .ensures)
+
+pub pw-resolve-spec : {M : Type 1} → statement M
+pw-resolve-spec = tie.close (tie.spec (λ c κs. search needs) (λ c κs. search needs) returns)

@@ -1,0 +1,16 @@
+-- `listed::pw_read_back` meets its contract.
+-- Assumes nothing.
+use borrow.Author.Needs.{needs}
+use Rattle.c_answers.proofs.Told.{given}
+use Rattle.pottagewing.proofs.listed.pw_read_back.Statement.{statement}
+use Rattle.pottagewing.proofs.listed.pw_read_back.Tie as tie
+
+returns : tie.Need-returns
+returns c =
+    let t = c .before .before .before .before .before .before in
+    let g = given (t .read-back .ensures .0) (c .give .ensures) in
+    (g .0, g .1, t .read-back .ensures .1, t .read-back .ensures .2)
+
+pub pw-read-back-spec : {M : Type 1} → statement M
+pw-read-back-spec =
+    tie.close (tie.spec (λ c κs. search needs) (λ c κs. search needs) (λ c. search needs) (λ c. search needs) returns)

@@ -1,0 +1,15 @@
+-- `tracing::pw_run` meets its contract.
+-- Assumes nothing.
+use borrow.Author.Needs.{needs}
+use Rattle.c_answers.proofs.Told.{given}
+use Rattle.pottagewing.proofs.tracing.pw_run.Statement.{statement}
+use Rattle.pottagewing.proofs.tracing.pw_run.Tie as tie
+
+returns : tie.Need-returns
+returns c =
+    let t = c .before .before .before .before .before .before in
+    let g = given (t .run .ensures .0) (c .give .ensures) in
+    (g .0, g .1, t .run .ensures .1, t .run .ensures .2)
+
+pub pw-run-spec : {M : Type 1} → statement M
+pw-run-spec = tie.close (tie.spec (λ c κs. search needs) (λ c κs. search needs) (λ c. search needs) (λ c. search needs) returns)

@@ -1,0 +1,45 @@
+// The exported calls of the listing, and of one read back.
+ghost use mathlib.Core.Path.{_≡_};
+ghost use mathlib.Core.List.{[]};
+ghost use Rattle.views.specs.View.{roomAnswer, roomAfter, viewAnswer, viewRoom};
+ghost use Rattle.listing.specs.Walk.{listingOf};
+ghost use Rattle.read_back.specs.Back.{backAnswer, backImage, backMarks};
+ghost use Rattle.list_text.specs.Output.{outputOf};
+ghost use Rattle.c_answers.specs.Reply.{numberOf, valuesOf, countValues};
+ghost use Rattle.c_answers.specs.Listing.{choiceOf};
+
+// Accepted: the number of bytes written.
+#[no_mangle]
+pub extern "C" fn pw_listing(
+    image: &[u8],
+    marks: &[u8],
+    arrivals: u32,
+    room: &mut [u8],
+    answer: &mut [i64; 5],
+) -> u32
+    ensures { λ r. ⌜ (r ≡ numberOf (viewAnswer (now (image .entry)) (now (marks .entry)) (listingOf (now (image .entry)) (now (marks .entry)) (choiceOf arrivals)) (now (room .entry)))) × (now (answer .exit) ≡ valuesOf countValues (viewAnswer (now (image .entry)) (now (marks .entry)) (listingOf (now (image .entry)) (now (marks .entry)) (choiceOf arrivals)) (now (room .entry)))) × (now (room .exit) ≡ viewRoom (now (image .entry)) (now (marks .entry)) (listingOf (now (image .entry)) (now (marks .entry)) (choiceOf arrivals)) (now (room .entry))) ⌝ }
+{
+    c_answers::listing(image, marks, arrivals, room).give(answer)
+}
+
+// Accepted: the number of bytes written, those of a refusal's line among them.
+#[no_mangle]
+pub extern "C" fn pw_list_text(text: &[u8], room: &mut [u8], answer: &mut [i64; 5]) -> u32
+    ensures { λ r. ⌜ (r ≡ numberOf (roomAnswer [] (outputOf (now (text .entry))) (now (room .entry)))) × (now (answer .exit) ≡ valuesOf countValues (roomAnswer [] (outputOf (now (text .entry))) (now (room .entry)))) × (now (room .exit) ≡ roomAfter [] (outputOf (now (text .entry))) (now (room .entry))) ⌝ }
+{
+    c_answers::list_text(text, room).give(answer)
+}
+
+// Accepted: the number of lines read.
+#[no_mangle]
+pub extern "C" fn pw_read_back(
+    text: &[u8],
+    length: u32,
+    image: &mut [u8],
+    marks: &mut [u8],
+    answer: &mut [i64; 5],
+) -> u32
+    ensures { λ r. ⌜ (r ≡ numberOf (backAnswer (now (text .entry)) length (now (image .entry)) (now (marks .entry)))) × (now (answer .exit) ≡ valuesOf countValues (backAnswer (now (text .entry)) length (now (image .entry)) (now (marks .entry)))) × (now (image .exit) ≡ backImage (now (text .entry)) length (now (image .entry)) (now (marks .entry))) × (now (marks .exit) ≡ backMarks (now (text .entry)) length (now (image .entry)) (now (marks .entry))) ⌝ }
+{
+    c_answers::read_back(text, length, image, marks).give(answer)
+}

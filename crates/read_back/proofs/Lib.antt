@@ -1,0 +1,12 @@
+pub mod Letters
+pub mod NoLetters
+pub mod Lines
+pub mod Sames
+pub mod Codes
+pub mod Records
+pub mod Reading
+pub mod Notes
+pub mod Turning
+pub mod Going
+pub mod Backs
+pub mod Counting

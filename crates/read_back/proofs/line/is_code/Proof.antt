@@ -1,0 +1,111 @@
+-- `line::is_code` meets its contract.
+-- Assumes nothing.
+use mathlib.Core.Path.{_≡_, refl, ap, _∙_}
+use mathlib.Core.List.{List}
+use Prim.Native.Nat.{ℕ, _/_, _≤_}
+use native.Mathlib.Omega.{arith}
+use borrow.Author.Needs.{needs}
+use lib.ListN.{length, take, replicate, length-take}
+use lib.Seq.{sets, length-sets}
+use Rattle.text.specs.Bytes.{bytesOf}
+use Rattle.text.specs.Four.{fourOf}
+use Rattle.targets.proofs.HereIs.{to-end}
+use Rattle.text.proofs.Putting.{puts-length}
+use Rattle.read_back.specs.Line.{positionOn, bytesOn}
+use Rattle.read_back.proofs.Codes.{digits-short, too-wide, read-bytes, other-width, other-end, compared}
+use Rattle.read_back.proofs.line.is_code.Statement.{statement}
+use Rattle.read_back.proofs.line.is_code.Tie as tie
+
+returns : tie.Need-returns
+returns c = too-wide (c .before .before .args .line .now) (c .if1 .taken)
+
+abbrev start : tie.Else1 → tie.Start
+start c = c .before .before
+
+abbrev line : tie.Else1 → List ℕ
+line c = start c .args .line .now
+
+abbrev got : tie.After-digits → List ℕ
+got d = d .digits .result .now
+
+-- the digits are no more than the line has bytes
+few : (d : tie.After-digits) → length (got d) ≤ 30
+few d = let e = d .before in omega (arith, ap length (d .digits .ensures), digits-short (line e), e .if1 .left)
+
+-- the room of 16 holds their bytes
+wrote : (u : tie.After-put) → u .put .last .1 .0 ≡ sets (replicate 16 0) 0 (bytesOf (got (u .before .before)))
+wrote u = u .put .ensures
+
+long : (u : tie.After-put) → length (u .put .last .1 .0) ≡ 16
+long u = ap length (wrote u) ∙ length-sets (replicate 16 0) 0 (bytesOf (got (u .before .before)))
+
+prefix : tie.Need-array-share-prefix-code
+prefix c =
+    let u = c .before .before .before in
+    omega (arith, few (u .before .before), long u)
+
+left : tie.Need-sub-four-of
+left c = let s = start (c .before .before .before .before) in omega (arith, s .pre)
+
+starts : tie.Need-part-four-of-start
+starts c = let s = start (c .before .before .before .before) in omega (arith, s .pre)
+
+part : tie.Need-slice-aggregate-code-line
+part c =
+    let u = c .before .before .before .before in
+    omega (arith, few (u .before .before), long u, length-take (length (got (u .before .before)) / 2) (u .put .last .1 .0))
+
+abbrev put : tie.After-code-line → tie.After-put
+put k = k .before .before .before .before .before .before
+
+abbrev from : tie.After-code-line → tie.Else1
+from k = put k .before .before .before
+
+position : (k : tie.After-code-line) → k .before .before .before .four-of .result ≡ positionOn (line (from k))
+position k = k .before .before .before .four-of .ensures ∙ ap fourOf (to-end (line (from k)) 2)
+
+bytes : (k : tie.After-code-line) → take (length (got (put k .before .before)) / 2) (put k .put .last .1 .0) ≡ bytesOn (line (from k))
+bytes k =
+    let u = put k in
+    let d = u .before .before in
+    ap (take (length (got d) / 2)) (wrote u) ∙ read-bytes (line (from k)) (got d) (d .digits .ensures) (replicate 16 0) refl (few d)
+
+returns-2 : tie.Need-returns-2
+returns-2 c =
+    let k = c .before .before in
+    other-width (line (from k)) _ _ _ _ _ (position k) (bytes k) refl (k .code-line .ensures) (c .if2 .taken)
+
+returns-3 : tie.Need-returns-3
+returns-3 c =
+    let e = c .before in
+    let k = e .before .before in
+    other-end (line (from k)) _ _ _ _ _ (position k) (bytes k) refl (k .code-line .ensures) (e .if2 .left) (c .if3 .taken)
+
+returns-4 : tie.Need-returns-4
+returns-4 c =
+    let f = c .before .before in
+    let e = f .before in
+    let k = e .before .before in
+    c .same .ensures ∙ compared (line (from k)) _ _ _ _ _ (position k) (bytes k) refl (k .code-line .ensures) (e .if2 .left) (f .if3 .left)
+
+narrow : (k : tie.After-code-line) → length (line (from k)) ≤ 30
+narrow k = from k .if1 .left
+
+add : tie.Need-add-if2
+add c = record { fits = omega (arith, narrow (c .before)) }
+
+read : tie.Need-array-read-if3
+read c = omega (arith, narrow (c .before .before))
+
+shared : tie.Need-array-share-prefix-room
+shared c = let k = c .before .before .before in omega (arith, narrow k, puts-length (k .code-line .ensures))
+
+shown : tie.Need-slice-aggregate-same
+shown c =
+    let k = c .before .before .before .before in
+    omega (arith, narrow k, puts-length (k .code-line .ensures), length-take (length (line (from k))) (k .code-line .last .1 .1 .0))
+
+pub is-code-spec : {M : Type 1} → statement M
+is-code-spec =
+    tie.close
+    (tie.spec returns (λ c κs. search needs) (λ c. refl) (λ c κs. search needs) left starts (λ c. search needs) (λ c κs. search needs) prefix part (λ c. refl) (λ c κs. search needs) add returns-2 read returns-3 shared shown (λ c κs. search needs) returns-4)

@@ -1,0 +1,7 @@
+pub mod Order
+pub mod Line
+pub mod Read
+pub mod Sheet
+pub mod Turn
+pub mod Back
+pub mod Gone

@@ -1,0 +1,20 @@
+// A listing read back: places and the order of lines, one line, and the whole listing.
+pub mod back;
+mod laying;
+mod line;
+pub mod order;
+pub mod place;
+pub mod read;
+mod turn;
+
+pub use back::Restored;
+pub use back::read_back;
+pub use line::digits;
+pub use line::has_bytes;
+pub use order::follows;
+pub use order::line_after;
+pub use order::rank;
+pub use place::Place;
+pub use place::Record;
+pub use read::Read;
+pub use read::read_line;

@@ -1,0 +1,2 @@
+pub mod ClaimsBack
+pub mod ClaimsUnlisted

@@ -1,0 +1,1 @@
+// Theorems about listings read back; no code.

@@ -1,3 +1,0 @@
-pub mod Wider
-pub mod Told
-pub mod Fitting

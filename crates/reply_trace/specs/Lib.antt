@@ -1,2 +1,0 @@
-pub mod Tracing
-pub mod Counts

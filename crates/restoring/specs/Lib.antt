@@ -1,4 +1,0 @@
-pub mod Sheet
-pub mod Turn
-pub mod Back
-pub mod Gone

@@ -1,4 +1,0 @@
-pub mod Damages
-pub mod Stepping
-pub mod StepAnswers
-pub mod Starting

@@ -1,0 +1,82 @@
+-- The answer of the sweeping engine from that of start. Assumes nothing.
+use Prim.Native.Nat.{ℕ, _<_, _≤_}
+use native.Mathlib.Omega.{arith}
+use mathlib.Core.Path.{_≡_, sym, ap, _∙_}
+use mathlib.Core.Logic.{_⊎_, inl, inr}
+use mathlib.Core.List.{List, [], _∷_}
+use lib.IntN.{ℤ, pos}
+use lib.ListN.{length, take}
+use Rattle.instruction.specs.Answer.{Answer, accepted, refused, after}
+use Rattle.instruction.proofs.Judging.{done, refuses-too}
+use Rattle.reach.specs.Mark.{cleared, tracedMark, count}
+use Rattle.reach.specs.Note.{note, fresh}
+use Rattle.reach.specs.Sweep.{sweptMarks}
+use Rattle.reach.proofs.Cases.{lt-or-le}
+use Rattle.reach.proofs.Order.{cleared-base}
+use Rattle.reach.proofs.Start.{start-long, start-count}
+use Rattle.marks.specs.Refusals.{sizeRefusals}
+use Rattle.marks.specs.Tracer.{tracerOf}
+use Rattle.marks.proofs.Sizing.{long-image, short-marks, right-sizes}
+use Rattle.trace.specs.Start.{startAnswer, startMarks}
+use Rattle.sweep.specs.Sweep.{Said, saidOf, tallyOf, sweepAnswer, sweepLeaves}
+use Rattle.sweep.specs.declared.sweep.Tally.{Tally}
+use Rattle.sweep.proofs.Sweeping.{Ended}
+
+-- what the inner function answers and leaves is where the sweeps end
+pub told : (image m m′ : List ℕ) (sweeps steps : ℕ) (t : Tally) → (t .sweeps ≡ sweeps) × (t .steps ≡ steps) → Ended (tracerOf image) m m′ sweeps steps → (tallyOf t ≡ saidOf image m) × (m′ ≡ sweptMarks (tracerOf image) m)
+told image m m′ sweeps steps t h E =
+    let a = h .0 ∙ E .sweeps-are in let b = h .1 ∙ E .steps-are in (rw (a, b), E .marks-are)
+
+module _ (image marks entries : List ℕ) where
+  abbrev n : ℕ
+  n = length image
+
+  abbrev set : ℕ
+  set = length (fresh n entries (cleared n marks))
+
+  abbrev Is : Answer Said → List ℕ → Type 0
+  Is a m = (a ≡ sweepAnswer image marks entries) × (m ≡ sweepLeaves image marks entries)
+
+  -- a refusal of start is one here, and changes nothing
+  pub refused-too : (k : ℕ) (vs : List ℤ) (m : List ℕ) → refused k vs ≡ startAnswer image marks entries → m ≡ startMarks image marks entries → Is (refused k vs) m
+  unfolding startAnswer startMarks sweepAnswer sweepLeaves
+  refused-too k vs m e f =
+      let g = refuses-too (sizeRefusals image marks) set (saidOf image (startMarks image marks entries)) k vs (sym e) in
+      (sym g, f ∙ ap (λ (a : Answer ℕ). after a (note n entries (cleared n marks)) marks) (sym e) ∙ ap (λ (a : Answer Said). after a (sweptMarks (tracerOf image) (startMarks image marks entries)) marks) (sym g))
+
+  module _ (k : ℕ) (e : accepted k ≡ startAnswer image marks entries) where
+    not-refused : (j : ℕ) (vs : List ℤ) → startAnswer image marks entries ≡ refused j vs → ⊥
+    not-refused j vs f = let z : _≡_ {A = ℕ} 0 1 = cc in omega arith
+
+    pub small : n ≤ 65536
+    unfolding startAnswer
+    small = by (lt-or-le 65536 n)
+      where
+        by : (65536 < n) ⊎ (n ≤ 65536) → n ≤ 65536
+        by (inl h) = absurd (not-refused 1 (pos n ∷ []) (long-image image marks [] set h))
+        by (inr h) = h
+
+    pub room : n ≤ length marks
+    unfolding startAnswer
+    room = by (lt-or-le (length marks) n)
+      where
+        by : (length marks < n) ⊎ (n ≤ length marks) → n ≤ length marks
+        by (inl h) = absurd (not-refused 2 (pos (length marks) ∷ []) (short-marks image marks [] set small h))
+        by (inr h) = h
+
+    begun : startMarks image marks entries ≡ note n entries (cleared n marks)
+    unfolding startMarks
+    begun = ap (λ (a : Answer ℕ). after a (note n entries (cleared n marks)) marks) (sym e)
+
+    pub begun-long : n ≤ length (startMarks image marks entries)
+    begun-long = rw begun (start-long (tracerOf image) entries (cleared n marks) (cleared-base (tracerOf image) marks room))
+
+    pub begun-count : count tracedMark (take n (startMarks image marks entries)) ≡ 0
+    begun-count = rw begun (start-count (tracerOf image) entries (cleared n marks) (cleared-base (tracerOf image) marks room))
+
+    pub swept : (t : Tally) (m m′ : List ℕ) → m ≡ startMarks image marks entries → (tallyOf t ≡ saidOf image m) × (m′ ≡ sweptMarks (tracerOf image) m) → Is (accepted (tallyOf t)) m′
+    unfolding sweepAnswer sweepLeaves
+    swept t m m′ f S =
+        let s = startMarks image marks entries in
+        let g = right-sizes image marks [] (saidOf image s) small room ∙ done (saidOf image s) in
+        (ap accepted (S .0 ∙ ap (saidOf image) f) ∙ sym g, S .1 ∙ ap (sweptMarks (tracerOf image)) f ∙ ap (λ (a : Answer Said). after a (sweptMarks (tracerOf image) s) marks) (sym g))

@@ -1,0 +1,39 @@
+-- What the sweeping engine answers and leaves. Document 02, W6; document 01, 'Marks and steps', and refusals 1 and 2, as in start.
+-- Assumes nothing.
+use Prim.Native.Nat.{ℕ}
+use mathlib.Core.List.{List, [], _∷_}
+use lib.IntN.{pos}
+use Rattle.instruction.specs.Answer.{Answer, accepted, refused, judge, after}
+use Rattle.reach.specs.Sweep.{sweptMarks, sweeps, sweptSteps}
+use Rattle.marks.specs.Refusals.{sizeRefusals}
+use Rattle.marks.specs.Tracer.{tracerOf}
+use Rattle.trace.specs.Start.{startMarks}
+use Rattle.sweep.specs.declared.sweep.Tally.{Tally}
+use Rattle.sweep.specs.declared.sweep.Swept.{Swept}
+use Rattle.sweep.specs.declared.sweep.Swept.the-variants.{Ended, LongImage, ShortMarks}
+
+-- the sweeps, the last one counted, and the steps, which are the marks 2 and 3 afterwards
+pub record Said : Type 0 where
+  pub sweeps : ℕ
+  pub steps : ℕ
+
+-- of sweeps over these marks
+abbrev pub saidOf : List ℕ → List ℕ → Said
+saidOf image m = record { sweeps = sweeps (tracerOf image) m; steps = sweptSteps (tracerOf image) m }
+
+abbrev pub tallyOf : Tally → Said
+tallyOf t = record { sweeps = t .sweeps; steps = t .steps }
+
+abbrev pub sweptOf : Swept → Answer Said
+sweptOf (Ended t) = accepted (tallyOf t)
+sweptOf (LongImage n) = refused 1 (pos n ∷ [])
+sweptOf (ShortMarks n) = refused 2 (pos n ∷ [])
+
+-- it starts as start does
+unfoldable pub sweepAnswer : List ℕ → List ℕ → List ℕ → Answer Said
+sweepAnswer image marks entries = judge (sizeRefusals image marks) (saidOf image (startMarks image marks entries))
+
+-- the marks where the sweeps end
+unfoldable pub sweepLeaves : List ℕ → List ℕ → List ℕ → List ℕ
+sweepLeaves image marks entries =
+    after (sweepAnswer image marks entries) (sweptMarks (tracerOf image) (startMarks image marks entries)) marks

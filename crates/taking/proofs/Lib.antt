@@ -1,2 +1,0 @@
-pub mod OneNoted
-pub mod TakeUp

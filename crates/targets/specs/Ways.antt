@@ -1,0 +1,39 @@
+-- Where control goes from a position: at most two positions. Document 01, 'Targets' and 'Marks and steps'.
+-- Assumes nothing.
+use Prim.Native.Nat.{ℕ}
+use mathlib.Core.Bool.{Bool, cond, _&&_}
+use mathlib.Core.List.{List, [], _∷_}
+use lib.Dec.{ltb, leb}
+use lib.ListN.{length}
+use Rattle.instruction.specs.Decode.{cutAt}
+use Rattle.targets.specs.At.{fitsHere, waysHere, nameHere}
+use Rattle.targets.specs.declared.place.Places.{Places}
+use Rattle.targets.specs.declared.place.Places.the-variants.{Nothing, First, Both}
+use Rattle.targets.specs.declared.place.Ways.{Ways}
+use Rattle.targets.specs.declared.place.Ways.the-variants.{Goes, Cut, Outside}
+
+-- these positions, in their order
+abbrev pub placesIn : Places → List ℕ
+placesIn Nothing = []
+placesIn (First a) = a ∷ []
+placesIn (Both a b) = a ∷ b ∷ []
+
+-- the first two of these positions
+abbrev pub placesNamed : List ℕ → Places
+placesNamed [] = Nothing
+placesNamed (a ∷ []) = First a
+placesNamed (a ∷ b ∷ ts) = Both a b
+
+-- a position inside an image of at most 65,536 bytes, where the instruction is not cut off
+abbrev pub isWhole : List ℕ → ℕ → Bool
+isWhole image p = (ltb p (length image) && leb (length image) 65536) && fitsHere image p
+
+-- the position that the instruction at p names, where it is whole
+unfoldable pub nameOf : List ℕ → ℕ → ℕ
+nameOf image p = cond (isWhole image p) (nameHere image p) 65536
+
+-- the positions that the targets at p name, where the instruction there is whole; a position is inside an image of at most 65,536 bytes
+unfoldable pub waysOf : List ℕ → ℕ → Ways
+waysOf image p =
+    cond (ltb p (length image) && leb (length image) 65536)
+    (cond (fitsHere image p) (Goes (placesNamed (waysHere image p))) (Cut (cutAt image p))) Outside

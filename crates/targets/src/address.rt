@@ -1,0 +1,142 @@
+// The address that an instruction names, and its targets from it.
+// Ported from `targets`, `rel8` and `rel16` of src/disasm.rs of wtetzner/waterbear, and changed: targets are signed numbers, and the arms
+// for 70 forms go by the flow and by the kind of the last operand.
+ghost use mathlib.Core.Path.{_≡_};
+ghost use mathlib.Core.Bool.{true, false};
+ghost use Prim.Native.Nat.{_+_, _-_, _*_, _/_, _%_, _≤_, _<_};
+ghost use lib.IntN.{pos, natAbs, _+ℤ_};
+ghost use lib.Signed.{ltZ};
+ghost use Rattle.instruction.specs.Answer.{accepted};
+ghost use Rattle.instruction.specs.Range.{unfit};
+ghost use Rattle.instruction.specs.declared.kind.Kind.the-variants.{Page, Short, Long};
+ghost use Rattle.instruction.specs.Encode.{fitAnswer};
+ghost use lib.ListN.{length};
+ghost use Rattle.targets.specs.At.{sizeHere, fitsHere, instrHere, placeOf};
+ghost use Rattle.targets.specs.Targets.{addressOf, addressIn, isGiven, targetsIn, targetsOf};
+use crate::here;
+use crate::here::Here;
+use crate::image::Image;
+use crate::place;
+use crate::target::Targets;
+use instruction::Flow;
+use instruction::Instr;
+use instruction::Kind;
+
+// Next plus a signed offset, unwrapped.
+fn short(next: u32, z: i32) -> i32
+    requires { ⌜ (next ≤ 65536) × (unfit Short z ≡ false) ⌝ }
+    ensures { λ r. ⌜ r ≡ pos next +ℤ z ⌝ }
+{
+    next as i32 + z
+}
+
+// An operand's number that is not below 0.
+fn unsigned(z: i32) -> u32
+    requires { ⌜ ltZ z (pos 0) ≡ false ⌝ }
+    ensures { λ r. ⌜ r ≡ natAbs z ⌝ }
+{
+    z as u32
+}
+
+fn signed(n: u32) -> i32
+    requires { ⌜ n ≤ 65536 ⌝ }
+    ensures { λ r. ⌜ r ≡ pos n ⌝ }
+{
+    n as i32
+}
+
+// The byte before next plus an offset, wrapped at sixteen bits.
+fn long(next: u32, z: i32) -> i32
+    requires { ⌜ (1 ≤ next) × (next ≤ 65536) × (unfit Long z ≡ false) ⌝ }
+    ensures { λ r. ⌜ r ≡ pos ((next - 1 + natAbs z) % 65536) ⌝ }
+{
+    let offset = unsigned(z) as u16;
+    signed(std::num::wrapping_add_u16((next - 1) as u16, offset) as u32)
+}
+
+// Twelve bits on next's page.
+fn page(next: u32, z: i32) -> i32
+    requires { ⌜ (next ≤ 65536) × (unfit Page z ≡ false) ⌝ }
+    ensures { λ r. ⌜ r ≡ pos (next / 4096 % 16 * 4096 + natAbs z) ⌝ }
+{
+    signed(next / 4096 % 16 * 4096 + unsigned(z))
+}
+
+fn is_given(kind: Kind) -> bool
+    ensures { λ r. ⌜ r ≡ isGiven kind ⌝ }
+{
+    match kind {
+        Kind::Absent => false,
+        Kind::Immediate => true,
+        Kind::Direct => true,
+        Kind::Register => true,
+        Kind::BitNumber => true,
+        Kind::Page => true,
+        Kind::Far => true,
+        Kind::Short => true,
+        Kind::Long => true,
+    }
+}
+
+// The address that an operand names.
+fn address_of(next: u32, kind: Kind, z: i32) -> i32
+    requires { ⌜ (1 ≤ next) × (next ≤ 65536) × (unfit kind z ≡ false) ⌝ }
+    ensures { λ r. ⌜ r ≡ addressOf next kind z ⌝ }
+{
+    match kind {
+        Kind::Absent => z,
+        Kind::Immediate => z,
+        Kind::Direct => z,
+        Kind::Register => z,
+        Kind::BitNumber => z,
+        Kind::Page => page(next, z),
+        Kind::Far => z,
+        Kind::Short => short(next, z),
+        Kind::Long => long(next, z),
+    }
+}
+
+// The address that an instruction names: its last operand's.
+pub fn address_in(next: u32, instr: Instr) -> i32
+    requires { ⌜ (1 ≤ next) × (next ≤ 65536) × (fitAnswer instr ≡ accepted tt) ⌝ }
+    ensures { λ r. ⌜ r ≡ addressIn next instr ⌝ }
+{
+    let v = instr.apart();
+    let k = instr.kinds();
+    let ka = k.a;
+    let kb = k.b;
+    let kc = k.c;
+    if is_given(kc) {
+        return address_of(next, kc, v.c);
+    }
+    if is_given(kb) {
+        return address_of(next, kb, v.b);
+    }
+    address_of(next, ka, v.a)
+}
+
+// The position that the address of the instruction at p names.
+pub fn place_at(image: &[u8], p: u32, next: u32) -> u32
+    requires { ⌜ (p < length (now image)) × (length (now image) ≤ 65536) ⌝ }
+    requires { ⌜ (fitsHere (now image) p ≡ true) × (next ≡ p + sizeHere (now image) p) ⌝ }
+    ensures { λ r. ⌜ r ≡ placeOf (addressIn (p + sizeHere (now (image .entry)) p) (instrHere (now (image .entry)) p)) ⌝ }
+{
+    match here::instr_at(image, p) {
+        Here::Whole(i) => place::place(address_in(next, i)),
+        Here::Cut(_) => Image::NOWHERE,
+        Here::Outside => Image::NOWHERE,
+    }
+}
+
+// The targets of an instruction whose fields are in range and that ends within memory.
+pub fn ways(next: u32, instr: Instr) -> Targets
+    requires { ⌜ (1 ≤ next) × (next ≤ 65536) × (fitAnswer instr ≡ accepted tt) ⌝ }
+    ensures { λ r. ⌜ targetsOf r ≡ accepted (targetsIn next instr) ⌝ }
+{
+    match instr.flow() {
+        Flow::Stop => Targets::Nowhere,
+        Flow::Next => Targets::One(signed(next)),
+        Flow::Jump => Targets::One(address_in(next, instr)),
+        Flow::Branch => Targets::Two(address_in(next, instr), signed(next)),
+    }
+}

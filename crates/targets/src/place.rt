@@ -1,0 +1,64 @@
+// Where control goes from a position of an image.
+ghost use mathlib.Core.Path.{_≡_};
+ghost use mathlib.Core.Bool.{true};
+ghost use Prim.Native.Nat.{_+_, _≤_, _<_};
+ghost use Rattle.instruction.specs.Flow.{flowOf};
+ghost use lib.ListN.{length};
+ghost use Rattle.targets.specs.At.{formHere, sizeHere, fitsHere, placeOf, waysHere};
+ghost use Rattle.targets.specs.Ways.{placesIn, waysOf};
+use crate::address;
+use crate::image::Image;
+use crate::opening;
+use crate::opening::Opening;
+use instruction::CutOff;
+use instruction::Flow;
+
+// At most two positions, in their order.
+pub enum Places {
+    Nothing,
+    First(u32),
+    Both(u32, u32),
+}
+
+pub enum Ways {
+    // The positions that the targets name.
+    Goes(Places),
+    // The instruction is cut off by the end.
+    Cut(CutOff),
+    // The position is not inside, or the image is past its limit.
+    Outside,
+}
+
+// The position that a target names; one below 0 lies outside every image.
+pub fn place(t: i32) -> u32
+    ensures { λ r. ⌜ r ≡ placeOf t ⌝ }
+{
+    if t < 0 {
+        return Image::NOWHERE;
+    }
+    t as u32
+}
+
+// The positions that the targets of the instruction at p name, by where it ends and where control goes.
+fn places_by(image: &[u8], p: u32, next: u32, flow: Flow) -> Places
+    requires { ⌜ (p < length (now image)) × (length (now image) ≤ 65536) ⌝ }
+    requires { ⌜ (fitsHere (now image) p ≡ true) × (next ≡ p + sizeHere (now image) p) × (flow ≡ flowOf (formHere (now image) p)) ⌝ }
+    ensures { λ r. ⌜ placesIn r ≡ waysHere (now (image .entry)) p ⌝ }
+{
+    match flow {
+        Flow::Stop => Places::Nothing,
+        Flow::Next => Places::First(next),
+        Flow::Jump => Places::First(address::place_at(image, p, next)),
+        Flow::Branch => Places::Both(address::place_at(image, p, next), next),
+    }
+}
+
+pub fn ways_at(image: &[u8], p: u32) -> Ways
+    ensures { λ r. ⌜ r ≡ waysOf (now (image .entry)) p ⌝ }
+{
+    match opening::opening_at(image, p) {
+        Opening::Whole(next, flow) => Ways::Goes(places_by(image, p, next, flow)),
+        Opening::Cut(c) => Ways::Cut(c),
+        Opening::Outside => Ways::Outside,
+    }
+}

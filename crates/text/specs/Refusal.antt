@@ -1,0 +1,13 @@
+-- The line that a program prints where it refuses. Document 01, 'The listing'; document 02, W1 and W2.
+-- Assumes nothing.
+use Prim.Native.Nat.{ℕ}
+use mathlib.Core.List.{List, [], _∷_, _++_}
+use Rattle.text.specs.Decimal.{decimal}
+
+-- `R`, tab, the number
+unfoldable pub numberLine : ℕ → List ℕ
+numberLine n = 82 ∷ 9 ∷ decimal n ++ 10 ∷ []
+
+-- and after it a tab and a value
+unfoldable pub valueLine : ℕ → ℕ → List ℕ
+valueLine n v = 82 ∷ 9 ∷ decimal n ++ 9 ∷ decimal v ++ 10 ∷ []

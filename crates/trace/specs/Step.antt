@@ -1,0 +1,71 @@
+-- What a step answers and leaves. Document 01, 'Marks and steps' and the order of refusals: 1, 2, 4, 6 at p, 5, 6 at p - 2 (read only for
+-- a Jmpf with B8 0D before it), 6 at the targets in their order. In a step, damage is a byte over 3 that it reads.
+-- Assumes nothing.
+use Prim.Native.Nat.{ℕ, _-_}
+use mathlib.Core.Bool.{Bool, not, _&&_, _||_}
+use mathlib.Core.List.{List, [], _∷_, _++_}
+use lib.Dec.{ltb, leb, eqb}
+use lib.IntN.{pos}
+use lib.ListN.{length, getD}
+use Rattle.instruction.specs.Answer.{Answer, accepted, refused, Refusal, refuse, judge, after}
+use Rattle.instruction.specs.CutOff.{cutValues}
+use Rattle.instruction.specs.Decode.{cutAt}
+use Rattle.reach.specs.Tracer.{targets, mark, took, found}
+use Rattle.marks.specs.Refusals.{sizeRefusals, damaged}
+use Rattle.marks.specs.Tracer.{tracerOf}
+use Rattle.targets.specs.At.{fitsHere, flashHere}
+use Rattle.trace.specs.declared.damage.Hurt.{Hurt}
+use Rattle.trace.specs.declared.damage.Hurt.the-variants.{Sound, At}
+use Rattle.trace.specs.declared.step.Stepped.{Stepped}
+use Rattle.trace.specs.declared.step.Stepped.the-variants.{Traced, LongImage, ShortMarks, NotWaiting, Cut, Damaged}
+
+-- 4: position not inside, with 0, or mark 0, 2, 3, with it
+abbrev pub idle : ℕ → Bool
+idle v = eqb v 0 || (eqb v 2 || eqb v 3)
+
+-- 6 at each of the positions ts that is inside, in their order
+unfoldable pub damages : ℕ → List ℕ → List ℕ → List Refusal
+damages n m [] = []
+damages n m (t ∷ ts) = refuse (ltb t n && damaged (getD m t 0)) 6 (pos t ∷ []) ∷ damages n m ts
+
+-- 6 at p - 2, read only for a Jmpf with B8 0D before it; 6 at the targets in their order
+unfoldable pub damageRefusals : List ℕ → List ℕ → ℕ → List Refusal
+damageRefusals image m p =
+    refuse (flashHere image p && damaged (getD m (p - 2) 0)) 6 (pos (p - 2) ∷ []) ∷ damages (length image) m (targets (tracerOf image) m p)
+
+unfoldable pub stepRefusals : List ℕ → List ℕ → ℕ → List Refusal
+stepRefusals image m p =
+    sizeRefusals image m
+    ++ (refuse (leb (length image) p) 4 (pos 0 ∷ [])
+    ∷ refuse (idle (getD m p 0)) 4 (pos (getD m p 0) ∷ [])
+    ∷ refuse (damaged (getD m p 0)) 6 (pos p ∷ [])
+    ∷ refuse (not (fitsHere image p)) 5 (cutValues (cutAt image p))
+    ∷ damageRefusals image m p)
+
+-- the new mark, and how many became 1
+pub record Said : Type 0 where
+  pub mark : ℕ
+  pub waiting : ℕ
+
+-- of the inner search for damage
+abbrev pub hurtOf : Hurt → Answer (Unit {0})
+hurtOf Sound = accepted tt
+hurtOf (At q) = refused 6 (pos q ∷ [])
+
+abbrev pub steppedOf : Stepped → Answer Said
+steppedOf (Traced s) = accepted (record { mark = s .mark; waiting = s .waiting })
+steppedOf (LongImage n) = refused 1 (pos n ∷ [])
+steppedOf (ShortMarks n) = refused 2 (pos n ∷ [])
+steppedOf (NotWaiting v) = refused 4 (pos v ∷ [])
+steppedOf (Cut c) = refused 5 (cutValues c)
+steppedOf (Damaged q) = refused 6 (pos q ∷ [])
+
+abbrev pub saidOf : List ℕ → List ℕ → ℕ → Said
+saidOf image m p = record { mark = mark (tracerOf image) m p; waiting = length (found (tracerOf image) m p) }
+
+unfoldable pub stepAnswer : List ℕ → List ℕ → ℕ → Answer Said
+stepAnswer image m p = judge (stepRefusals image m p) (saidOf image m p)
+
+-- the position taken up; a refused step changes nothing
+unfoldable pub stepMarks : List ℕ → List ℕ → ℕ → List ℕ
+stepMarks image m p = after (stepAnswer image m p) (took (tracerOf image) m p) m

@@ -1,0 +1,38 @@
+-- What is printed of a listing read back. Document 02, W1: the image as the listing program's image lines, or one line of `R`, tab, the
+-- number of the refusal, tab, its value.
+-- Assumes nothing.
+use Prim.Native.Nat.{ℕ, zero, suc}
+use mathlib.Core.List.{List, [], _∷_, _++_}
+use lib.IntN.{ℤ, natAbs}
+use lib.ListN.{length, take, drop, replicate}
+use Rattle.instruction.specs.Answer.{Answer, accepted, refused}
+use Rattle.listing.specs.Hex.{hexes}
+use Rattle.read_back.specs.Back.{backAnswer, backImage}
+use Rattle.text.specs.Refusal.{valueLine}
+
+-- bytes on k lines at most, 32 to a line, each ended by byte 10
+unfoldable pub linesOf : ℕ → List ℕ → List ℕ
+linesOf zero bytes = []
+linesOf (suc k) [] = []
+linesOf (suc k) (b ∷ bs) = hexes (take 32 (b ∷ bs)) ++ 10 ∷ linesOf k (drop 32 (b ∷ bs))
+
+-- an image as image lines, the last of 1 to 32 bytes
+unfoldable pub imageText : List ℕ → List ℕ
+imageText bytes = linesOf (length bytes) bytes
+
+-- the one value of a refusal
+abbrev pub valueOf : List ℤ → ℕ
+valueOf [] = 0
+valueOf (v ∷ vs) = natAbs v
+
+-- the image and the marks that a listing is read into: as many places as an image may have
+unfoldable pub zeros : List ℕ
+zeros = replicate 65536 0
+
+-- of an image of n bytes, or of the refusal
+abbrev pub printed : ℕ → List ℕ → Answer ℕ → List ℕ
+printed n image (accepted k) = imageText (take n image)
+printed n image (refused r vs) = valueLine r (valueOf vs)
+
+unfoldable pub unlistedOf : List ℕ → ℕ → List ℕ
+unlistedOf text n = printed n (backImage text n zeros zeros) (backAnswer text n zeros zeros)
