@@ -6,6 +6,8 @@ use mathlib.Core.Bool.{Bool, cond, _&&_}
 use mathlib.Core.List.{List, [], _∷_}
 use lib.Dec.{eqb, ltb}
 use lib.ListN.{length}
+use Rattle.instruction.specs.Answer.{Answer}
+use Rattle.views.specs.View.{viewAnswer, viewRoom}
 use Rattle.targets.specs.Ways.{isWhole}
 use Rattle.reach.specs.Tracer.{held}
 use Rattle.marks.specs.Tracer.{tracerOf}
@@ -22,6 +24,13 @@ arrives image m p q = ltb p (length image) && some (eqb p) (heldAt image m q)
 
 unfoldable pub arrivalsOf : List ℕ → List ℕ → ℕ → List ℕ
 arrivalsOf image m p = kept (arrives image m p) (positions image)
+
+-- what the view answers, and what it leaves in the room
+abbrev pub arrivalsAnswer : List ℕ → List ℕ → ℕ → List ℕ → Answer ℕ
+arrivalsAnswer image m p room = viewAnswer image m (arrivalsOf image m p) room
+
+abbrev pub arrivalsRoom : List ℕ → List ℕ → ℕ → List ℕ → List ℕ
+arrivalsRoom image m p room = viewRoom image m (arrivalsOf image m p) room
 
 -- the first of these positions, or else n
 abbrev pub firstOr : ℕ → List ℕ → ℕ

@@ -6,11 +6,11 @@ use mathlib.Core.List.{List}
 use mathlib.Core.Path.{_≡_}
 use lib.ListN.{length}
 use Rattle.arrivals.specs.Arrivals.{heldAt, arrives, nextArrival}
-use Rattle.arrivals.specs.Index.{indexOf, firstIn, nextIn}
+use Rattle.arrivals.specs.Index.{indexOf, lowestIn, nextIn}
 
 -- at every position of the image
 abbrev pub FirstIndexed : Type 0
-FirstIndexed = (image m : List ℕ) (p : ℕ) → p < length image → firstIn (indexOf image m) p ≡ nextArrival image m p 0
+FirstIndexed = (image m : List ℕ) (p : ℕ) → p < length image → lowestIn (indexOf image m) p ≡ nextArrival image m p 0
 
 -- after every q that arrives at p
 abbrev pub NextIndexed : Type 0

@@ -28,8 +28,8 @@ unfoldable pub roomOf : List ℕ → List ℕ → List ℕ → List ℕ
 roomOf image m room = cond (ltb 65536 (length image) || not (eqb (length room) (3 * length image))) room (indexOf image m)
 
 -- what is asked of an index: the lowest arrival at p
-abbrev pub firstIn : List ℕ → ℕ → ℕ
-firstIn index p = getD index p 65536
+abbrev pub lowestIn : List ℕ → ℕ → ℕ
+lowestIn index p = getD index p 65536
 
 -- the next at p after q in an image of n bytes, by the targets that q had; none past the limit
 unfoldable pub nextIn : List ℕ → ℕ → List ℕ → ℕ → ℕ → ℕ

@@ -2,14 +2,14 @@
 // Ported from the `jump_from` sets of `build_instruction_graph` of src/disasm.rs of wtetzner/waterbear, and changed: they are worked out from
 // the marks, and the positions go to lent room.
 ghost use mathlib.Core.Path.{_≡_};
-ghost use mathlib.Core.List.{_++_};
 ghost use Prim.Native.Nat.{_≤_};
 ghost use lib.Dec.{eqb};
-ghost use lib.ListN.{length, drop};
+ghost use lib.ListN.{length};
 ghost use Rattle.targets.specs.Ways.{placesIn};
 ghost use Rattle.views.specs.Positions.{some};
-ghost use Rattle.views.specs.View.{viewedOf, viewAnswer, viewRoom};
-ghost use Rattle.arrivals.specs.Arrivals.{arrives, arrivalsOf, nextArrival};
+ghost use Rattle.views.specs.View.{viewedOf};
+ghost use Rattle.arrivals.specs.Arrivals.{arrives, arrivalsOf, nextArrival, arrivalsAnswer, arrivalsRoom};
+ghost use Rattle.instruction.specs.Answer.{laid};
 use crate::held;
 use targets::Image;
 use targets::Places;
@@ -75,7 +75,7 @@ fn count_arrivals(image: &[u8], marks: &[u8], p: u32) -> usize
 
 fn write_arrivals(image: &[u8], marks: &[u8], p: u32, room: &mut [u32])
     requires { ⌜ (length (now image) ≤ 65536) × (length (arrivalsOf (now image) (now marks) p) ≤ length (now room)) ⌝ }
-    ensures { λ _. ⌜ now (room .exit) ≡ arrivalsOf (now (image .entry)) (now (marks .entry)) p ++ drop (length (arrivalsOf (now (image .entry)) (now (marks .entry)) p)) (now (room .entry)) ⌝ }
+    ensures { λ _. ⌜ now (room .exit) ≡ laid (arrivalsOf (now (image .entry)) (now (marks .entry)) p) (now (room .entry)) ⌝ }
 {
     let n = image.len() as u32;
     let mut i: usize = 0;
@@ -89,7 +89,8 @@ fn write_arrivals(image: &[u8], marks: &[u8], p: u32, room: &mut [u32])
 
 // The traced positions that have p among the targets they had when they were taken up, upward.
 pub fn arrivals(image: &[u8], marks: &[u8], p: u32, room: &mut [u32]) -> Viewed
-    ensures { λ r. ⌜ (viewedOf r ≡ viewAnswer (now (image .entry)) (now (marks .entry)) (arrivalsOf (now (image .entry)) (now (marks .entry)) p) (now (room .entry))) × (now (room .exit) ≡ viewRoom (now (image .entry)) (now (marks .entry)) (arrivalsOf (now (image .entry)) (now (marks .entry)) p) (now (room .entry))) ⌝ }
+    ensures { λ r. ⌜ viewedOf r ≡ arrivalsAnswer (now (image .entry)) (now (marks .entry)) p (now (room .entry)) ⌝ }
+    ensures { λ _. ⌜ now (room .exit) ≡ arrivalsRoom (now (image .entry)) (now (marks .entry)) p (now (room .entry)) ⌝ }
 {
     let v = views::check(image, marks);
     if !v.is_written() {

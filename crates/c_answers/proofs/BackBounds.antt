@@ -14,11 +14,11 @@ use Rattle.read_back.specs.Line.{positionOn, recordOf}
 use Rattle.read_back.specs.Order.{start, placeAfter}
 use Rattle.read_back.specs.declared.place.Place.{Place}
 use Rattle.read_back.specs.Back.{restoredOf, isFit, lineRefusals, backAnswer}
-use Rattle.read_back.specs.Sheet.{Sheet, blank, listedOn, reach, noted}
+use Rattle.read_back.specs.Sheet.{Sheet, emptySheet, listedOn, reach, sheetWith}
 use Rattle.read_back.specs.declared.back.Restored.{Restored}
 use Rattle.read_back.specs.declared.back.Restored.the-variants.{Written, LongImage, ShortMarks, NoRoom, Malformed, PastEnd}
 use Rattle.read_back.proofs.Counting.{lines-few, after-most}
-use Rattle.c_answers.specs.BackCounts.{numberIn}
+use Rattle.c_answers.specs.BackCounts.{numberInRestored}
 
 -- the number that an answer carries
 abbrev valueIn : Answer ℕ → ℕ
@@ -26,7 +26,7 @@ valueIn (accepted k) = k
 valueIn (refused r []) = 0
 valueIn (refused r (v ∷ vs)) = natAbs v
 
-number-is : (r : Restored) → numberIn r ≡ valueIn (restoredOf r)
+number-is : (r : Restored) → numberInRestored r ≡ valueIn (restoredOf r)
 number-is (Written k) = refl
 number-is (LongImage n) = refl
 number-is (ShortMarks n) = refl
@@ -40,9 +40,9 @@ unfolding lineRefusals judge placeAfter
 refused-low n b [] place sheet k = omega arith
 refused-low n b (l ∷ ls) place sheet k =
     by (isFit place sheet l) (reach n (positionOn l) (listedOn l))
-    (refused-low n b ls (placeAfter place (length l) (recordOf l)) (noted sheet l) (omega (arith, k, after-most (place .line))))
+    (refused-low n b ls (placeAfter place (length l) (recordOf l)) (sheetWith sheet l) (omega (arith, k, after-most (place .line))))
   where
-    by : (f r : Bool) → valueIn (judge (lineRefusals n (placeAfter place (length l) (recordOf l)) (noted sheet l) ls) b) ≤ b → valueIn (judge (refuse (not f) 15 (pos (place .line) ∷ []) ∷ refuse r 16 (pos (place .line) ∷ []) ∷ lineRefusals n (placeAfter place (length l) (recordOf l)) (noted sheet l) ls) b) ≤ b
+    by : (f r : Bool) → valueIn (judge (lineRefusals n (placeAfter place (length l) (recordOf l)) (sheetWith sheet l) ls) b) ≤ b → valueIn (judge (refuse (not f) 15 (pos (place .line) ∷ []) ∷ refuse r 16 (pos (place .line) ∷ []) ∷ lineRefusals n (placeAfter place (length l) (recordOf l)) (sheetWith sheet l) ls) b) ≤ b
     by true true rest = omega arith
     by true false rest = rest
     by false r rest = omega arith
@@ -52,11 +52,11 @@ module _ (text : List ℕ) (n : ℕ) (image marks : List ℕ) (t : length text <
   unfolding backAnswer judge
   answer-small = by (ltb 65536 n) (ltb (length marks) n) (ltb (length image) n)
     where
-      by : (a b c : Bool) → valueIn (judge (refuse a 1 (pos n ∷ []) ∷ refuse b 2 (pos (length marks) ∷ []) ∷ refuse c 11 (pos n ∷ []) ∷ lineRefusals n start (blank n) (lines text)) (length (lines text))) < 2 ^ 63
+      by : (a b c : Bool) → valueIn (judge (refuse a 1 (pos n ∷ []) ∷ refuse b 2 (pos (length marks) ∷ []) ∷ refuse c 11 (pos n ∷ []) ∷ lineRefusals n start (emptySheet n) (lines text)) (length (lines text))) < 2 ^ 63
       by true b c = h
       by false true c = m
       by false false true = h
-      by false false false = omega (arith, refused-low n (length (lines text)) (lines text) start (blank n) (omega arith), lines-few text)
+      by false false false = omega (arith, refused-low n (length (lines text)) (lines text) start (emptySheet n) (omega arith), lines-few text)
 
-  pub back-small : (r : Restored) → restoredOf r ≡ backAnswer text n image marks → numberIn r < 2 ^ 63
+  pub back-small : (r : Restored) → restoredOf r ≡ backAnswer text n image marks → numberInRestored r < 2 ^ 63
   back-small r e = rw (number-is r ∙ ap valueIn e) answer-small

@@ -8,7 +8,7 @@ use lib.IntN.{ℤ, pos}
 use lib.ListN.{length}
 use Rattle.instruction.specs.Answer.{Answer, accepted, refused}
 use Rattle.reach.specs.Run.{End, finished, stopped, cutOff, steps, noted}
-use Rattle.trace.specs.Run.{ranOf, runAnswer, runRefusals, runJudged, ranAnswer, outcomeOf, endOf, orElse, Said}
+use Rattle.trace.specs.Run.{ranOf, runAnswer, runRefusals, runJudged, ranAnswer, outcomeOf, endOf, andThen, RunResult}
 use Rattle.trace.specs.Start.{startedOf, startAnswer}
 use Rattle.trace.specs.Step.{steppedOf, stepAnswer, stepRefusals, damageRefusals, damages}
 use Rattle.trace.specs.declared.run.Ran.{Ran}
@@ -41,7 +41,7 @@ unfolding damageRefusals
 damage-later image m p = (later (omega arith), damages-later (length image) m _)
 
 -- the refusals of a run that it meets before it begins
-begun : {A : Type 0} (j : Answer A) (b : Answer Said) (n : ℕ) (vs : List ℤ) → (refused n vs ≡ b → n ≡ 5) → n < 4 → refused n vs ≡ orElse j b → refused n vs ≡ j
+begun : {A : Type 0} (j : Answer A) (b : Answer RunResult) (n : ℕ) (vs : List ℤ) → (refused n vs ≡ b → n ≡ 5) → n < 4 → refused n vs ≡ andThen j b → refused n vs ≡ j
 begun (accepted a) b n vs f h e = let p : n ≡ 5 = f e in absurd (omega arith)
 begun (refused k ws) b n vs f h e = let p : n ≡ k = cc in let q : vs ≡ ws = cc in rw (p, q) refl
 

@@ -8,12 +8,12 @@ use native.Mathlib.Omega.{arith}
 use lib.Dec.{ltb}
 use lib.IntN.{pos}
 use lib.ListN.{length}
+use Rattle.instruction.specs.Bytes.{Bytes}
 use Rattle.instruction.specs.Answer.{Refusal, refuse}
 use Rattle.instruction.proofs.Judging.{accepts}
 use Rattle.instruction.proofs.Carried.{Each, each-append, carries}
 use Rattle.reach.proofs.Cases.{lt-or-le}
 use Rattle.marks.proofs.Sizing.{long-image}
-use Rattle.trace_laws.specs.ClaimsImages.{Bytes}
 use Rattle.views.specs.View.{viewRefusals, viewedOf, roomAnswer, viewAnswer}
 use Rattle.views.specs.declared.view.Viewed.{Viewed}
 use Rattle.views.specs.declared.view.Viewed.the-variants.{Written, LongImage, ShortMarks, Damaged, NoRoom}

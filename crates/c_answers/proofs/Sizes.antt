@@ -17,7 +17,7 @@ use Rattle.instruction.proofs.Shapes.{size-range}
 use Rattle.targets.specs.Targets.{nextOf, targetsOf, targetsAnswer}
 use Rattle.targets.specs.declared.target.Targets.{Targets}
 use Rattle.targets.specs.declared.target.Targets.the-variants as targets
-use Rattle.c_answers.specs.CodecCounts.{countIn, nextIn}
+use Rattle.c_answers.specs.CodecCounts.{lengthInEncoded, nextInTargets}
 use Rattle.instruction.proofs.Carried.{carries}
 
 pub size-small : (i : Instr) → sizeOf (formIn i) < 2 ^ 63
@@ -30,7 +30,7 @@ Needed i n vs = n ≡ 11 → vs ≡ pos (sizeOf (formIn i)) ∷ []
 other : {A : Type 0} → _≡_ {A = ℕ} 7 11 → A
 other e = absurd (omega arith)
 
-pub count-small : (i : Instr) (room : List ℕ) (e : Encoded) → encodedOf e ≡ encodeAnswer i room → countIn e < 2 ^ 63
+pub count-small : (i : Instr) (room : List ℕ) (e : Encoded) → encodedOf e ≡ encodeAnswer i room → lengthInEncoded e < 2 ^ 63
 unfolding encodeAnswer Needed
 count-small i room (Written n) e = rw (← accepts _ _ n (sym e)) (size-small i)
 count-small i room (Unfit m) e = omega arith
@@ -49,7 +49,7 @@ next-small : (position : ℕ) (i : Instr) → position < 2 ^ 32 → nextOf posit
 next-small position i h =
     let k : sizeOf (formIn i) < 4 = size-range (partsOf i .form) (known i .small) .1 in omega arith
 
-pub targets-small : (position : ℕ) (i : Instr) (t : Targets) → position < 2 ^ 32 → targetsOf t ≡ targetsAnswer position i → nextIn t < 2 ^ 63
+pub targets-small : (position : ℕ) (i : Instr) (t : Targets) → position < 2 ^ 32 → targetsOf t ≡ targetsAnswer position i → nextInTargets t < 2 ^ 63
 unfolding targetsAnswer Next
 targets-small position i targets.Nowhere h e = omega arith
 targets-small position i (targets.One a) h e = omega arith

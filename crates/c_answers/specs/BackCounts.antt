@@ -6,10 +6,10 @@ use Rattle.read_back.specs.declared.back.Restored.{Restored}
 use Rattle.read_back.specs.declared.back.Restored.the-variants.{Written, LongImage, ShortMarks, NoRoom, Malformed, PastEnd}
 
 -- the number that an answer names
-abbrev pub numberIn : Restored → ℕ
-numberIn (Written k) = k
-numberIn (LongImage n) = n
-numberIn (ShortMarks n) = n
-numberIn (NoRoom n) = n
-numberIn (Malformed k) = k
-numberIn (PastEnd k) = k
+abbrev pub numberInRestored : Restored → ℕ
+numberInRestored (Written k) = k
+numberInRestored (LongImage n) = n
+numberInRestored (ShortMarks n) = n
+numberInRestored (NoRoom n) = n
+numberInRestored (Malformed k) = k
+numberInRestored (PastEnd k) = k

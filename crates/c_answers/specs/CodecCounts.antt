@@ -8,15 +8,15 @@ use Rattle.targets.specs.declared.target.Targets.{Targets}
 use Rattle.targets.specs.declared.target.Targets.the-variants as targets
 
 -- the number of bytes that an answer of encode names
-abbrev pub countIn : Encoded → ℕ
-countIn (Written n) = n
-countIn (Unfit m) = 0
-countIn (NoRoom n) = n
+abbrev pub lengthInEncoded : Encoded → ℕ
+lengthInEncoded (Written n) = n
+lengthInEncoded (Unfit m) = 0
+lengthInEncoded (NoRoom n) = n
 
 -- the position past memory's end that an answer of targets names
-abbrev pub nextIn : Targets → ℕ
-nextIn targets.Nowhere = 0
-nextIn (targets.One a) = 0
-nextIn (targets.Two a b) = 0
-nextIn (targets.PastEnd n) = n
-nextIn (targets.Unfit m) = 0
+abbrev pub nextInTargets : Targets → ℕ
+nextInTargets targets.Nowhere = 0
+nextInTargets (targets.One a) = 0
+nextInTargets (targets.Two a b) = 0
+nextInTargets (targets.PastEnd n) = n
+nextInTargets (targets.Unfit m) = 0

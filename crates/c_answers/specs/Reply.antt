@@ -13,9 +13,9 @@ abbrev pub five : List ℤ → List ℤ
 five vs = getD vs 0 (pos 0) ∷ getD vs 1 (pos 0) ∷ getD vs 2 (pos 0) ∷ getD vs 3 (pos 0) ∷ getD vs 4 (pos 0) ∷ []
 
 -- 0 where the call is accepted
-abbrev pub numberOf : {A : Type 0} → Answer A → ℕ
-numberOf (accepted a) = 0
-numberOf (refused n vs) = n
+abbrev pub refusalNumber : {A : Type 0} → Answer A → ℕ
+refusalNumber (accepted a) = 0
+refusalNumber (refused n vs) = n
 
 -- the call's own values where it is accepted, and the refusal's where it is refused
 abbrev pub valuesOf : {A : Type 0} → (A → List ℤ) → Answer A → List ℤ
@@ -27,7 +27,7 @@ abbrev pub reply : ℕ → List ℤ → Reply
 reply n vs = record { number = n; values = five vs }
 
 abbrev pub replyOf : {A : Type 0} → (A → List ℤ) → Answer A → Reply
-replyOf own a = record { number = numberOf a; values = valuesOf own a }
+replyOf own a = record { number = refusalNumber a; values = valuesOf own a }
 
 -- the values of a call that is accepted with a number alone
 abbrev pub countValues : ℕ → List ℤ

@@ -2,12 +2,14 @@
 ghost use mathlib.Core.Path.{_≡_};
 ghost use Rattle.read_back.specs.Back.{backAnswer, backImage, backMarks};
 ghost use Rattle.c_answers.specs.Reply.{replyOf, countValues};
-use crate::back_outcome;
+use crate::back_replies;
 use crate::reply::Reply;
 
 // Accepted: the number of lines read.
 pub fn read_back(text: &[u8], length: u32, image: &mut [u8], marks: &mut [u8]) -> Reply
-    ensures { λ r. ⌜ (r ≡ replyOf countValues (backAnswer (now (text .entry)) length (now (image .entry)) (now (marks .entry)))) × (now (image .exit) ≡ backImage (now (text .entry)) length (now (image .entry)) (now (marks .entry))) × (now (marks .exit) ≡ backMarks (now (text .entry)) length (now (image .entry)) (now (marks .entry))) ⌝ }
+    ensures { λ r. ⌜ r ≡ replyOf countValues (backAnswer (now (text .entry)) length (now (image .entry)) (now (marks .entry))) ⌝ }
+    ensures { λ _. ⌜ now (image .exit) ≡ backImage (now (text .entry)) length (now (image .entry)) (now (marks .entry)) ⌝ }
+    ensures { λ _. ⌜ now (marks .exit) ≡ backMarks (now (text .entry)) length (now (image .entry)) (now (marks .entry)) ⌝ }
 {
-    back_outcome::restored(read_back::read_back(text, length as usize, image, marks))
+    back_replies::restored(read_back::read_back(text, length as usize, image, marks))
 }

@@ -6,7 +6,7 @@ ghost use Rattle.instruction.specs.Resolve.{resolveAnswer};
 ghost use Rattle.targets.specs.Targets.{targetsAnswer};
 ghost use Rattle.c_answers.specs.Reply.{replyOf, countValues};
 ghost use Rattle.c_answers.specs.Codec.{instrValues, named, targetsValues};
-use crate::codec_outcome;
+use crate::codec_replies;
 use crate::reply::Reply;
 use instruction::Instr;
 
@@ -14,26 +14,27 @@ use instruction::Instr;
 pub fn decode(bytes: &[u8]) -> Reply
     ensures { λ r. ⌜ r ≡ replyOf instrValues (decodeAnswer (now (bytes .entry))) ⌝ }
 {
-    codec_outcome::decoded(Instr::decode(bytes))
+    codec_replies::decoded(Instr::decode(bytes))
 }
 
 // Accepted: the number of bytes written.
 pub fn encode(first: u8, a: i32, b: i32, c: i32, out: &mut [u8]) -> Reply
-    ensures { λ r. ⌜ (r ≡ replyOf countValues (encodeAnswer (named first a b c) (now (out .entry)))) × (now (out .exit) ≡ encodeRoom (named first a b c) (now (out .entry))) ⌝ }
+    ensures { λ r. ⌜ r ≡ replyOf countValues (encodeAnswer (named first a b c) (now (out .entry))) ⌝ }
+    ensures { λ _. ⌜ now (out .exit) ≡ encodeRoom (named first a b c) (now (out .entry)) ⌝ }
 {
-    codec_outcome::encoded(Instr::with_first(first, a, b, c).encode(out))
+    codec_replies::encoded(Instr::with_first(first, a, b, c).encode(out))
 }
 
 // Accepted: form, size, three fields.
 pub fn resolve(first: u8, a: i32, b: i32, c: i32, base: u32) -> Reply
     ensures { λ r. ⌜ r ≡ replyOf instrValues (resolveAnswer (named first a b c) base) ⌝ }
 {
-    codec_outcome::resolved(Instr::with_first(first, a, b, c).resolve(base))
+    codec_replies::resolved(Instr::with_first(first, a, b, c).resolve(base))
 }
 
 // Accepted: how many targets, then the targets.
 pub fn targets(position: u32, first: u8, a: i32, b: i32, c: i32) -> Reply
     ensures { λ r. ⌜ r ≡ replyOf targetsValues (targetsAnswer position (named first a b c)) ⌝ }
 {
-    codec_outcome::targeted(targets::targets(position, Instr::with_first(first, a, b, c)))
+    codec_replies::targeted(targets::targets(position, Instr::with_first(first, a, b, c)))
 }

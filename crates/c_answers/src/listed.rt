@@ -1,13 +1,13 @@
 // The listing, answered by replies.
 ghost use mathlib.Core.Path.{_≡_};
 ghost use mathlib.Core.List.{[]};
-ghost use Rattle.views.specs.View.{roomAnswer, roomAfter, viewAnswer, viewRoom};
-ghost use Rattle.listing.specs.Walk.{listingOf};
+ghost use Rattle.views.specs.View.{roomAnswer, roomAfter};
+ghost use Rattle.listing.specs.Walk.{listingAnswer, listingRoom};
 ghost use Rattle.list_text.specs.Output.{outputOf};
 ghost use Rattle.c_answers.specs.Reply.{replyOf, countValues};
 ghost use Rattle.c_answers.specs.Listing.{choiceOf};
 use crate::reply::Reply;
-use crate::view_outcome;
+use crate::view_replies;
 use listing::Arrivals;
 
 fn choice(arrivals: u32) -> Arrivals
@@ -21,14 +21,16 @@ fn choice(arrivals: u32) -> Arrivals
 
 // Accepted: the number of bytes written.
 pub fn listing(image: &[u8], marks: &[u8], arrivals: u32, room: &mut [u8]) -> Reply
-    ensures { λ r. ⌜ (r ≡ replyOf countValues (viewAnswer (now (image .entry)) (now (marks .entry)) (listingOf (now (image .entry)) (now (marks .entry)) (choiceOf arrivals)) (now (room .entry)))) × (now (room .exit) ≡ viewRoom (now (image .entry)) (now (marks .entry)) (listingOf (now (image .entry)) (now (marks .entry)) (choiceOf arrivals)) (now (room .entry))) ⌝ }
+    ensures { λ r. ⌜ r ≡ replyOf countValues (listingAnswer (now (image .entry)) (now (marks .entry)) (choiceOf arrivals) (now (room .entry))) ⌝ }
+    ensures { λ _. ⌜ now (room .exit) ≡ listingRoom (now (image .entry)) (now (marks .entry)) (choiceOf arrivals) (now (room .entry)) ⌝ }
 {
-    view_outcome::viewed(listing::listing_with(image, marks, choice(arrivals), room))
+    view_replies::viewed(listing::listing_with(image, marks, choice(arrivals), room))
 }
 
 // Accepted: the number of bytes written, those of a refusal's line among them.
 pub fn list_text(text: &[u8], room: &mut [u8]) -> Reply
-    ensures { λ r. ⌜ (r ≡ replyOf countValues (roomAnswer [] (outputOf (now (text .entry))) (now (room .entry)))) × (now (room .exit) ≡ roomAfter [] (outputOf (now (text .entry))) (now (room .entry))) ⌝ }
+    ensures { λ r. ⌜ r ≡ replyOf countValues (roomAnswer [] (outputOf (now (text .entry))) (now (room .entry))) ⌝ }
+    ensures { λ _. ⌜ now (room .exit) ≡ roomAfter [] (outputOf (now (text .entry))) (now (room .entry)) ⌝ }
 {
-    view_outcome::viewed(list_text::list_text(text, room))
+    view_replies::viewed(list_text::list_text(text, room))
 }

@@ -56,7 +56,8 @@ impl Reply {
 
     // The values go into the caller's room, and the number is the answer.
     pub fn give(self, answer: &mut [i64; 5]) -> u32
-        ensures { λ r. ⌜ (r ≡ self .number) × (now (answer .exit) ≡ self .values) ⌝ }
+        ensures { λ r. ⌜ r ≡ self .number ⌝ }
+        ensures { λ _. ⌜ now (answer .exit) ≡ self .values ⌝ }
     {
         let values = self.values;
         *answer = values;

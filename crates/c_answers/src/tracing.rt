@@ -6,25 +6,29 @@ ghost use Rattle.trace.specs.Run.{runAnswer, runMarks, runOrder};
 ghost use Rattle.c_answers.specs.Reply.{replyOf, countValues};
 ghost use Rattle.c_answers.specs.Tracing.{stepValues, runValues};
 use crate::reply::Reply;
-use crate::trace_outcome;
+use crate::trace_replies;
 
 // Accepted: the number of positions set.
 pub fn start(image: &[u8], marks: &mut [u8], entries: &[u32]) -> Reply
-    ensures { λ r. ⌜ (r ≡ replyOf countValues (startAnswer (now (image .entry)) (now (marks .entry)) (now (entries .entry)))) × (now (marks .exit) ≡ startMarks (now (image .entry)) (now (marks .entry)) (now (entries .entry))) ⌝ }
+    ensures { λ r. ⌜ r ≡ replyOf countValues (startAnswer (now (image .entry)) (now (marks .entry)) (now (entries .entry))) ⌝ }
+    ensures { λ _. ⌜ now (marks .exit) ≡ startMarks (now (image .entry)) (now (marks .entry)) (now (entries .entry)) ⌝ }
 {
-    trace_outcome::started(trace::start::start(image, marks, entries))
+    trace_replies::started(trace::start::start(image, marks, entries))
 }
 
 // Accepted: the new mark, and how many positions became waiting.
 pub fn step(image: &[u8], marks: &mut [u8], p: u32) -> Reply
-    ensures { λ r. ⌜ (r ≡ replyOf stepValues (stepAnswer (now (image .entry)) (now (marks .entry)) p)) × (now (marks .exit) ≡ stepMarks (now (image .entry)) (now (marks .entry)) p) ⌝ }
+    ensures { λ r. ⌜ r ≡ replyOf stepValues (stepAnswer (now (image .entry)) (now (marks .entry)) p) ⌝ }
+    ensures { λ _. ⌜ now (marks .exit) ≡ stepMarks (now (image .entry)) (now (marks .entry)) p ⌝ }
 {
-    trace_outcome::stepped(trace::step::step(image, marks, p))
+    trace_replies::stepped(trace::step::step(image, marks, p))
 }
 
 // Accepted: 1 where it finished or 0 where the limit stopped it, the steps, and the positions noted.
 pub fn run(image: &[u8], marks: &mut [u8], order: &mut [u32], entries: &[u32], limit: u32) -> Reply
-    ensures { λ r. ⌜ (r ≡ replyOf runValues (runAnswer (now (image .entry)) (now (marks .entry)) (now (order .entry)) (now (entries .entry)) limit)) × (now (marks .exit) ≡ runMarks (now (image .entry)) (now (marks .entry)) (now (order .entry)) (now (entries .entry)) limit) × (now (order .exit) ≡ runOrder (now (image .entry)) (now (marks .entry)) (now (order .entry)) (now (entries .entry)) limit) ⌝ }
+    ensures { λ r. ⌜ r ≡ replyOf runValues (runAnswer (now (image .entry)) (now (marks .entry)) (now (order .entry)) (now (entries .entry)) limit) ⌝ }
+    ensures { λ _. ⌜ now (marks .exit) ≡ runMarks (now (image .entry)) (now (marks .entry)) (now (order .entry)) (now (entries .entry)) limit ⌝ }
+    ensures { λ _. ⌜ now (order .exit) ≡ runOrder (now (image .entry)) (now (marks .entry)) (now (order .entry)) (now (entries .entry)) limit ⌝ }
 {
-    trace_outcome::ran(trace::run::run(image, marks, order, entries, limit))
+    trace_replies::ran(trace::run::run(image, marks, order, entries, limit))
 }

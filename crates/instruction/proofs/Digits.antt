@@ -5,7 +5,7 @@ use Prim.Native.Nat.{ℕ, zero, suc, _+_, _*_, _/_, _%_, _^_, _<_}
 use native.Mathlib.Nat.{add-zero, add-comm, mul-suc, mul-zero, pow-zero, div-one, div-div-eq-div-mul, mul-add-div, div-eq-of-lt, mul-add-mod-self-left, mod-eq-of-lt}
 use native.Mathlib.Omega.{arith}
 use lib.Pow.{pow-add, pow-pos}
-use Rattle.instruction.specs.Eights.{digitsFrom}
+use Rattle.instruction.specs.Tables.{digitsFrom}
 
 -- digits of b bits
 module _ (b : ℕ) where

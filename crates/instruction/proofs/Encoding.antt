@@ -9,13 +9,13 @@ use lib.Dec.{leb}
 use lib.ListN.{getD, length, drop}
 use borrow.Author.Tests.{lt-ltb, le-ltb, leb-true, leb-false}
 use Rattle.instruction.specs.Answer.{Answer, accepted, refused, after}
-use Rattle.instruction.specs.Encode.{formIn, misfits, fitAnswer, encodeAnswer, encodeRoom, bytesIn}
+use Rattle.instruction.specs.Encode.{formIn, misfits, fitAnswer, encodeAnswer, encodeRoom, instrBytes}
 use Rattle.instruction.specs.Range.{unfit}
 use Rattle.instruction.specs.Forms.{formAt, bits, sizeOf}
 use Rattle.instruction.specs.Kinds.{kindAt}
 use Rattle.instruction.specs.Parts.{partsOf}
 use Rattle.instruction.specs.Code.{codeOf}
-use Rattle.instruction.specs.Layout.{blank, bytesBy, roomAfter}
+use Rattle.instruction.specs.Layout.{blank, bytesBy, writtenRoom}
 use Rattle.instruction.specs.Pattern.{value}
 use Rattle.instruction.specs.declared.instr.Instr.{Instr}
 use Rattle.instruction.specs.declared.instr.Parts.{Parts}
@@ -59,7 +59,7 @@ module _ (i : Instr) (room : List ℕ) where
   need = sizeOf (formIn i)
 
   -- what is left to say once the answer is known
-  held : (r : Answer ℕ) → encodeAnswer i room ≡ r → (t : List ℕ) → after r (bytesIn i ++ drop need room) room ≡ t → (r ≡ encodeAnswer i room) × (t ≡ encodeRoom i room)
+  held : (r : Answer ℕ) → encodeAnswer i room ≡ r → (t : List ℕ) → after r (instrBytes i ++ drop need room) room ≡ t → (r ≡ encodeAnswer i room) × (t ≡ encodeRoom i room)
   unfolding encodeRoom
   held r e t f = (sym e, rw e (sym f))
 
@@ -72,7 +72,7 @@ module _ (i : Instr) (room : List ℕ) where
   unfolding fitAnswer encodeAnswer
   no-room e h = held (refused 11 (pos need ∷ [])) (past-all _ tt need (misfits i) (sym e) ∙ stop _ _ _ (lt-ltb (length room) need h)) room refl
 
-  pub writes : accepted tt ≡ fitAnswer i → need ≤ length room → (t : List ℕ) → bytesIn i ++ drop need room ≡ t → (accepted need ≡ encodeAnswer i room) × (t ≡ encodeRoom i room)
+  pub writes : accepted tt ≡ fitAnswer i → need ≤ length room → (t : List ℕ) → instrBytes i ++ drop need room ≡ t → (accepted need ≡ encodeAnswer i room) × (t ≡ encodeRoom i room)
   unfolding fitAnswer encodeAnswer
   writes e h t f =
       held (accepted need) (past-all _ tt need (misfits i) (sym e) ∙ pass _ _ _ (le-ltb (length room) need h) ∙ done _) t f
@@ -80,23 +80,23 @@ module _ (i : Instr) (room : List ℕ) where
   -- the same of what the code wrote by the shape
   module _ (v : Parts) (apart : v ≡ partsOf i) (t : Shape) (shape : t ≡ formAt (v .form) .shape) (u : ℕ) (fixed : u ≡ value (getD (bits (formAt (v .form))) 0 []) []) (fit : accepted tt ≡ fitAnswer i) (n : ℕ) (size : n ≡ length (blank t)) where
     abbrev room′ : List ℕ
-    room′ = roomAfter u t (v .a) (v .b) (v .c) room
+    room′ = writtenRoom u t (v .a) (v .b) (v .c) room
 
     needed : length (blank t) ≡ need
     needed = sized (v .form) t (form-small i apart) shape ∙ ap (λ (w : Parts). sizeOf (formAt (w .form))) apart
 
     pub short : leb (length (blank t)) (length room) ≡ false → (s : List ℕ) → s ≡ room′ → (refused 11 (pos n ∷ []) ≡ encodeAnswer i room) × (s ≡ encodeRoom i room)
-    unfolding roomAfter
+    unfolding writtenRoom
     short h s e =
         let l : length room < need = rw (← needed) (leb-false (length (blank t)) (length room) h) in
         let o : s ≡ room = e ∙ rw h refl in
         rw (size ∙ needed, o) (no-room fit l)
 
     pub wrote : leb (length (blank t)) (length room) ≡ true → (s : List ℕ) → s ≡ room′ → (accepted n ≡ encodeAnswer i room) × (s ≡ encodeRoom i room)
-    unfolding roomAfter bytesIn
+    unfolding writtenRoom instrBytes
     wrote h s e =
         let l : need ≤ length room = rw (← needed) (leb-true (length (blank t)) (length room) h) in
         let ns : List ℕ = codeOf (v .a) ∷ codeOf (v .b) ∷ codeOf (v .c) ∷ [] in
-        let b : bytesBy u t ns ≡ bytesIn i = by-shape (v .form) t (form-small i apart) shape u fixed ns ∙ rw apart refl in
-        let o : bytesIn i ++ drop need room ≡ s = sym (e ∙ rw (h, b, needed) refl) in
+        let b : bytesBy u t ns ≡ instrBytes i = by-shape (v .form) t (form-small i apart) shape u fixed ns ∙ rw apart refl in
+        let o : instrBytes i ++ drop need room ≡ s = sym (e ∙ rw (h, b, needed) refl) in
         rw (size ∙ needed) (writes fit l s o)

@@ -7,6 +7,7 @@ use native.Mathlib.Omega.{arith}
 use native.Mathlib.Nat.{zero-add, add-zero}
 use lib.IntN.{ℤ, pos}
 use lib.ListN.{getD}
+use Rattle.instruction.specs.Bytes.{Bytes}
 use Rattle.instruction.specs.Kinds.{kindsOf}
 use Rattle.instruction.specs.declared.kind.Shape.{Shape}
 use Rattle.instruction.specs.declared.kind.Shape.the-variants.{Bare, Imm, D9, Ri, ImmD9, ImmRi, D9B3, A12, A16, R16, R8, D9B3R8, D9R8, RiR8, ImmR8, RiImmR8}
@@ -39,27 +40,24 @@ closed RiR8 x p q = make (pos (x % 4)) (shortOf p) (pos 0)
 closed ImmR8 x p q = make (pos p) (shortOf q) (pos 0)
 closed RiImmR8 x p q = make (pos (x % 4)) (pos p) (shortOf q)
 
-pub record Bytes (s : List ℕ) : Type 0 where
-  pub small : (i : ℕ) → getD s i 0 < 256
-
 says : (t : Shape) (s : List ℕ) → Bytes s → fieldsBy t s ≡ closed t (getD s 0 0) (getD s 1 0) (getD s 2 0)
 unfolding fieldsBy closed blank kindsOf
 says Bare s h = make3 refl refl refl
-says Imm s h = rw (low8 (getD s 1 0) (h .small 1)) (simp (add-zero, zero-add) (make3 (ap pos (omega arith)) refl refl))
-says D9 s h = rw (low8 (getD s 1 0) (h .small 1)) (simp (add-zero, zero-add) (make3 (ap pos (omega arith)) refl refl))
+says Imm s h = rw (low8 (getD s 1 0) (h 1)) (simp (add-zero, zero-add) (make3 (ap pos (omega arith)) refl refl))
+says D9 s h = rw (low8 (getD s 1 0) (h 1)) (simp (add-zero, zero-add) (make3 (ap pos (omega arith)) refl refl))
 says Ri s h = make3 (ap pos (omega arith)) refl refl
-says ImmD9 s h = rw (low8 (getD s 1 0) (h .small 1), low8 (getD s 2 0) (h .small 2)) (simp (add-zero, zero-add) (make3 (ap pos (omega arith)) (ap pos (omega arith)) refl))
-says ImmRi s h = rw (low8 (getD s 1 0) (h .small 1)) (simp (add-zero, zero-add) (make3 (ap pos (omega arith)) (ap pos (omega arith)) refl))
-says D9B3 s h = rw (low8 (getD s 1 0) (h .small 1)) (simp (add-zero, zero-add, low3) (make3 (ap pos (omega arith)) (ap pos (omega arith)) refl))
-says A12 s h = rw (low8 (getD s 1 0) (h .small 1)) (simp (add-zero, zero-add, high3) (make3 (ap pos (omega arith)) refl refl))
-says A16 s h = rw (high8 (getD s 1 0) (h .small 1), low8 (getD s 2 0) (h .small 2)) (simp (add-zero, zero-add) (make3 (ap pos (omega arith)) refl refl))
-says R16 s h = rw (low8 (getD s 1 0) (h .small 1), high8 (getD s 2 0) (h .small 2)) (simp (add-zero, zero-add) (make3 (ap pos (omega arith)) refl refl))
-says R8 s h = rw (low8 (getD s 1 0) (h .small 1)) (simp (add-zero, zero-add) (make3 refl refl refl))
-says D9B3R8 s h = rw (low8 (getD s 1 0) (h .small 1), low8 (getD s 2 0) (h .small 2)) (simp (add-zero, zero-add, low3) (make3 (ap pos (omega arith)) (ap pos (omega arith)) refl))
-says D9R8 s h = rw (low8 (getD s 1 0) (h .small 1), low8 (getD s 2 0) (h .small 2)) (simp (add-zero, zero-add) (make3 (ap pos (omega arith)) refl refl))
-says RiR8 s h = rw (low8 (getD s 1 0) (h .small 1)) (simp (add-zero, zero-add) (make3 (ap pos (omega arith)) refl refl))
-says ImmR8 s h = rw (low8 (getD s 1 0) (h .small 1), low8 (getD s 2 0) (h .small 2)) (simp (add-zero, zero-add) (make3 (ap pos (omega arith)) refl refl))
-says RiImmR8 s h = rw (low8 (getD s 1 0) (h .small 1), low8 (getD s 2 0) (h .small 2)) (simp (add-zero, zero-add) (make3 (ap pos (omega arith)) (ap pos (omega arith)) refl))
+says ImmD9 s h = rw (low8 (getD s 1 0) (h 1), low8 (getD s 2 0) (h 2)) (simp (add-zero, zero-add) (make3 (ap pos (omega arith)) (ap pos (omega arith)) refl))
+says ImmRi s h = rw (low8 (getD s 1 0) (h 1)) (simp (add-zero, zero-add) (make3 (ap pos (omega arith)) (ap pos (omega arith)) refl))
+says D9B3 s h = rw (low8 (getD s 1 0) (h 1)) (simp (add-zero, zero-add, low3) (make3 (ap pos (omega arith)) (ap pos (omega arith)) refl))
+says A12 s h = rw (low8 (getD s 1 0) (h 1)) (simp (add-zero, zero-add, high3) (make3 (ap pos (omega arith)) refl refl))
+says A16 s h = rw (high8 (getD s 1 0) (h 1), low8 (getD s 2 0) (h 2)) (simp (add-zero, zero-add) (make3 (ap pos (omega arith)) refl refl))
+says R16 s h = rw (low8 (getD s 1 0) (h 1), high8 (getD s 2 0) (h 2)) (simp (add-zero, zero-add) (make3 (ap pos (omega arith)) refl refl))
+says R8 s h = rw (low8 (getD s 1 0) (h 1)) (simp (add-zero, zero-add) (make3 refl refl refl))
+says D9B3R8 s h = rw (low8 (getD s 1 0) (h 1), low8 (getD s 2 0) (h 2)) (simp (add-zero, zero-add, low3) (make3 (ap pos (omega arith)) (ap pos (omega arith)) refl))
+says D9R8 s h = rw (low8 (getD s 1 0) (h 1), low8 (getD s 2 0) (h 2)) (simp (add-zero, zero-add) (make3 (ap pos (omega arith)) refl refl))
+says RiR8 s h = rw (low8 (getD s 1 0) (h 1)) (simp (add-zero, zero-add) (make3 (ap pos (omega arith)) refl refl))
+says ImmR8 s h = rw (low8 (getD s 1 0) (h 1), low8 (getD s 2 0) (h 2)) (simp (add-zero, zero-add) (make3 (ap pos (omega arith)) refl refl))
+says RiImmR8 s h = rw (low8 (getD s 1 0) (h 1), low8 (getD s 2 0) (h 2)) (simp (add-zero, zero-add) (make3 (ap pos (omega arith)) (ap pos (omega arith)) refl))
 
 pub read : (t : Shape) (s : List ℕ) → Bytes s → closed t (getD s 0 0) (getD s 1 0) (getD s 2 0) ≡ fieldsBy t s
 read t s h = sym (says t s h)

@@ -8,10 +8,10 @@ use borrow.Author.Tests.{lt-ltb, le-ltb}
 use Rattle.instruction.specs.Answer.{accepted, refused, Refusal, judge}
 use Rattle.instruction.specs.declared.kind.Kinds.{Kinds}
 use Rattle.instruction.proofs.Judging.{pass, stop, done, first-of, past-all, accepts}
-use Rattle.instruction.specs.Resolution.{operandRefusals, fieldOf, whyOf, fieldsAnswer}
+use Rattle.instruction.specs.ResolveOperand.{operandRefusals, fieldOf, whyOf, fieldsAnswer}
 use Rattle.instruction.specs.declared.layout.Fields.{Fields}
-use Rattle.instruction.specs.declared.resolution.Why.{Why}
-use Rattle.instruction.specs.declared.resolution.Why.the-variants.{Unfit, NoAddress, TooFar, OtherPage}
+use Rattle.instruction.specs.declared.resolve_operand.Why.{Why}
+use Rattle.instruction.specs.declared.resolve_operand.Why.the-variants.{Unfit, NoAddress, TooFar, OtherPage}
 use Rattle.instruction.proofs.FieldReading.{make, make3}
 use Rattle.instruction.proofs.Resolving.{answerOf}
 

@@ -4,7 +4,7 @@ use mathlib.Core.Path.{_≡_, refl, ap, _∙_}
 use Prim.Native.Nat.{ℕ, _+_, _*_, _^_, _/_, _%_, _<_}
 use native.Mathlib.Omega.{arith}
 use lib.Dec.{ltb, ltb→lt}
-use Rattle.instruction.specs.Pattern.{pattern, bytesOf, onto, given, next}
+use Rattle.instruction.specs.Pattern.{pattern, patternBytes, onto, bitsGiven, nextBracket}
 use Rattle.instruction.specs.Flow.{flowOf}
 use Rattle.instruction.specs.Forms.{forms, formAt, formOf, sizeOf}
 use Rattle.instruction.specs.declared.flow.Flow.{Flow}
@@ -28,7 +28,7 @@ flow-bits Branch = omega arith
 
 module _ (x : ℕ) (h : x < 256) where
   short : sizeOf (formAt (formOf x)) < 4
-  unfolding formOf formAt forms pattern bytesOf onto given next
+  unfolding formOf formAt forms pattern patternBytes onto bitsGiven nextBracket
   short = ltb→lt _ 4 (holds (λ k. ltb (sizeOf (formAt (formOf k))) 4) 256 tt x h)
 
   pub sized : saidBy x % 4 ≡ sizeOf (formAt (formOf x))

@@ -3,7 +3,7 @@
 use mathlib.Core.Path.{_≡_, refl, subst, sym}
 use Prim.Native.Nat.{_<_}
 use lib.Dec.{lit<}
-use Rattle.instruction.specs.Forms.{forms, formAt, numberOf}
+use Rattle.instruction.specs.Forms.{forms, formAt, formNamed}
 use Rattle.instruction.specs.Parts.{partsOf, madeOf}
 use Rattle.instruction.specs.declared.instr.Parts.{Parts}
 use Rattle.instruction.specs.declared.instr.Instr.{Instr}
@@ -14,7 +14,7 @@ pub record Known (i : Instr) : Type 0 where
   pub small : partsOf i .form < 70
 
 pub known : (i : Instr) → Known i
-unfolding partsOf madeOf formAt numberOf forms
+unfolding partsOf madeOf formAt formNamed forms
 known («Add_i8» a) = record { made = refl; small = lit< tt }
 known («Add_d9» a) = record { made = refl; small = lit< tt }
 known («Add_Ri» a) = record { made = refl; small = lit< tt }

@@ -25,3 +25,4 @@ pub mod Writing
 pub mod Encoding
 pub mod Resolved
 pub mod FirstByte
+pub mod Parted

@@ -5,13 +5,14 @@ use mathlib.Core.List.{List, [], _∷_, map}
 use Prim.Native.Nat.{ℕ, suc, _<_}
 use lib.IntN.{ℤ}
 use lib.ListN.{getD, length-map}
+use Rattle.instruction.specs.Bytes.{Bytes}
 use Rattle.instruction.specs.Kinds.{kindAt}
 use Rattle.instruction.specs.declared.kind.Shape.{Shape}
 use Rattle.instruction.specs.Code.{operandOf}
 use Rattle.instruction.specs.Layout.{blank, fieldsBy}
 use Rattle.instruction.specs.Pattern.{Bit, O, I, of, part, field}
 use Rattle.instruction.specs.declared.layout.Fields.{Fields}
-use Rattle.instruction.proofs.FieldReading.{closed, Bytes, read as read-by}
+use Rattle.instruction.proofs.FieldReading.{closed, read as read-by}
 use Rattle.instruction.specs.Decode.{fieldsIn}
 use Rattle.instruction.specs.Forms.{formAt, bits}
 use Rattle.instruction.specs.declared.instr.Parts.{Parts}

@@ -8,9 +8,9 @@ use Rattle.instruction.specs.Answer.{accepted, refused, Refusal, judge}
 use Rattle.instruction.specs.Kinds.{threeOf}
 use Rattle.instruction.specs.declared.kind.Kinds.{Kinds}
 use Rattle.instruction.proofs.Judging.{first-of, accepts}
-use Rattle.instruction.specs.Resolution.{whyOf, refusals, fieldsAnswer}
+use Rattle.instruction.specs.ResolveOperand.{whyOf, refusals, fieldsAnswer}
 use Rattle.instruction.specs.declared.layout.Fields.{Fields}
-use Rattle.instruction.specs.declared.resolution.Why.{Why}
+use Rattle.instruction.specs.declared.resolve_operand.Why.{Why}
 use Rattle.instruction.proofs.FieldResolved.{last-no, last-yes}
 use Rattle.instruction.specs.Encode.{formIn}
 use Rattle.instruction.specs.Parts.{partsOf, madeOf}

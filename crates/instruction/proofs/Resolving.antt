@@ -11,7 +11,7 @@ use borrow.Author.Tests.{eq-eqb, ne-eqb, ltb-true, ltb-false}
 use Rattle.instruction.specs.Answer.{Answer, accepted, refused, refuse, judge}
 use Rattle.instruction.specs.Code.{codeOf}
 use Rattle.instruction.specs.Range.{outside, unfit}
-use Rattle.instruction.specs.Resolution.{noAddress, top, wrapped, operandRefusals, fieldOf}
+use Rattle.instruction.specs.ResolveOperand.{noAddress, top, wrapped, operandRefusals, fieldOf}
 use Rattle.instruction.specs.declared.kind.Kind.{Kind}
 use Rattle.instruction.specs.declared.kind.Kind.the-variants.{Page, Short, Long}
 use Rattle.instruction.proofs.Judging.{pass, stop, done}

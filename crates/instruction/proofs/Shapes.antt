@@ -7,7 +7,7 @@ use lib.ListN.{getD, length, drop, length-map}
 use native.Mathlib.Nat.{le-of-suc-le-suc, not-suc-le-zero}
 use Rattle.instruction.specs.declared.kind.Shape.{Shape}
 use Rattle.instruction.specs.Layout.{blank}
-use Rattle.instruction.specs.Pattern.{Bit, O, I, of, pattern, bytesOf, onto, given, next}
+use Rattle.instruction.specs.Pattern.{Bit, O, I, of, pattern, patternBytes, onto, bitsGiven, nextBracket}
 use Rattle.instruction.proofs.Laid.{size-range as size-range-by}
 use Rattle.instruction.specs.Forms.{Form, forms, formAt, bits, sizeOf}
 
@@ -31,11 +31,11 @@ unfolding forms formAt
 at-each f g e k h = each f g _ forms k h e
 
 pub laid : (k : ℕ) → k < 70 → free (bits (formAt k)) ≡ blank (formAt k .shape)
-unfolding forms freed blank pattern bytesOf onto given next
+unfolding forms freed blank pattern patternBytes onto bitsGiven nextBracket
 laid = at-each (λ w. free (bits w)) (λ w. blank (w .shape)) refl
 
 pub tail-laid : (k : ℕ) → k < 70 → drop 1 (bits (formAt k)) ≡ drop 1 (blank (formAt k .shape))
-unfolding forms blank pattern bytesOf onto given next
+unfolding forms blank pattern patternBytes onto bitsGiven nextBracket
 tail-laid = at-each (λ w. drop 1 (bits w)) (λ w. drop 1 (blank (w .shape))) refl
 
 free-length : (ps : List (List Bit)) → length (free ps) ≡ length ps

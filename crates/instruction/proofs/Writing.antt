@@ -8,7 +8,7 @@ use native.Mathlib.Nat.{pow-suc, zero-div}
 use lib.ListN.{getD, length, take, drop, length-map}
 use Rattle.instruction.specs.declared.kind.Shape.{Shape}
 use Rattle.instruction.specs.Layout.{blank, onFixed, bytesBy}
-use Rattle.instruction.specs.Pattern.{Bit, O, I, of, bitOf, digit, value, filled, pattern, bytesOf, onto, given, next}
+use Rattle.instruction.specs.Pattern.{Bit, O, I, of, bitOf, bitFor, value, filled, pattern, patternBytes, onto, bitsGiven, nextBracket}
 use Rattle.instruction.proofs.FieldWriting.{written, write as write-by}
 use Rattle.instruction.specs.Forms.{forms, formAt, bits, sizeOf}
 use Rattle.instruction.proofs.Shapes.{freed, free, at-each, laid, tail-laid, sized}
@@ -19,7 +19,7 @@ no-bits : (n : ℕ) → 0 / n % 2 ≡ 0
 no-bits zero = refl
 no-bits (suc n) = rw (zero-div (suc n))
 
-digit-free : (b : Bit) (ns : List ℕ) (n : ℕ) → digit b ns * n ≡ digit b [] * n + digit (freed b) ns * n
+digit-free : (b : Bit) (ns : List ℕ) (n : ℕ) → bitFor b ns * n ≡ bitFor b [] * n + bitFor (freed b) ns * n
 unfolding freed
 digit-free O ns n = omega arith
 digit-free I ns n = omega arith
@@ -31,8 +31,8 @@ four d f e v r w p q = omega arith
 value-free : (p : List Bit) (ns : List ℕ) → value p ns ≡ value p [] + value (map freed p) ns
 value-free [] ns = refl
 value-free (b ∷ p) ns =
-    subst (λ (m : ℕ). value (b ∷ p) ns ≡ value (b ∷ p) [] + (digit (freed b) ns * 2 ^ m + value (map freed p) ns)) (sym (length-map p freed))
-    (four (digit b ns * 2 ^ length p) (digit b [] * 2 ^ length p) (digit (freed b) ns * 2 ^ length p) (value p ns) (value p [])
+    subst (λ (m : ℕ). value (b ∷ p) ns ≡ value (b ∷ p) [] + (bitFor (freed b) ns * 2 ^ m + value (map freed p) ns)) (sym (length-map p freed))
+    (four (bitFor b ns * 2 ^ length p) (bitFor b [] * 2 ^ length p) (bitFor (freed b) ns * 2 ^ length p) (value p ns) (value p [])
     (value (map freed p) ns) (digit-free b ns (2 ^ length p)) (value-free p ns))
 
 -- ---- a byte of eight bits is below 256
@@ -40,7 +40,7 @@ value-free (b ∷ p) ns =
 bit-lt : (n : ℕ) → n % 2 < 2
 bit-lt n = omega arith
 
-digit-lt : (b : Bit) (ns : List ℕ) → digit b ns < 2
+digit-lt : (b : Bit) (ns : List ℕ) → bitFor b ns < 2
 digit-lt O ns = omega arith
 digit-lt I ns = omega arith
 digit-lt (of l k) ns = bit-lt (getD ns l 0 / 2 ^ k)
@@ -52,7 +52,7 @@ times (suc (suc d)) n v h k = absurd (let q : suc (suc d) < 2 = h in omega arith
 
 pub value-lt : (p : List Bit) (ns : List ℕ) → value p ns < 2 ^ length p
 value-lt [] ns = omega arith
-value-lt (b ∷ p) ns = rw pow-suc (times (digit b ns) (2 ^ length p) (value p ns) (digit-lt b ns) (value-lt p ns))
+value-lt (b ∷ p) ns = rw pow-suc (times (bitFor b ns) (2 ^ length p) (value p ns) (digit-lt b ns) (value-lt p ns))
 
 -- ---- a form's bytes by its layout
 
@@ -70,7 +70,7 @@ on-fixed (p ∷ ps) qs e f l ns =
     rw (← e) (cons (wrap (value p ns) (value p []) (value (map freed p) ns) (value-free p ns) small) (ap (λ (r : List (List Bit)). filled r ns) rest))
 
 eight-bits : (k : ℕ) → k < 70 → length (getD (bits (formAt k)) 0 []) ≡ 8
-unfolding forms pattern bytesOf onto given next
+unfolding forms pattern patternBytes onto bitsGiven nextBracket
 eight-bits = at-each (λ w. length (getD (bits w) 0 [])) (λ w. 8) refl
 
 pub by-shape : (k : ℕ) (s : Shape) → k < 70 → s ≡ formAt k .shape → (t : ℕ) → t ≡ value (getD (bits (formAt k)) 0 []) [] → (ns : List ℕ) → bytesBy t s ns ≡ filled (bits (formAt k)) ns

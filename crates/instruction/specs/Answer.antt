@@ -4,9 +4,10 @@
 -- Assumes nothing.
 use Prim.Native.Nat.{ℕ}
 use mathlib.Core.Bool.{Bool, cond}
-use mathlib.Core.List.{List, [], _∷_}
+use mathlib.Core.List.{List, [], _∷_, _++_}
 use mathlib.Core.Path.{_≡_}
 use lib.IntN.{ℤ}
+use lib.ListN.{length, drop}
 
 pub data Answer (A : Type 0) : Type 0 where
   accepted : A → Answer A
@@ -30,6 +31,10 @@ judge (r ∷ rs) a = cond (r .holds) (refused (r .number) (r .values)) (judge rs
 abbrev pub after : {A B : Type 0} → Answer A → B → B → B
 after (accepted a) written before = written
 after (refused n vs) written before = before
+
+-- what is laid over the beginning of a room, whose rest stays
+abbrev pub laid : List ℕ → List ℕ → List ℕ
+laid out room = out ++ drop (length out) room
 
 -- a definition of an answer's number and values tells all cases, and all values, apart
 abbrev pub Apart : {R A : Type 0} → (R → A) → Type 0

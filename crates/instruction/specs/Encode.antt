@@ -12,7 +12,7 @@ use Rattle.instruction.specs.Range.{unfit}
 use Rattle.instruction.specs.Parts.{partsOf}
 use Rattle.instruction.specs.Code.{codeOf}
 use Rattle.instruction.specs.Pattern.{filled}
-use Rattle.instruction.specs.Resolution.{misfitValues}
+use Rattle.instruction.specs.ResolveOperand.{misfitValues}
 use Rattle.instruction.specs.declared.encode.Encoded.{Encoded}
 use Rattle.instruction.specs.declared.encode.Encoded.the-variants.{Written, Unfit, NoRoom}
 use Rattle.instruction.specs.declared.encode.Fit.{Fit}
@@ -43,8 +43,8 @@ fitAnswer i = judge (misfits i) tt
 -- ---- encode
 
 -- the bytes of the pattern
-unfoldable pub bytesIn : Instr → List ℕ
-bytesIn i = filled (bits (formIn i)) (codeOf (partsOf i .a) ∷ codeOf (partsOf i .b) ∷ codeOf (partsOf i .c) ∷ [])
+unfoldable pub instrBytes : Instr → List ℕ
+instrBytes i = filled (bits (formIn i)) (codeOf (partsOf i .a) ∷ codeOf (partsOf i .b) ∷ codeOf (partsOf i .c) ∷ [])
 
 abbrev pub encodedOf : Encoded → Answer ℕ
 encodedOf (Written n) = accepted n
@@ -58,4 +58,4 @@ encodeAnswer i room =
 
 -- the room afterwards: the bytes, and the rest as it was
 unfoldable pub encodeRoom : Instr → List ℕ → List ℕ
-encodeRoom i room = after (encodeAnswer i room) (bytesIn i ++ drop (sizeOf (formIn i)) room) room
+encodeRoom i room = after (encodeAnswer i room) (instrBytes i ++ drop (sizeOf (formIn i)) room) room

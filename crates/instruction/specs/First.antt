@@ -3,7 +3,7 @@
 use Prim.Native.Nat.{ℕ, _+_, _*_}
 use mathlib.Core.List.{[], _∷_}
 use lib.ListN.{getD}
-use Rattle.instruction.specs.Eights.{digitsFrom}
+use Rattle.instruction.specs.Tables.{digitsFrom}
 use Rattle.instruction.specs.Flow.{flowOf}
 use Rattle.instruction.specs.Forms.{formAt, formOf, sizeOf}
 use Rattle.instruction.specs.declared.flow.Flow.{Flow}

@@ -109,12 +109,12 @@ abbrev pub sizeOf : Form → ℕ
 sizeOf w = length (bits w)
 
 -- the number of the form that has a name
-abbrev pub named : List Form → String → ℕ
-named [] s = 0
-named (w ∷ ws) s = let k : ℕ = named ws s in cond (eqt (w .name) s) 0 (suc k)
+abbrev pub placeNamed : List Form → String → ℕ
+placeNamed [] s = 0
+placeNamed (w ∷ ws) s = let k : ℕ = placeNamed ws s in cond (eqt (w .name) s) 0 (suc k)
 
-unfoldable pub numberOf : String → ℕ
-numberOf s = named forms s
+unfoldable pub formNamed : String → ℕ
+formNamed s = placeNamed forms s
 
 -- the number of the form whose pattern has the fixed bits of a first byte
 abbrev pub matching : List Form → ℕ → ℕ

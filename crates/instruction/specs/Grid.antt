@@ -7,7 +7,7 @@ use mathlib.Core.Bool.{cond}
 use mathlib.Core.List.{List, [], _∷_}
 use lib.Dec.{leb}
 use lib.ListN.{getD}
-use Rattle.instruction.specs.Forms.{numberOf}
+use Rattle.instruction.specs.Forms.{formNamed}
 
 unfoldable pub grid : List (List String)
 grid =
@@ -31,7 +31,7 @@ grid =
 
 -- the number of the form that stands in a row and a column
 abbrev pub entry : ℕ → ℕ → ℕ
-entry row col = numberOf (getD (getD grid row []) col "")
+entry row col = formNamed (getD (getD grid row []) col "")
 
 abbrev pub column : ℕ → ℕ
 column low = cond (leb 8 low) 4 (cond (leb 4 low) 3 (cond (leb 2 low) 2 low))

@@ -15,8 +15,8 @@ use Rattle.instruction.specs.Pattern.{Bit, O, of, field, filled}
 use Rattle.instruction.specs.declared.layout.Fields.{Fields}
 
 -- eight bits of an operand, from bit k up
-abbrev pub eight : ℕ → ℕ → List Bit
-eight l k = of l (k + 7) ∷ of l (k + 6) ∷ of l (k + 5) ∷ of l (k + 4) ∷ of l (k + 3) ∷ of l (k + 2) ∷ of l (k + 1) ∷ of l (k + 0) ∷ []
+abbrev pub eightBits : ℕ → ℕ → List Bit
+eightBits l k = of l (k + 7) ∷ of l (k + 6) ∷ of l (k + 5) ∷ of l (k + 4) ∷ of l (k + 3) ∷ of l (k + 2) ∷ of l (k + 1) ∷ of l (k + 0) ∷ []
 
 -- a first byte that holds nothing; bit 8 of an operand; two bits; bit 8 and a bit number; bits 11 to 8
 abbrev pub none : List Bit
@@ -37,21 +37,21 @@ high4 = O ∷ O ∷ O ∷ of 0 11 ∷ O ∷ of 0 10 ∷ of 0 9 ∷ of 0 8 ∷ []
 -- the pattern of a shape: where the bits of its operands stand, with 0 for every fixed bit
 unfoldable pub blank : Shape → List (List Bit)
 blank Bare = none ∷ []
-blank Imm = none ∷ eight 0 0 ∷ []
-blank D9 = bit8 0 ∷ eight 0 0 ∷ []
+blank Imm = none ∷ eightBits 0 0 ∷ []
+blank D9 = bit8 0 ∷ eightBits 0 0 ∷ []
 blank Ri = low2 0 ∷ []
-blank ImmD9 = bit8 1 ∷ eight 1 0 ∷ eight 0 0 ∷ []
-blank ImmRi = low2 1 ∷ eight 0 0 ∷ []
-blank D9B3 = bit8b3 ∷ eight 0 0 ∷ []
-blank A12 = high4 ∷ eight 0 0 ∷ []
-blank A16 = none ∷ eight 0 8 ∷ eight 0 0 ∷ []
-blank R16 = none ∷ eight 0 0 ∷ eight 0 8 ∷ []
-blank R8 = none ∷ eight 0 0 ∷ []
-blank D9B3R8 = bit8b3 ∷ eight 0 0 ∷ eight 2 0 ∷ []
-blank D9R8 = bit8 0 ∷ eight 0 0 ∷ eight 1 0 ∷ []
-blank RiR8 = low2 0 ∷ eight 1 0 ∷ []
-blank ImmR8 = none ∷ eight 0 0 ∷ eight 1 0 ∷ []
-blank RiImmR8 = low2 0 ∷ eight 1 0 ∷ eight 2 0 ∷ []
+blank ImmD9 = bit8 1 ∷ eightBits 1 0 ∷ eightBits 0 0 ∷ []
+blank ImmRi = low2 1 ∷ eightBits 0 0 ∷ []
+blank D9B3 = bit8b3 ∷ eightBits 0 0 ∷ []
+blank A12 = high4 ∷ eightBits 0 0 ∷ []
+blank A16 = none ∷ eightBits 0 8 ∷ eightBits 0 0 ∷ []
+blank R16 = none ∷ eightBits 0 0 ∷ eightBits 0 8 ∷ []
+blank R8 = none ∷ eightBits 0 0 ∷ []
+blank D9B3R8 = bit8b3 ∷ eightBits 0 0 ∷ eightBits 2 0 ∷ []
+blank D9R8 = bit8 0 ∷ eightBits 0 0 ∷ eightBits 1 0 ∷ []
+blank RiR8 = low2 0 ∷ eightBits 1 0 ∷ []
+blank ImmR8 = none ∷ eightBits 0 0 ∷ eightBits 1 0 ∷ []
+blank RiImmR8 = low2 0 ∷ eightBits 1 0 ∷ eightBits 2 0 ∷ []
 
 -- ---- what is read
 
@@ -74,6 +74,6 @@ unfoldable pub bytesBy : ℕ → Shape → List ℕ → List ℕ
 bytesBy u t ns = onFixed u (filled (blank t) ns)
 
 -- a room afterwards: the bytes, and the rest as it was; where it is too short, all as it was
-unfoldable pub roomAfter : ℕ → Shape → ℤ → ℤ → ℤ → List ℕ → List ℕ
-roomAfter u t a b c room =
+unfoldable pub writtenRoom : ℕ → Shape → ℤ → ℤ → ℤ → List ℕ → List ℕ
+writtenRoom u t a b c room =
     cond (leb (length (blank t)) (length room)) (bytesBy u t (codeOf a ∷ codeOf b ∷ codeOf c ∷ []) ++ drop (length (blank t)) room) room

@@ -19,6 +19,6 @@ unfoldable pub mnemonicOf : ℕ → List ℕ
 mnemonicOf k = lettersOf (formAt k .name)
 
 -- letters in one number, the first letter lowest
-unfoldable pub wordOf : List ℕ → ℕ
-wordOf [] = 0
-wordOf (c ∷ cs) = c + 256 * wordOf cs
+unfoldable pub packedLetters : List ℕ → ℕ
+packedLetters [] = 0
+packedLetters (c ∷ cs) = c + 256 * packedLetters cs

@@ -17,34 +17,34 @@ pub data Bit : Type 0 where
   of : ℕ → ℕ → Bit
 
 -- where the reader of a text stands: outside brackets, or inside, with the operand and the number read so far
-pub data Place : Type 0 where
-  outside : Place
-  inside : ℕ → ℕ → Place
+pub data Bracket : Type 0 where
+  outsideBracket : Bracket
+  insideBracket : ℕ → ℕ → Bracket
 
 abbrev pub is : Char → Char → Bool
 is c d = eqb (code c) (code d)
 
-unfoldable pub next : Place → Char → Place
-next outside c = cond (is c "[") (inside 0 0) outside
-next (inside l k) c =
-    cond (is c "]") outside
-    (cond (leb (code "a") (code c)) (inside (code c - code "a") 0) (inside l (k * 10 + (code c - code "0"))))
+unfoldable pub nextBracket : Bracket → Char → Bracket
+nextBracket outsideBracket c = cond (is c "[") (insideBracket 0 0) outsideBracket
+nextBracket (insideBracket l k) c =
+    cond (is c "]") outsideBracket
+    (cond (leb (code "a") (code c)) (insideBracket (code c - code "a") 0) (insideBracket l (k * 10 + (code c - code "0"))))
 
-unfoldable pub given : Place → Char → List Bit
-given outside c = cond (is c "0") (O ∷ []) (cond (is c "1") (I ∷ []) [])
-given (inside l k) c = cond (is c "]") (of l k ∷ []) []
+unfoldable pub bitsGiven : Bracket → Char → List Bit
+bitsGiven outsideBracket c = cond (is c "0") (O ∷ []) (cond (is c "1") (I ∷ []) [])
+bitsGiven (insideBracket l k) c = cond (is c "]") (of l k ∷ []) []
 
 unfoldable pub onto : List Bit → List (List Bit) → List (List Bit)
 onto bs [] = bs ∷ []
 onto bs (byte ∷ bytes) = (bs ++ byte) ∷ bytes
 
 -- a text's bytes, each a list of bits from the highest
-unfoldable pub bytesOf : Place → String → List (List Bit)
-bytesOf p end = []
-bytesOf p (c then s) = let rest : List (List Bit) = bytesOf (next p c) s in cond (is c " ") ([] ∷ rest) (onto (given p c) rest)
+unfoldable pub patternBytes : Bracket → String → List (List Bit)
+patternBytes p end = []
+patternBytes p (c then s) = let rest : List (List Bit) = patternBytes (nextBracket p c) s in cond (is c " ") ([] ∷ rest) (onto (bitsGiven p c) rest)
 
 unfoldable pub pattern : String → List (List Bit)
-pattern s = bytesOf outside s
+pattern s = patternBytes outsideBracket s
 
 -- bit k of a number
 abbrev pub bitOf : ℕ → ℕ → ℕ
@@ -76,14 +76,14 @@ field l [] s i = 0
 field l (p ∷ ps) s i = part l p (getD s i 0) + field l ps s (suc i)
 
 -- the bit that stands for a place of the pattern where the operands have the numbers ns
-abbrev pub digit : Bit → List ℕ → ℕ
-digit O ns = 0
-digit I ns = 1
-digit (of l k) ns = bitOf (getD ns l 0) k
+abbrev pub bitFor : Bit → List ℕ → ℕ
+bitFor O ns = 0
+bitFor I ns = 1
+bitFor (of l k) ns = bitOf (getD ns l 0) k
 
 abbrev pub value : List Bit → List ℕ → ℕ
 value [] ns = 0
-value (x ∷ xs) ns = digit x ns * 2 ^ length xs + value xs ns
+value (x ∷ xs) ns = bitFor x ns * 2 ^ length xs + value xs ns
 
 -- the pattern's bytes for the numbers ns
 abbrev pub filled : List (List Bit) → List ℕ → List ℕ

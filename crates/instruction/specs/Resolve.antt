@@ -6,7 +6,7 @@ use lib.IntN.{pos}
 use Rattle.instruction.specs.Answer.{Answer, accepted, refused, judge}
 use Rattle.instruction.specs.Kinds.{threeOf}
 use Rattle.instruction.specs.declared.kind.Kinds.{Kinds}
-use Rattle.instruction.specs.Resolution.{fieldOf, whyOf, refusals}
+use Rattle.instruction.specs.ResolveOperand.{fieldOf, whyOf, refusals}
 use Rattle.instruction.specs.Encode.{formIn}
 use Rattle.instruction.specs.Parts.{partsOf, madeOf}
 use Rattle.instruction.specs.declared.instr.Instr.{Instr}

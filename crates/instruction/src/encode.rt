@@ -50,7 +50,8 @@ impl Instr {
     }
 
     pub fn encode(self, out: &mut [u8]) -> Encoded
-        ensures { λ r. ⌜ (encodedOf r ≡ encodeAnswer self (now (out .entry))) × (now (out .exit) ≡ encodeRoom self (now (out .entry))) ⌝ }
+        ensures { λ r. ⌜ encodedOf r ≡ encodeAnswer self (now (out .entry)) ⌝ }
+        ensures { λ _. ⌜ now (out .exit) ≡ encodeRoom self (now (out .entry)) ⌝ }
     {
         if let Fit::Outside(m) = self.fit() {
             return Encoded::Unfit(m);

@@ -3,12 +3,12 @@ ghost use mathlib.Core.Path.{_≡_};
 ghost use mathlib.Core.List.{[]};
 ghost use Prim.Native.Nat.{_<_};
 ghost use lib.ListN.{getD};
-ghost use Rattle.instruction.specs.Eights.{place};
+ghost use Rattle.instruction.specs.Tables.{shapeNumber};
 ghost use Rattle.instruction.specs.Forms.{formAt, bits};
 ghost use Rattle.instruction.specs.Grid.{column, ruleOf};
 ghost use Rattle.instruction.specs.Pattern.{value};
-use crate::eights;
 use crate::kind::Shape;
+use crate::tables;
 
 // The column of a first byte's low four bits in document 01's table.
 fn column(low: u8) -> u8
@@ -30,19 +30,19 @@ pub fn lookup(first: u8) -> u8
     ensures { λ r. ⌜ (r ≡ ruleOf first) × (r < 70) ⌝ }
 {
     let k = 16 * column(first % 16) + first / 16;
-    eights::byte_of(eights::forms(k / 8), k % 8)
+    tables::byte_of(tables::forms(k / 8), k % 8)
 }
 
 pub fn fixed_of(form: u8) -> u8
     requires { ⌜ form < 70 ⌝ }
     ensures { λ r. ⌜ r ≡ value (getD (bits (formAt form)) 0 []) [] ⌝ }
 {
-    eights::byte_of(eights::fixed(form / 8), form % 8)
+    tables::byte_of(tables::fixed(form / 8), form % 8)
 }
 
 fn numbered(n: u8) -> Shape
     requires { ⌜ n < 16 ⌝ }
-    ensures { λ r. ⌜ n ≡ place r ⌝ }
+    ensures { λ r. ⌜ n ≡ shapeNumber r ⌝ }
 {
     match n {
         0 => Shape::Bare,
@@ -68,5 +68,5 @@ pub fn shape_of(form: u8) -> Shape
     requires { ⌜ form < 70 ⌝ }
     ensures { λ r. ⌜ r ≡ formAt form .shape ⌝ }
 {
-    numbered(eights::byte_of(eights::shapes(form / 8), form % 8))
+    numbered(tables::byte_of(tables::shapes(form / 8), form % 8))
 }

@@ -10,7 +10,7 @@ use crate::build;
 use crate::form;
 use crate::kind::Kinds;
 use crate::layout;
-use crate::resolution::Resolution;
+use crate::resolve_operand::Resolution;
 
 pub enum Instr {
     Add_i8(i32),

@@ -6,7 +6,6 @@
 pub mod answer;
 mod build;
 pub mod decode;
-mod eights;
 pub mod encode;
 pub mod first;
 pub mod flow;
@@ -17,9 +16,10 @@ pub mod layout;
 pub mod mnemonic;
 pub mod range;
 pub mod read;
-pub mod resolution;
 pub mod resolve;
+pub mod resolve_operand;
 mod signed;
+mod tables;
 pub mod write;
 
 pub use answer::CutOff;
@@ -35,6 +35,6 @@ pub use kind::Kind;
 pub use kind::Kinds;
 pub use kind::Shape;
 pub use layout::Fields;
-pub use resolution::Resolution;
-pub use resolution::Why;
 pub use resolve::Resolved;
+pub use resolve_operand::Resolution;
+pub use resolve_operand::Why;

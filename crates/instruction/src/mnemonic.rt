@@ -1,14 +1,14 @@
 // Mnemonics, as letters in one number: the first letter lowest, a byte each.
 ghost use mathlib.Core.Path.{_≡_};
 ghost use Prim.Native.Nat.{_<_};
-ghost use Rattle.instruction.specs.Mnemonic.{mnemonicOf, wordOf};
+ghost use Rattle.instruction.specs.Mnemonic.{mnemonicOf, packedLetters};
 ghost use Rattle.instruction.specs.Parts.{partsOf};
 use crate::instr::Instr;
 
 // By the number of the form: "add" is 0x646461.
 fn letters(form: u8) -> u64
     requires { ⌜ form < 70 ⌝ }
-    ensures { λ r. ⌜ r ≡ wordOf (mnemonicOf form) ⌝ }
+    ensures { λ r. ⌜ r ≡ packedLetters (mnemonicOf form) ⌝ }
 {
     match form {
         0 => 0x646461, // Add_i8
@@ -86,7 +86,7 @@ fn letters(form: u8) -> u64
 
 impl Instr {
     pub fn mnemonic(self) -> u64
-        ensures { λ r. ⌜ r ≡ wordOf (mnemonicOf (partsOf self .form)) ⌝ }
+        ensures { λ r. ⌜ r ≡ packedLetters (mnemonicOf (partsOf self .form)) ⌝ }
     {
         letters(self.apart().form)
     }

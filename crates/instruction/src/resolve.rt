@@ -4,9 +4,9 @@ ghost use mathlib.Core.Path.{_≡_};
 ghost use Rattle.instruction.specs.Resolve.{resolvedOf, resolveAnswer};
 use crate::build;
 use crate::instr::Instr;
-use crate::resolution;
-use crate::resolution::Resolution;
-use crate::resolution::Why;
+use crate::resolve_operand;
+use crate::resolve_operand::Resolution;
+use crate::resolve_operand::Why;
 
 pub enum Resolved {
     Fields(Instr),
@@ -22,7 +22,7 @@ impl Instr {
     {
         let v = self.apart();
         let k = self.kinds();
-        match resolution::resolve(k, v.a, v.b, v.c, base) {
+        match resolve_operand::resolve(k, v.a, v.b, v.c, base) {
             Resolution::All(f) => Resolved::Fields(build::build(v.form, f.a, f.b, f.c)),
             Resolution::FarBase(far) => Resolved::FarBase(far),
             Resolution::Refused(why) => Resolved::Refused(why),

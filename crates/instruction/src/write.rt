@@ -5,7 +5,7 @@ ghost use mathlib.Core.List.{[], _∷_, _++_};
 ghost use Prim.Native.Nat.{_<_, _≤_, _%_};
 ghost use lib.Dec.{leb};
 ghost use lib.ListN.{length, take, drop};
-ghost use Rattle.instruction.specs.Layout.{blank, bytesBy, roomAfter};
+ghost use Rattle.instruction.specs.Layout.{blank, bytesBy, writtenRoom};
 use crate::kind::Shape;
 use crate::layout;
 use crate::signed;
@@ -130,7 +130,8 @@ fn put(out: &mut [u8], n: usize, x: u8, p: u8, q: u8)
 
 // The bytes of the fields laid over the beginning of the room, where there is enough; and whether there is.
 pub fn write(out: &mut [u8], shape: Shape, fixed: u8, a: i32, b: i32, c: i32) -> bool
-    ensures { λ r. ⌜ (r ≡ leb (length (blank shape)) (length (now (out .entry)))) × (now (out .exit) ≡ roomAfter fixed shape a b c (now (out .entry))) ⌝ }
+    ensures { λ r. ⌜ r ≡ leb (length (blank shape)) (length (now (out .entry))) ⌝ }
+    ensures { λ _. ⌜ now (out .exit) ≡ writtenRoom fixed shape a b c (now (out .entry)) ⌝ }
 {
     let n = layout::size(shape);
     if out.len() < n {

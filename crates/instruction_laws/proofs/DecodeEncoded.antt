@@ -6,9 +6,10 @@ use mathlib.Core.List.{List, _++_}
 use Prim.Native.Nat.{ℕ}
 use native.Mathlib.Omega.{arith}
 use lib.ListN.{length}
+use Rattle.instruction.specs.Bytes.{Bytes}
 use Rattle.instruction.specs.Answer.{accepted}
 use Rattle.instruction.specs.Decode.{decodeAnswer, fieldsIn}
-use Rattle.instruction.specs.Encode.{fitAnswer, bytesIn}
+use Rattle.instruction.specs.Encode.{fitAnswer, instrBytes}
 use Rattle.instruction.specs.Code.{codeOf}
 use Rattle.instruction.specs.Parts.{partsOf}
 use Rattle.instruction.specs.declared.instr.Instr.{Instr}
@@ -17,19 +18,19 @@ use Rattle.instruction.proofs.Decoding.{found}
 use Rattle.instruction.proofs.Known.{known}
 use Rattle.instruction.proofs.Reading.{make3, read}
 use Rattle.instruction.proofs.Shapes.{size-range}
-use Rattle.instruction_laws.specs.RoundTrips.{AllBytes, DecodeEncoded}
+use Rattle.instruction_laws.specs.RoundTrips.{DecodeEncoded}
 use Rattle.instruction_laws.proofs.Back.{strung, back-by}
 use Rattle.instruction_laws.proofs.FirstByte.{fixedOf}
 use Rattle.instruction_laws.proofs.Fitting.{Fitted, fitted}
 use Rattle.instruction_laws.proofs.Numbers.{shapeOf, bytes-by}
 use Rattle.instruction_laws.proofs.OwnForm.{Begins, begins}
 
-module _ (i : Instr) (fit : fitAnswer i ≡ accepted tt) (rest : List ℕ) (others : AllBytes rest) where
+module _ (i : Instr) (fit : fitAnswer i ≡ accepted tt) (rest : List ℕ) (others : Bytes rest) where
   abbrev v : Parts
   v = partsOf i
 
   abbrev s : List ℕ
-  s = bytesIn i ++ rest
+  s = instrBytes i ++ rest
 
   starts : Begins i s
   starts = begins i rest others

@@ -8,7 +8,7 @@ use lib.ListN.{length, take}
 use borrow.Author.Tests.{ltb-false}
 use Rattle.instruction.specs.Answer.{accepted}
 use Rattle.instruction.specs.Decode.{decodeAnswer, fieldsIn}
-use Rattle.instruction.specs.Encode.{formIn, bytesIn, fitAnswer}
+use Rattle.instruction.specs.Encode.{formIn, instrBytes, fitAnswer}
 use Rattle.instruction.specs.Forms.{formAt, sizeOf}
 use Rattle.instruction.specs.Parts.{partsOf, madeOf}
 use Rattle.instruction.specs.declared.instr.Instr.{Instr}
@@ -17,7 +17,7 @@ use Rattle.instruction.proofs.Reading.{make3}
 use Rattle.instruction.proofs.Shapes.{sized, size-range}
 use Rattle.instruction_laws.specs.RoundTrips.{Stands, EncodeDecoded}
 use Rattle.instruction.proofs.Accepting.{passed, ended}
-use Rattle.instruction_laws.proofs.AllBytes.{bytes, firsts}
+use Rattle.instruction_laws.proofs.Bytes.{firsts}
 use Rattle.instruction_laws.proofs.FormReads.{formFirst, FormReads, form-reads}
 use Rattle.instruction_laws.proofs.Numbers.{shapeOf, fit-by, bytes-by}
 use Rattle.instruction_laws.proofs.PartsMade.{parted}
@@ -34,7 +34,7 @@ module _ (s : List ℕ) (r : FormReads s) (long : sizeOf (formAt (formFirst s)) 
   fit : fitAnswer i ≡ accepted tt
   fit = fit-by i (r .v) apart (r .numbers)
 
-  same : bytesIn i ≡ take (sizeOf (formIn i)) s
+  same : instrBytes i ≡ take (sizeOf (formIn i)) s
   same =
       bytes-by i (r .v) apart (r .numbers) ∙ r .bytes
       ∙ rw (sized (r .v .form) (shapeOf (r .v)) (r .numbers .form) refl, ← apart) (firsts s (sizeOf (formIn i)) (rw apart (size-range (r .v .form) (r .numbers .form) .1)) size)
@@ -54,4 +54,4 @@ unfolding decodeAnswer
 encode-decoded s a i e =
     let one = passed _ _ _ e in
     let two = passed _ _ _ (one .1) in
-    stands s (form-reads s (bytes s a)) (ltb-false (length s) (sizeOf (formAt (formFirst s))) (two .0)) i (ended _ (two .1))
+    stands s (form-reads s a) (ltb-false (length s) (sizeOf (formAt (formFirst s))) (two .0)) i (ended _ (two .1))

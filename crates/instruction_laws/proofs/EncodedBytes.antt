@@ -3,16 +3,17 @@
 use mathlib.Core.Path.{_≡_, refl, ap, subst}
 use mathlib.Core.List.{List, [], _∷_, map}
 use Prim.Native.Nat.{ℕ, zero, suc, _^_, _<_}
-use native.Mathlib.Nat.{le-of-suc-le-suc, not-suc-le-zero}
+use native.Mathlib.Omega.{arith}
 use lib.ListN.{length}
-use Rattle.instruction.specs.Encode.{bytesIn}
+use Rattle.instruction.specs.Bytes.{Bytes}
+use Rattle.instruction.specs.Encode.{instrBytes}
 use Rattle.instruction.specs.Forms.{forms, formAt, bits}
 use Rattle.instruction.specs.Parts.{partsOf}
-use Rattle.instruction.specs.Pattern.{Bit, value, filled, pattern, bytesOf, onto, given, next}
+use Rattle.instruction.specs.Pattern.{Bit, value, filled, pattern, patternBytes, onto, bitsGiven, nextBracket}
 use Rattle.instruction.proofs.Known.{known}
 use Rattle.instruction.proofs.Shapes.{at-each}
 use Rattle.instruction.proofs.Writing.{value-lt}
-use Rattle.instruction_laws.specs.RoundTrips.{AllBytes, EncodedBytes}
+use Rattle.instruction_laws.specs.RoundTrips.{EncodedBytes}
 
 filled-length : (ps : List (List Bit)) (ns : List ℕ) → length (filled ps ns) ≡ length ps
 filled-length [] ns = refl
@@ -23,16 +24,16 @@ abbrev Eight : List (List Bit) → Type 0
 Eight ps = map length ps ≡ map (λ p. 8) ps
 
 eight : (k : ℕ) → k < 70 → Eight (bits (formAt k))
-unfolding forms pattern bytesOf onto given next
+unfolding forms pattern patternBytes onto bitsGiven nextBracket
 eight = at-each (λ w. map length (bits w)) (λ w. map (λ p. 8) (bits w)) refl
 
-filled-small : (ps : List (List Bit)) (ns : List ℕ) → Eight ps → AllBytes (filled ps ns)
-filled-small [] ns e n h = absurd (not-suc-le-zero h)
-filled-small (p ∷ ps) ns e zero h = let q : length p ≡ 8 = cc in subst (λ (m : ℕ). value p ns < 2 ^ m) q (value-lt p ns)
-filled-small (p ∷ ps) ns e (suc n) h = let q : Eight ps = cc in filled-small ps ns q n (le-of-suc-le-suc h)
+filled-small : (ps : List (List Bit)) (ns : List ℕ) → Eight ps → Bytes (filled ps ns)
+filled-small [] ns e n = omega arith
+filled-small (p ∷ ps) ns e zero = let q : length p ≡ 8 = cc in subst (λ (m : ℕ). value p ns < 2 ^ m) q (value-lt p ns)
+filled-small (p ∷ ps) ns e (suc n) = let q : Eight ps = cc in filled-small ps ns q n
 
 pub encoded-bytes : EncodedBytes
-unfolding bytesIn
+unfolding instrBytes
 encoded-bytes i =
     record {
       size = filled-length (bits (formAt (partsOf i .form))) _;

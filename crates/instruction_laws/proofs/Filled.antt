@@ -8,14 +8,14 @@ use native.Mathlib.Omega.{arith}
 use native.Mathlib.Nat.{pow-suc, mul-add-div-right, div-eq-of-lt, zero-add, zero-mul}
 use lib.Dec.{T}
 use lib.ListN.{length}
-use Rattle.instruction.specs.Pattern.{Bit, O, I, of, fixed, agrees, digit, value}
+use Rattle.instruction.specs.Pattern.{Bit, O, I, of, fixed, agrees, bitFor, value}
 use Rattle.instruction.proofs.Writing.{value-lt}
 
 both : (a b : Bool) → T a → T b → T (a && b)
 both true b s t = t
 both false b s t = absurd s
 
-fixed-digit : (b : Bit) (ns : List ℕ) (d : ℕ) → d ≡ digit b ns % 2 → T (fixed b d)
+fixed-digit : (b : Bit) (ns : List ℕ) (d : ℕ) → d ≡ bitFor b ns % 2 → T (fixed b d)
 fixed-digit O ns d e = rw e tt
 fixed-digit I ns d e = rw e tt
 fixed-digit (of l k) ns d e = tt
@@ -31,7 +31,7 @@ above : (p : List Bit) (ns : List ℕ) (h : ℕ) → T (agrees p (h * 2 ^ length
 above [] ns h = tt
 above (b ∷ p) ns h =
     rw (pow-suc, regrouped)
-    (both (fixed b _) (agrees p _) (fixed-digit b ns _ (bit-at h (digit b ns) (value p ns) (2 ^ length p) (value-lt p ns))) (above p ns (h * 2 + digit b ns)))
+    (both (fixed b _) (agrees p _) (fixed-digit b ns _ (bit-at h (bitFor b ns) (value p ns) (2 ^ length p) (value-lt p ns))) (above p ns (h * 2 + bitFor b ns)))
 
 pub filled-agrees : (p : List Bit) (ns : List ℕ) → T (agrees p (value p ns))
 filled-agrees p ns = rw (zero-mul, zero-add) at (above p ns 0)

@@ -6,7 +6,7 @@ use Prim.Native.Nat.{ℕ, _+_, _*_, _/_, _%_, _<_}
 use lib.Dec.{eqb, eqb→eq}
 use lib.ListN.{getD}
 use Rattle.instruction.specs.Forms.{forms, formAt, formOf, bits}
-use Rattle.instruction.specs.Pattern.{value, pattern, bytesOf, onto, given, next}
+use Rattle.instruction.specs.Pattern.{value, pattern, patternBytes, onto, bitsGiven, nextBracket}
 use Rattle.instruction.specs.declared.kind.Shape.{Shape}
 use Rattle.instruction.specs.declared.kind.Shape.the-variants.{Bare, Imm, D9, Ri, ImmD9, ImmRi, D9B3, A12, A16, R16, R8, D9B3R8, D9R8, RiR8, ImmR8, RiImmR8}
 use Rattle.instruction.proofs.Every.{holds}
@@ -35,7 +35,7 @@ held ImmR8 x = 0
 held RiImmR8 x = x % 4
 
 pub first-is : (x : ℕ) → x < 256 → fixedOf (formOf x) + held (formAt (formOf x) .shape) x ≡ x
-unfolding held forms formAt formOf pattern bytesOf onto given next
+unfolding held forms formAt formOf pattern patternBytes onto bitsGiven nextBracket
 first-is x h =
     eqb→eq (fixedOf (formOf x) + held (formAt (formOf x) .shape) x) x
     (holds (λ n. eqb (fixedOf (formOf n) + held (formAt (formOf n) .shape) n) n) 256 tt x h)

@@ -4,12 +4,12 @@ use mathlib.Core.Path.{_≡_, refl, sym, _∙_}
 use mathlib.Core.List.{List, [], _∷_}
 use Prim.Native.Nat.{ℕ, _<_}
 use lib.ListN.{length, getD, take}
+use Rattle.instruction.specs.Bytes.{Bytes}
 use Rattle.instruction.specs.Decode.{fieldsIn}
 use Rattle.instruction.specs.Forms.{formAt, formOf}
 use Rattle.instruction.specs.declared.instr.Parts.{Parts}
 use Rattle.instruction.specs.declared.kind.Shape.{Shape}
 use Rattle.instruction.proofs.Reading.{read}
-use Rattle.instruction.proofs.FieldReading.{Bytes}
 use Rattle.instruction.specs.Layout.{blank}
 use Rattle.instruction.proofs.FieldWriting.{written}
 use Rattle.instruction_laws.proofs.EveryKind.{law}
@@ -37,8 +37,8 @@ pub form-reads : (s : List ℕ) → Bytes s → FormReads s
 form-reads s b =
     let k : ℕ = formFirst s in
     let t : Shape = formAt k .shape in
-    let small : k < 70 = one-pattern (getD s 0 0) (b .small 0) .form in
-    let r : Read t k (fixedOf k) (getD s 0 0) (getD s 1 0) (getD s 2 0) = read-by k (fixedOf k) _ _ _ (b .small 0) (b .small 1) (b .small 2) t (first-is (getD s 0 0) (b .small 0)) in
+    let small : k < 70 = one-pattern (getD s 0 0) (b 0) .form in
+    let r : Read t k (fixedOf k) (getD s 0 0) (getD s 1 0) (getD s 2 0) = read-by k (fixedOf k) _ _ _ (b 0) (b 1) (b 2) t (first-is (getD s 0 0) (b 0)) in
     record {
       v = operands t k (r .a) (r .b) (r .c);
       a = r .a;

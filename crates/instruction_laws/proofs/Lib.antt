@@ -10,7 +10,7 @@ pub mod Numbers
 pub mod Forth
 pub mod Back
 pub mod Filled
-pub mod AllBytes
+pub mod Bytes
 pub mod FormReads
 pub mod Fitting
 pub mod EncodedBytes

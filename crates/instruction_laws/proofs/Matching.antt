@@ -10,7 +10,7 @@ use native.Mathlib.Omega.{arith}
 use lib.Dec.{T, eqb, eqb→eq, ltb, ltb→lt}
 use lib.ListN.{length, getD}
 use Rattle.instruction.specs.Forms.{Form, forms, formAt, formOf, bits, matching}
-use Rattle.instruction.specs.Pattern.{agrees, pattern, bytesOf, onto, given, next}
+use Rattle.instruction.specs.Pattern.{agrees, pattern, patternBytes, onto, bitsGiven, nextBracket}
 use Rattle.instruction.proofs.Every.{holds}
 use Rattle.instruction.proofs.Rule.{rule-is}
 use Rattle.instruction_laws.specs.Matching.{matches, Agrees, OnePattern, RuleIsPatterns}
@@ -42,15 +42,15 @@ module _ (x : ℕ) (o : Form) where
       by false f rest = ap suc (rest (rw zero-add at f))
 
 one : (x : ℕ) → x < 256 → matches forms x ≡ 1
-unfolding forms pattern bytesOf onto given next
+unfolding forms pattern patternBytes onto bitsGiven nextBracket
 one x h = eqb→eq (matches forms x) 1 (holds (λ n. eqb (matches forms n) 1) 256 tt x h)
 
 form : (x : ℕ) → x < 256 → formOf x < 70
-unfolding forms formOf pattern bytesOf onto given next
+unfolding forms formOf pattern patternBytes onto bitsGiven nextBracket
 form x h = ltb→lt (formOf x) 70 (holds (λ n. ltb (formOf n) 70) 256 tt x h)
 
 agreed : (x : ℕ) → x < 256 → Agrees (formOf x) x
-unfolding forms formAt formOf pattern bytesOf onto given next
+unfolding forms formAt formOf pattern patternBytes onto bitsGiven nextBracket
 agreed x h = holds (λ n. has n (formAt (formOf n))) 256 tt x h
 
 only : (x : ℕ) → x < 256 → (k : ℕ) → k < 70 → Agrees k x → formOf x ≡ k

@@ -47,7 +47,7 @@ decode-missing s bytes vs e =
     let some : length s ≡ 0 → ⊥ = eqb-false (length s) 0 (passed .0) in
     let inside : 0 < length s = omega arith in
     let short : length s < sizeOf (formAt (formOf (getD s 0 0))) = ltb-true _ _ (spoke .0) in
-    subst OneOrTwo (spoke .1) (cut-missing s 0 (bytes 0 inside) inside (omega arith))
+    subst OneOrTwo (spoke .1) (cut-missing s 0 (bytes 0) inside (omega arith))
 
 pub cut-from : CutFrom
 unfolding cutAt

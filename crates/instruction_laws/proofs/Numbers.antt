@@ -6,7 +6,7 @@ use Prim.Native.Nat.{ℕ, _<_}
 use lib.ListN.{length, take}
 use Rattle.instruction.specs.Answer.{accepted}
 use Rattle.instruction.specs.Code.{operandOf}
-use Rattle.instruction.specs.Encode.{fitAnswer, bytesIn}
+use Rattle.instruction.specs.Encode.{fitAnswer, instrBytes}
 use Rattle.instruction.specs.Forms.{formAt}
 use Rattle.instruction.specs.Kinds.{kindAt}
 use Rattle.instruction.specs.Parts.{partsOf}
@@ -43,8 +43,8 @@ module _ (i : Instr) (v : Parts) (p : partsOf i ≡ v) {a b c : ℕ} (n : Number
   pub fit-by : fitAnswer i ≡ accepted tt
   fit-by = sym (fits i (rw p (n .first .fit)) (rw p (n .second .fit)) (rw p (n .third .fit)))
 
-  pub bytes-by : bytesIn i ≡ take (length (blank (shapeOf v))) (written (shapeOf v) (fixedOf (v .form)) a b c)
-  unfolding bytesIn
+  pub bytes-by : instrBytes i ≡ take (length (blank (shapeOf v))) (written (shapeOf v) (fixedOf (v .form)) a b c)
+  unfolding instrBytes
   bytes-by =
       rw (p, n .first .code, n .second .code, n .third .code, sized (v .form) (shapeOf v) (n .form) refl)
       (sym (write (v .form) (shapeOf v) a b c (n .form) refl (fixedOf (v .form)) refl))

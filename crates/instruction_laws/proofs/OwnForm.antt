@@ -7,16 +7,15 @@ use Prim.Native.Nat.{ℕ, _+_, _<_, _≤_}
 use native.Mathlib.Nat.{not-suc-le-zero}
 use native.Mathlib.Omega.{arith}
 use lib.ListN.{length, getD, length-append}
-use Rattle.instruction.specs.Encode.{formIn, bytesIn}
+use Rattle.instruction.specs.Bytes.{Bytes}
+use Rattle.instruction.specs.Encode.{formIn, instrBytes}
 use Rattle.instruction.specs.Forms.{formOf, bits, sizeOf}
 use Rattle.instruction.specs.Parts.{partsOf}
 use Rattle.instruction.specs.Pattern.{Bit, value, filled}
 use Rattle.instruction.specs.declared.instr.Instr.{Instr}
 use Rattle.instruction.proofs.Known.{known}
-use Rattle.instruction.proofs.FieldReading.{Bytes}
 use Rattle.instruction.proofs.Shapes.{size-range}
-use Rattle.instruction_laws.specs.RoundTrips.{AllBytes}
-use Rattle.instruction_laws.proofs.AllBytes.{bytes, append}
+use Rattle.instruction_laws.proofs.Bytes.{append}
 use Rattle.instruction_laws.proofs.EncodedBytes.{encoded-bytes}
 use Rattle.instruction_laws.proofs.Filled.{filled-agrees}
 use Rattle.instruction_laws.proofs.FirstByte.{fixedOf, held, first-is}
@@ -35,17 +34,17 @@ head : (ps : List (List Bit)) (ns t : List ℕ) → 0 < length ps → getD (fill
 head [] ns t h = absurd (not-suc-le-zero h)
 head (p ∷ ps) ns t h = refl
 
-module _ (i : Instr) (rest : List ℕ) (others : AllBytes rest) where
+module _ (i : Instr) (rest : List ℕ) (others : Bytes rest) where
   abbrev s : List ℕ
-  s = bytesIn i ++ rest
+  s = instrBytes i ++ rest
 
   all : Bytes s
-  all = bytes s (append (bytesIn i) rest (encoded-bytes i .small) others)
+  all = append (instrBytes i) rest (encoded-bytes i .small) others
 
   own : formOf (getD s 0 0) ≡ partsOf i .form
-  unfolding bytesIn
+  unfolding instrBytes
   own =
-      one-pattern (getD s 0 0) (all .small 0) .only (partsOf i .form) (known i .small)
+      one-pattern (getD s 0 0) (all 0) .only (partsOf i .form) (known i .small)
       (rw (head (bits (formIn i)) _ rest (size-range (partsOf i .form) (known i .small) .0)) (filled-agrees (getD (bits (formIn i)) 0 []) _))
 
   pub begins : Begins i s
@@ -54,5 +53,5 @@ module _ (i : Instr) (rest : List ℕ) (others : AllBytes rest) where
         all = all;
         long = rw (length-append, encoded-bytes i .size) (omega arith);
         form = own;
-        first = rw own at (first-is (getD s 0 0) (all .small 0));
+        first = rw own at (first-is (getD s 0 0) (all 0));
       }

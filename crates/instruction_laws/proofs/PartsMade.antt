@@ -5,7 +5,7 @@ use mathlib.Core.Path.{_≡_, refl, ap}
 use Prim.Native.Nat.{ℕ, _<_}
 use lib.Dec.{eqb, eqb→eq}
 use lib.IntN.{ℤ}
-use Rattle.instruction.specs.Forms.{Form, forms, formAt, numberOf}
+use Rattle.instruction.specs.Forms.{Form, forms, formAt, formNamed}
 use Rattle.instruction.specs.Kinds.{kindsOf}
 use Rattle.instruction.specs.Parts.{parts, partsOf, madeOf}
 use Rattle.instruction.specs.declared.instr.Parts.{Parts}
@@ -15,9 +15,9 @@ use Rattle.instruction.proofs.Shapes.{at-each}
 use Rattle.instruction_laws.specs.PartsMade.{usedIn, PartsMade}
 
 -- the form's name gives its number
-numbered : (k : ℕ) → k < 70 → numberOf (formAt k .name) ≡ k
-unfolding numberOf formAt forms
-numbered k h = eqb→eq (numberOf (formAt k .name)) k (holds (λ j. eqb (numberOf (formAt j .name)) j) 70 tt k h)
+numbered : (k : ℕ) → k < 70 → formNamed (formAt k .name) ≡ k
+unfolding formNamed formAt forms
+numbered k h = eqb→eq (formNamed (formAt k .name)) k (holds (λ j. eqb (formNamed (formAt j .name)) j) 70 tt k h)
 
 abbrev taken : Form → ℤ → ℤ → ℤ → Parts
 taken w a b c = partsOf (w .make a b c)

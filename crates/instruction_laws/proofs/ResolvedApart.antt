@@ -7,16 +7,16 @@ use Prim.Native.Nat.{ℕ}
 use lib.Dec.{eqb}
 use lib.IntN.{ℤ}
 use Rattle.instruction.specs.Answer.{Answer, accepted, refused, Apart}
-use Rattle.instruction.specs.Resolution.{resolutionOf}
+use Rattle.instruction.specs.ResolveOperand.{resolutionOf}
 use Rattle.instruction.specs.declared.layout.Fields.{Fields}
-use Rattle.instruction.specs.declared.resolution.Resolution.{Resolution}
-use Rattle.instruction.specs.declared.resolution.Resolution.the-variants.{All, FarBase as Far, Refused as Not}
+use Rattle.instruction.specs.declared.resolve_operand.Resolution.{Resolution}
+use Rattle.instruction.specs.declared.resolve_operand.Resolution.the-variants.{All, FarBase as Far, Refused as Not}
 use Rattle.instruction.specs.Resolve.{resolvedOf}
 use Rattle.instruction.specs.declared.instr.Instr.{Instr}
 use Rattle.instruction.specs.declared.resolve.Resolved.{Resolved}
 use Rattle.instruction.specs.declared.resolve.Resolved.the-variants.{Fields as Whole, FarBase, Refused}
-use Rattle.instruction.specs.declared.resolution.Why.{Why}
-use Rattle.instruction.specs.declared.resolution.Why.the-variants.{Unfit, NoAddress, TooFar, OtherPage}
+use Rattle.instruction.specs.declared.resolve_operand.Why.{Why}
+use Rattle.instruction.specs.declared.resolve_operand.Why.the-variants.{Unfit, NoAddress, TooFar, OtherPage}
 use Rattle.instruction_laws.proofs.Undone.{undone, valueAt, numberAt, misfit, tops}
 
 abbrev why : ℕ → List ℤ → Why

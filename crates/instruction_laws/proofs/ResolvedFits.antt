@@ -12,7 +12,7 @@ use Rattle.instruction.specs.Kinds.{kindAt}
 use Rattle.instruction.specs.Range.{unfit}
 use Rattle.instruction.specs.Parts.{partsOf}
 use Rattle.instruction.specs.Resolve.{resolveAnswer}
-use Rattle.instruction.specs.Resolution.{wrapped, operandRefusals, fieldOf}
+use Rattle.instruction.specs.ResolveOperand.{wrapped, operandRefusals, fieldOf}
 use Rattle.instruction.specs.declared.instr.Parts.{Parts}
 use Rattle.instruction.specs.declared.kind.Kind.{Kind}
 use Rattle.instruction.specs.declared.kind.Kind.the-variants.{Absent, Immediate, Direct, Register, BitNumber, Page, Far, Short, Long}

@@ -2,7 +2,7 @@
 -- cases.' Each of these definitions tells all cases and all values apart.
 -- Assumes nothing.
 use Rattle.instruction.specs.Answer.{Apart}
-use Rattle.instruction.specs.Resolution.{resolutionOf}
+use Rattle.instruction.specs.ResolveOperand.{resolutionOf}
 use Rattle.instruction.specs.Decode.{decodedOf}
 use Rattle.instruction.specs.Encode.{encodedOf, fitOf}
 use Rattle.instruction.specs.Resolve.{resolvedOf}

@@ -6,11 +6,11 @@ use mathlib.Core.Logic.{_⊎_}
 use mathlib.Core.Path.{_≡_}
 use lib.IntN.{ℤ, pos}
 use lib.ListN.{length, getD, drop}
+use Rattle.instruction.specs.Bytes.{Bytes}
 use Rattle.instruction.specs.Answer.{refused}
 use Rattle.instruction.specs.CutOff.{cutValues}
 use Rattle.instruction.specs.Decode.{cutAt, decodeAnswer}
 use Rattle.instruction.specs.Forms.{formAt, formOf, sizeOf}
-use Rattle.instruction_laws.specs.RoundTrips.{AllBytes}
 
 -- the third value of refusal 5
 abbrev pub missingIn : List ℤ → ℤ
@@ -26,7 +26,7 @@ CutMissing =
 
 -- so decode answers no other number
 abbrev pub DecodeMissing : Type 0
-DecodeMissing = (s : List ℕ) → AllBytes s → (vs : List ℤ) → decodeAnswer s ≡ refused 5 vs → OneOrTwo vs
+DecodeMissing = (s : List ℕ) → Bytes s → (vs : List ℤ) → decodeAnswer s ≡ refused 5 vs → OneOrTwo vs
 
 -- what refusal 5 tells of a place is, but for the position, what decode says of the bytes from there on
 abbrev pub CutFrom : Type 0

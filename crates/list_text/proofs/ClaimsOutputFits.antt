@@ -7,20 +7,20 @@ use Prim.Native.Nat.{ℕ, _≤_, _<_}
 use native.Mathlib.Omega.{arith}
 use lib.IntN.{ℤ, natAbs}
 use lib.ListN.{length}
+use Rattle.instruction.specs.Bytes.{Bytes}
 use Rattle.instruction.specs.Answer.{Answer, accepted, refused, judge}
 use Rattle.instruction.proofs.Judging.{accepts}
 use Rattle.instruction_laws.specs.Missing.{OneOrTwo, missingIn}
 use Rattle.trace.specs.Run.{runAnswer, runMarks}
-use Rattle.trace_laws.specs.ClaimsImages.{Bytes}
 use Rattle.views.specs.View.{viewRefusals}
 use Rattle.list_text.specs.ClaimsInput.{Valid}
-use Rattle.list_text.specs.Text.{countsOf, entriesOf, imageOf, lineRefusals}
+use Rattle.list_text.specs.Text.{countsOf, entriesOf, imageOf, inputRefusals}
 use Rattle.list_text.proofs.Longest.{most-held}
 use Rattle.listing.specs.Walk.{listingOf}
 use Rattle.listing.specs.declared.tabbed.Arrivals.the-variants.{Declined}
 use Rattle.listing_laws.proofs.ClaimsRoomBound.{listing-bound}
 use Rattle.list_text.specs.ClaimsOutput.{OutputFits}
-use Rattle.list_text.specs.Output.{lent, refusalLine, tracedText, textListed, shown, outputOf}
+use Rattle.list_text.specs.Output.{lentRoom, refusalLine, tracedText, textListed, outputText, outputOf}
 use Rattle.text.specs.Decimal.{width}
 use Rattle.text.proofs.Decimals.{width-one}
 use Rattle.text.proofs.RefusalPutting.{number-length, value-length}
@@ -44,7 +44,7 @@ line-short text n vs e = by (only-two text n vs e)
     by (inl f) = rw f (omega (arith, number-length 13 2 refl))
     by (inr f) = rw f (five (listed-missing text vs (e ∙ ap (λ (k : ℕ). refused k vs) f)))
 
-shown-fits : (r : Answer (List ℕ)) → ((out : List ℕ) → r ≡ accepted out → length out ≤ 983040) → ((n : ℕ) (vs : List ℤ) → r ≡ refused n vs → length (refusalLine n vs) ≤ 6) → length (shown r) ≤ 983040
+shown-fits : (r : Answer (List ℕ)) → ((out : List ℕ) → r ≡ accepted out → length out ≤ 983040) → ((n : ℕ) (vs : List ℤ) → r ≡ refused n vs → length (refusalLine n vs) ≤ 6) → length (outputText r) ≤ 983040
 shown-fits (accepted out) f g = f out refl
 shown-fits (refused n vs) f g = omega (arith, g n vs refl)
 
@@ -52,8 +52,8 @@ shown-fits (refused n vs) f g = omega (arith, g n vs refl)
 listed : (image entries out : List ℕ) → length image ≤ 16384 → Bytes image → tracedText image entries ≡ accepted out → length out ≤ 983040
 unfolding tracedText
 listed image entries out h B e =
-    let m = runMarks image lent lent entries (length image) in
-    let a = or-accepted (runAnswer image lent lent entries (length image)) (judge (viewRefusals image m) (listingOf image m Declined)) out e in
+    let m = runMarks image lentRoom lentRoom entries (length image) in
+    let a = or-accepted (runAnswer image lentRoom lentRoom entries (length image)) (judge (viewRefusals image m) (listingOf image m Declined)) out e in
     let f : listingOf image m Declined ≡ out = accepts (viewRefusals image m) (listingOf image m Declined) out (a .1) in
     omega (arith, ap length f, listing-bound image m B)
 
@@ -63,8 +63,8 @@ output-fits text = shown-fits _ by (line-short text)
   where
     by : (out : List ℕ) → textListed text ≡ accepted out → length out ≤ 983040
     by out e =
-        let a = or-accepted (judge (lineRefusals text) (countsOf text)) (tracedText (imageOf text) (entriesOf text)) out e in
+        let a = or-accepted (judge (inputRefusals text) (countsOf text)) (tracedText (imageOf text) (entriesOf text)) out e in
         let c = a .0 .0 in
-        let g : judge (lineRefusals text) (countsOf text) ≡ accepted c = a .0 .1 in
-        let v : Valid text = g ∙ ap accepted (sym (accepts (lineRefusals text) (countsOf text) c g)) in
+        let g : judge (inputRefusals text) (countsOf text) ≡ accepted c = a .0 .1 in
+        let v : Valid text = g ∙ ap accepted (sym (accepts (inputRefusals text) (countsOf text) c g)) in
         listed (imageOf text) (entriesOf text) out (most-held text v .1) (image-bytes text) (a .1)

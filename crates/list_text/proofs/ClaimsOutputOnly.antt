@@ -21,19 +21,19 @@ use Rattle.reach.proofs.Note.{length-note}
 use Rattle.reach.proofs.Order.{cleared-base}
 use Rattle.reach.proofs.Run.{run-takes}
 use Rattle.reach.proofs.Took.{length-took}
-use Rattle.trace.specs.Run.{Said, runJudged, runAnswer, runMarks, ranAnswer, endOf, outcomeOf, orElse}
+use Rattle.trace.specs.Run.{RunResult, runJudged, runAnswer, runMarks, ranAnswer, endOf, outcomeOf, andThen}
 use Rattle.marks.specs.Tracer.{tracerOf}
 use Rattle.marks.proofs.Sizing.{right-sizes}
 use Rattle.trace_laws.proofs.ClaimsMissingFew.{run-missing}
 use Rattle.views.specs.View.{Sound, viewRefusals}
 use Rattle.views_laws.proofs.Finished.{marks-are}
 use Rattle.list_text.specs.ClaimsInput.{Valid, refusalOf}
-use Rattle.list_text.specs.Text.{countsOf, entriesOf, imageOf, lineRefusals}
+use Rattle.list_text.specs.Text.{countsOf, entriesOf, imageOf, inputRefusals}
 use Rattle.list_text.proofs.Longest.{Thirteen, lines-13, most-held}
 use Rattle.listing.specs.Walk.{listingOf}
 use Rattle.listing.specs.declared.tabbed.Arrivals.the-variants.{Declined}
 use Rattle.list_text.specs.ClaimsOutput.{ListedMissing, OnlyTwo}
-use Rattle.list_text.specs.Output.{lent, tracedText, textListed}
+use Rattle.list_text.specs.Output.{lentRoom, tracedText, textListed}
 use Rattle.list_text.proofs.ImageBytes.{image-bytes}
 use Rattle.list_text.proofs.Images.{lent-is, marks-sound}
 use Rattle.list_text.proofs.Parts.{differ, or-refused}
@@ -51,20 +51,20 @@ run-length image marks entries limit h =
     ∙ length-note (length image) entries (cleared (length image) marks)
     ∙ length-cleared (length image) marks h
 
-lent-length : length lent ≡ 16384
+lent-length : length lentRoom ≡ 16384
 lent-length = ap length (sym lent-is) ∙ length-replicate {A = ℕ} 16384 0
 
 module _ (image entries : List ℕ) (small : length image ≤ 16384) where
-  judged : runJudged image lent lent ≡ accepted tt
+  judged : runJudged image lentRoom lentRoom ≡ accepted tt
   judged =
       let l = lent-length in
-      right-sizes image lent _ tt (omega arith) (omega arith) ∙ pass _ _ _ (le-ltb (length lent) (length image) (omega arith)) ∙ done tt
+      right-sizes image lentRoom _ tt (omega arith) (omega arith) ∙ pass _ _ _ (le-ltb (length lentRoom) (length image) (omega arith)) ∙ done tt
 
-  run-five : (n : ℕ) (vs : List ℤ) → runAnswer image lent lent entries (length image) ≡ refused n vs → n ≡ 5
+  run-five : (n : ℕ) (vs : List ℤ) → runAnswer image lentRoom lentRoom entries (length image) ≡ refused n vs → n ≡ 5
   unfolding runAnswer
   run-five n vs e =
-      let out = outcomeOf image lent entries (length image) in
-      by (out .end) (steps out) (length (noted out)) (ap (λ (q : Answer (Unit {0})). orElse q (ranAnswer image out)) (sym judged) ∙ e)
+      let out = outcomeOf image lentRoom entries (length image) in
+      by (out .end) (steps out) (length (noted out)) (ap (λ (q : Answer (Unit {0})). andThen q (ranAnswer image out)) (sym judged) ∙ e)
     where
       by : (d : End) (s k : ℕ) → endOf image d s k ≡ refused n vs → n ≡ 5
       by finished s k f = absurd (differ (sym f))
@@ -72,40 +72,40 @@ module _ (image entries : List ℕ) (small : length image ≤ 16384) where
       by (cutOff p) s k f = let g : 5 ≡ n = cc in sym g
 
   -- what is refused, the run refused
-  run-refused : (n : ℕ) (vs : List ℤ) → tracedText image entries ≡ refused n vs → runAnswer image lent lent entries (length image) ≡ refused n vs
+  run-refused : (n : ℕ) (vs : List ℤ) → tracedText image entries ≡ refused n vs → runAnswer image lentRoom lentRoom entries (length image) ≡ refused n vs
   unfolding tracedText
-  run-refused n vs e = by (or-refused (runAnswer image lent lent entries (length image)) _ n vs e)
+  run-refused n vs e = by (or-refused (runAnswer image lentRoom lentRoom entries (length image)) _ n vs e)
     where
       m : List ℕ
-      m = runMarks image lent lent entries (length image)
+      m = runMarks image lentRoom lentRoom entries (length image)
 
-      by : (runAnswer image lent lent entries (length image) ≡ refused n vs) ⊎ (((s : Said) × (runAnswer image lent lent entries (length image) ≡ accepted s)) × (judge (viewRefusals image m) (listingOf image m Declined) ≡ refused n vs)) → runAnswer image lent lent entries (length image) ≡ refused n vs
+      by : (runAnswer image lentRoom lentRoom entries (length image) ≡ refused n vs) ⊎ (((s : RunResult) × (runAnswer image lentRoom lentRoom entries (length image) ≡ accepted s)) × (judge (viewRefusals image m) (listingOf image m Declined) ≡ refused n vs)) → runAnswer image lentRoom lentRoom entries (length image) ≡ refused n vs
       by (inl r) = r
       by (inr a) =
           let s = a .0 .0 in
-          let f : runAnswer image lent lent entries (length image) ≡ accepted s = a .0 .1 in
-          let l : length m ≡ length lent = ap length (marks-are image lent lent entries (length image) s f) ∙ run-length image lent entries (length image) (let k = lent-length in omega arith) in
+          let f : runAnswer image lentRoom lentRoom entries (length image) ≡ accepted s = a .0 .1 in
+          let l : length m ≡ length lentRoom = ap length (marks-are image lentRoom lentRoom entries (length image) s f) ∙ run-length image lentRoom entries (length image) (let k = lent-length in omega arith) in
           let S : Sound image m = marks-sound image entries small s f l in
           absurd (differ (sym (a .1) ∙ judged-on (viewRefusals image m) S (listingOf image m Declined)))
 
 -- a line refuses with 13, or the lines are good and the run refuses
 abbrev Why : List ℕ → ℕ → List ℤ → Type 0
-Why text n vs = (n ≡ 13) ⊎ ((length (imageOf text) ≤ 16384) × (runAnswer (imageOf text) lent lent (entriesOf text) (length (imageOf text)) ≡ refused n vs))
+Why text n vs = (n ≡ 13) ⊎ ((length (imageOf text) ≤ 16384) × (runAnswer (imageOf text) lentRoom lentRoom (entriesOf text) (length (imageOf text)) ≡ refused n vs))
 
 why : (text : List ℕ) (n : ℕ) (vs : List ℤ) → textListed text ≡ refused n vs → Why text n vs
 unfolding textListed
-why text n vs e = by (or-refused (judge (lineRefusals text) (countsOf text)) _ n vs e)
+why text n vs e = by (or-refused (judge (inputRefusals text) (countsOf text)) _ n vs e)
   where
-    line : Thirteen (judge (lineRefusals text) (countsOf text)) (countsOf text) → judge (lineRefusals text) (countsOf text) ≡ refused n vs → n ≡ 13
+    line : Thirteen (judge (inputRefusals text) (countsOf text)) (countsOf text) → judge (inputRefusals text) (countsOf text) ≡ refused n vs → n ≡ 13
     line (inl v) f = absurd (differ (sym f ∙ v))
     line (inr r) f = ap refusalOf (sym f) ∙ r
 
-    by : (judge (lineRefusals text) (countsOf text) ≡ refused n vs) ⊎ (((c : _) × (judge (lineRefusals text) (countsOf text) ≡ accepted c)) × (tracedText (imageOf text) (entriesOf text) ≡ refused n vs)) → Why text n vs
+    by : (judge (inputRefusals text) (countsOf text) ≡ refused n vs) ⊎ (((c : _) × (judge (inputRefusals text) (countsOf text) ≡ accepted c)) × (tracedText (imageOf text) (entriesOf text) ≡ refused n vs)) → Why text n vs
     by (inl f) = inl (line (lines-13 text) f)
     by (inr a) =
         let c = a .0 .0 in
-        let g : judge (lineRefusals text) (countsOf text) ≡ accepted c = a .0 .1 in
-        let v : Valid text = g ∙ ap accepted (sym (accepts (lineRefusals text) (countsOf text) c g)) in
+        let g : judge (inputRefusals text) (countsOf text) ≡ accepted c = a .0 .1 in
+        let v : Valid text = g ∙ ap accepted (sym (accepts (inputRefusals text) (countsOf text) c g)) in
         let small = most-held text v .1 in
         inr (small, run-refused (imageOf text) (entriesOf text) small n vs (a .1))
 
@@ -121,4 +121,4 @@ listed-missing text vs e = by (why text 5 vs e)
   where
     by : Why text 5 vs → OneOrTwo vs
     by (inl f) = absurd (omega (arith, f))
-    by (inr r) = run-missing (imageOf text) lent lent (entriesOf text) (length (imageOf text)) vs (image-bytes text) (r .1)
+    by (inr r) = run-missing (imageOf text) lentRoom lentRoom (entriesOf text) (length (imageOf text)) vs (image-bytes text) (r .1)

@@ -8,14 +8,14 @@ use native.Mathlib.Omega.{arith}
 use lib.IntN.{pos}
 use lib.ListN.{length, take, drop, length-map}
 use lib.Seq.{sets}
-use Rattle.instruction.specs.Answer.{refused, judge}
+use Rattle.instruction.specs.Answer.{refused, judge, laid}
 use Rattle.instruction.proofs.Judging.{pass, stop}
 use Rattle.text.specs.Cut.{cut, upTo, lines, fields}
 use Rattle.text.specs.Four.{fourOf}
 use Rattle.text.proofs.Cuts.{line-next}
-use Rattle.list_text.specs.Bytes.{bytesIn}
+use Rattle.list_text.specs.Bytes.{bytesInLines}
 use Rattle.list_text.specs.Entries.{entriesIn, isEntries, entriesLine}
-use Rattle.list_text.specs.Text.{first, others, entryLine, imageLines, entriesOf, imageOf, counts, countsOf, imageRefusals, lineRefusals, laid}
+use Rattle.list_text.specs.Text.{first, others, entryLine, imageLines, entriesOf, imageOf, counts, countsOf, imageRefusals, inputRefusals}
 use Rattle.list_text.specs.declared.line.Line.{Line}
 use Rattle.list_text.specs.declared.line.Line.the-variants.{Good, Bad}
 use Rattle.list_text.proofs.LaidRooms.{laid-over}
@@ -50,14 +50,14 @@ module _ (t : List ℕ) (e : ℕ) (p : e ≡ 0 + length (upTo 10 (drop 0 t))) wh
   abbrev rest : List (List ℕ)
   rest = lines (drop (e + 1) t)
 
-  pub first-bad : (r : Line) → r ≡ entriesLine line → r ≡ Bad → refused 13 (pos 1 ∷ []) ≡ judge (lineRefusals t) (countsOf t)
-  unfolding lineRefusals
+  pub first-bad : (r : Line) → r ≡ entriesLine line → r ≡ Bad → refused 13 (pos 1 ∷ []) ≡ judge (inputRefusals t) (countsOf t)
+  unfolding inputRefusals
   first-bad r f g =
       let b : isEntries (entryLine t) ≡ false = ap isEntries (split t e p .0) ∙ bad-line line (sym f ∙ g) in
       sym (stop _ _ _ (rw b))
 
-  pub first-good : (r : Line) → r ≡ entriesLine line → (n : ℕ) → r ≡ Good n → judge (imageRefusals 2 0 rest) (counts n (length (bytesIn rest))) ≡ judge (lineRefusals t) (countsOf t)
-  unfolding lineRefusals countsOf
+  pub first-good : (r : Line) → r ≡ entriesLine line → (n : ℕ) → r ≡ Good n → judge (imageRefusals 2 0 rest) (counts n (length (bytesInLines rest))) ≡ judge (inputRefusals t) (countsOf t)
+  unfolding inputRefusals countsOf
   first-good r f n g =
       let w = good-line line n (sym f ∙ g) in
       let s = split t e p in
@@ -65,20 +65,20 @@ module _ (t : List ℕ) (e : ℕ) (p : e ≡ 0 + length (upTo 10 (drop 0 t))) wh
       let m : length (entriesOf t) ≡ n = length-map (fields (entryLine t)) fourOf ∙ ap (λ (l : List ℕ). length (fields l)) (s .0) ∙ w .1 in
       sym
       (pass _ _ _ (rw b)
-      ∙ ap (λ (ls : List (List ℕ)). judge (imageRefusals 2 0 ls) (counts (length (entriesOf t)) (length (bytesIn ls)))) (s .1)
-      ∙ ap (λ (k : ℕ). judge (imageRefusals 2 0 rest) (counts k (length (bytesIn rest)))) m)
+      ∙ ap (λ (ls : List (List ℕ)). judge (imageRefusals 2 0 ls) (counts (length (entriesOf t)) (length (bytesInLines ls)))) (s .1)
+      ∙ ap (λ (k : ℕ). judge (imageRefusals 2 0 rest) (counts k (length (bytesInLines rest)))) m)
 
   -- how much there is to write
   pub entries-fit : (k : ℕ) → length (entriesOf t) ≤ k → length (fields line) ≤ k
   entries-fit k h =
       omega (arith, length-map (fields (entryLine t)) fourOf ∙ ap (λ (l : List ℕ). length (fields l)) (split t e p .0))
 
-  pub image-fits : (k : ℕ) → length (imageOf t) ≤ k → length (bytesIn rest) ≤ k
-  image-fits k h = omega (arith, ap (λ (ls : List (List ℕ)). length (bytesIn ls)) (split t e p .1))
+  pub image-fits : (k : ℕ) → length (imageOf t) ≤ k → length (bytesInLines rest) ≤ k
+  image-fits k h = omega (arith, ap (λ (ls : List (List ℕ)). length (bytesInLines ls)) (split t e p .1))
 
-  pub put-whole : (room image : List ℕ) → length (entriesOf t) ≤ length room → length (imageOf t) ≤ length image → (room′ : List ℕ) → room′ ≡ sets room 0 (entriesIn line) → (image′ : List ℕ) → image′ ≡ sets image 0 (bytesIn rest) → (room′ ≡ laid (entriesOf t) room) × (image′ ≡ laid (imageOf t) image)
+  pub put-whole : (room image : List ℕ) → length (entriesOf t) ≤ length room → length (imageOf t) ≤ length image → (room′ : List ℕ) → room′ ≡ sets room 0 (entriesIn line) → (image′ : List ℕ) → image′ ≡ sets image 0 (bytesInLines rest) → (room′ ≡ laid (entriesOf t) room) × (image′ ≡ laid (imageOf t) image)
   put-whole room image h k room′ f image′ g =
       let s = split t e p in (
         f ∙ ap (λ (l : List ℕ). sets room 0 (entriesIn l)) (sym (s .0)) ∙ laid-over (entriesOf t) room h,
-        g ∙ ap (λ (ls : List (List ℕ)). sets image 0 (bytesIn ls)) (sym (s .1)) ∙ laid-over (imageOf t) image k,
+        g ∙ ap (λ (ls : List (List ℕ)). sets image 0 (bytesInLines ls)) (sym (s .1)) ∙ laid-over (imageOf t) image k,
       )

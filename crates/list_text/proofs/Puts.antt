@@ -9,7 +9,7 @@ use lib.Seq.{sets, length-sets}
 use Rattle.text.specs.Bytes.{bytesOf}
 use Rattle.text.specs.Cut.{upTo, lines}
 use Rattle.text.proofs.Cuts.{line-next, lines-end}
-use Rattle.list_text.specs.Bytes.{bytesIn}
+use Rattle.list_text.specs.Bytes.{bytesInLines}
 use Rattle.list_text.proofs.Turns.{no-bytes}
 
 sets-append : (room : List ℕ) (n : ℕ) (a b : List ℕ) → sets room n (a ++ b) ≡ sets (sets room n a) (n + length a) b
@@ -20,32 +20,32 @@ module _ (text : List ℕ) (from : ℕ) (image₀ : List ℕ) where
   -- what remains, written from here, is all written
   pub record Putting (image : List ℕ) (at n : ℕ) : Type 0 where
     pub long : length image ≡ length image₀
-    pub fits : n + length (bytesIn (lines (drop at text))) ≤ length image
-    pub rest : sets image n (bytesIn (lines (drop at text))) ≡ sets image₀ 0 (bytesIn (lines (drop from text)))
+    pub fits : n + length (bytesInLines (lines (drop at text))) ≤ length image
+    pub rest : sets image n (bytesInLines (lines (drop at text))) ≡ sets image₀ 0 (bytesInLines (lines (drop from text)))
 
-  pub put-start : length (bytesIn (lines (drop from text))) ≤ length image₀ → Putting image₀ from 0
+  pub put-start : length (bytesInLines (lines (drop from text))) ≤ length image₀ → Putting image₀ from 0
   put-start h = record { long = refl; fits = omega arith; rest = refl }
 
   module _ (image : List ℕ) (at n : ℕ) (s : Putting image at n) where
-    pub put-end : length text ≤ at → image ≡ sets image₀ 0 (bytesIn (lines (drop from text)))
-    put-end h = sym (ap (sets image n) (ap bytesIn (lines-end text at h) ∙ no-bytes)) ∙ s .rest
+    pub put-end : length text ≤ at → image ≡ sets image₀ 0 (bytesInLines (lines (drop from text)))
+    put-end h = sym (ap (sets image n) (ap bytesInLines (lines-end text at h) ∙ no-bytes)) ∙ s .rest
 
     module _ (e : ℕ) (p : e ≡ at + length (upTo 10 (drop at text))) (h : at < length text) where
       abbrev bytes : List ℕ
       bytes = bytesOf (take (e - at) (drop at text))
 
-      next : bytesIn (lines (drop at text)) ≡ bytes ++ bytesIn (lines (drop (e + 1) text))
-      unfolding bytesIn
-      next = ap bytesIn (line-next text at e p h)
+      next : bytesInLines (lines (drop at text)) ≡ bytes ++ bytesInLines (lines (drop (e + 1) text))
+      unfolding bytesInLines
+      next = ap bytesInLines (line-next text at e p h)
 
       pub put-fits : n + length bytes ≤ length image
-      put-fits = omega (arith, s .fits, ap length next, length-append bytes (bytesIn (lines (drop (e + 1) text))))
+      put-fits = omega (arith, s .fits, ap length next, length-append bytes (bytesInLines (lines (drop (e + 1) text))))
 
       pub put-next : (m : ℕ) → m ≡ n + length bytes → (image′ : List ℕ) → image′ ≡ sets image n bytes → Putting image′ (e + 1) m
       put-next m f image′ g =
           let l : length image′ ≡ length image = ap length g ∙ length-sets image n bytes in
           record {
             long = l ∙ s .long;
-            fits = omega (arith, s .fits, ap length next, length-append bytes (bytesIn (lines (drop (e + 1) text))));
-            rest = rw (f, g) (sym (ap (sets image n) next ∙ sets-append image n bytes (bytesIn (lines (drop (e + 1) text)))) ∙ s .rest);
+            fits = omega (arith, s .fits, ap length next, length-append bytes (bytesInLines (lines (drop (e + 1) text))));
+            rest = rw (f, g) (sym (ap (sets image n) next ∙ sets-append image n bytes (bytesInLines (lines (drop (e + 1) text)))) ∙ s .rest);
           }

@@ -8,14 +8,14 @@ use lib.IntN.{ℤ}
 use lib.ListN.{length, take, drop, replicate, length-replicate}
 use lib.Seq.{take-at}
 use borrow.Author.Tests.{le-ltb}
-use Rattle.instruction.specs.Answer.{Answer, accepted, refused, judge, after}
+use Rattle.instruction.specs.Answer.{Answer, accepted, refused, judge, after, laid}
 use Rattle.instruction.proofs.Judging.{pass, done, first-of, past-all, accepts}
-use Rattle.trace.specs.Run.{orElse}
+use Rattle.trace.specs.Run.{andThen}
 use Rattle.list_text.specs.ClaimsInput.{Valid}
-use Rattle.list_text.specs.Text.{countsOf, entriesOf, imageOf, lineRefusals, parseAnswer, parseEntries, parseImage, laid}
+use Rattle.list_text.specs.Text.{countsOf, entriesOf, imageOf, inputRefusals, parseAnswer, parseEntries, parseImage}
 use Rattle.list_text.specs.declared.parsed.Input.{Input}
 use Rattle.list_text.proofs.Longest.{most-held}
-use Rattle.list_text.specs.Output.{textListed, tracedText, shown, outputOf, refusalLine}
+use Rattle.list_text.specs.Output.{textListed, tracedText, outputText, outputOf, refusalLine}
 
 differ : {A : Type 0} {a : A} {n : ℕ} {vs : List ℤ} → _≡_ {A = Answer A} (accepted a) (refused n vs) → ⊥
 differ e = let z : _≡_ {A = ℕ} 0 1 = cc in omega arith
@@ -28,14 +28,14 @@ module _ (text : List ℕ) where
   image = replicate 16384 0
 
   abbrev judged : Answer Input
-  judged = judge (lineRefusals text) (countsOf text)
+  judged = judge (inputRefusals text) (countsOf text)
 
   -- the rooms are long enough
   valid-parses : Valid text → parseAnswer text entries image ≡ accepted (countsOf text)
   unfolding parseAnswer
   valid-parses v =
       let b = most-held text v in
-      past-all _ (countsOf text) (countsOf text) (lineRefusals text) v
+      past-all _ (countsOf text) (countsOf text) (inputRefusals text) v
       ∙ pass _ _ _ (rw (le-ltb (length entries) (length (entriesOf text)) (room 256 (b .0)), le-ltb (length image) (length (imageOf text)) (room 16384 (b .1))))
       ∙ done (countsOf text)
     where
@@ -44,10 +44,10 @@ module _ (text : List ℕ) where
 
   invalid-parses : (n : ℕ) (vs : List ℤ) → judged ≡ refused n vs → parseAnswer text entries image ≡ refused n vs
   unfolding parseAnswer
-  invalid-parses n vs e = first-of _ (countsOf text) (countsOf text) (lineRefusals text) n vs e
+  invalid-parses n vs e = first-of _ (countsOf text) (countsOf text) (inputRefusals text) n vs e
 
   is-valid : (r : Answer Input) → judged ≡ r → (c : Input) → accepted c ≡ parseAnswer text entries image → Valid text
-  is-valid (accepted d) e c f = e ∙ ap accepted (sym (accepts (lineRefusals text) (countsOf text) d e))
+  is-valid (accepted d) e c f = e ∙ ap accepted (sym (accepts (inputRefusals text) (countsOf text) d e))
   is-valid (refused n vs) e c f = absurd (differ (f ∙ invalid-parses n vs e))
 
   pub accepted-valid : (c : Input) → accepted c ≡ parseAnswer text entries image → Valid text × (c ≡ countsOf text)
@@ -58,17 +58,17 @@ module _ (text : List ℕ) where
   -- a refusal is that of a line
   refused-line : (n : ℕ) (vs : List ℤ) → refused n vs ≡ parseAnswer text entries image → (r : Answer Input) → judged ≡ r → judged ≡ refused n vs
   refused-line n vs f (accepted d) e =
-      absurd (differ (sym (f ∙ valid-parses (e ∙ ap accepted (sym (accepts (lineRefusals text) (countsOf text) d e))))))
+      absurd (differ (sym (f ∙ valid-parses (e ∙ ap accepted (sym (accepts (inputRefusals text) (countsOf text) d e))))))
   refused-line n vs f (refused k us) e = e ∙ sym (f ∙ invalid-parses k us e)
 
   pub refused-output : (n : ℕ) (vs : List ℤ) → refused n vs ≡ parseAnswer text entries image → refusalLine n vs ≡ outputOf text
   unfolding outputOf textListed
-  refused-output n vs f = sym (ap (λ (r : Answer Input). shown (orElse r (tracedText (imageOf text) (entriesOf text)))) (refused-line n vs f judged refl))
+  refused-output n vs f = sym (ap (λ (r : Answer Input). outputText (andThen r (tracedText (imageOf text) (entriesOf text)))) (refused-line n vs f judged refl))
 
   module _ (v : Valid text) where
-    pub valid-output : shown (tracedText (imageOf text) (entriesOf text)) ≡ outputOf text
+    pub valid-output : outputText (tracedText (imageOf text) (entriesOf text)) ≡ outputOf text
     unfolding outputOf textListed
-    valid-output = sym (ap (λ (r : Answer Input). shown (orElse r (tracedText (imageOf text) (entriesOf text)))) v)
+    valid-output = sym (ap (λ (r : Answer Input). outputText (andThen r (tracedText (imageOf text) (entriesOf text)))) v)
 
     -- what stands in the rooms afterwards
     pub read-entries : (l : List ℕ) → l ≡ parseEntries text entries image → (n : ℕ) → n ≡ length (entriesOf text) → take (n - 0) (drop 0 l) ≡ entriesOf text

@@ -15,7 +15,7 @@ use Rattle.text.specs.Bytes.{bytesOf, isBytes}
 use Rattle.text.specs.Cut.{upTo, lines}
 use Rattle.text.proofs.Cuts.{line-next, lines-end}
 use Rattle.text.proofs.Pairs.{bytes-parts}
-use Rattle.list_text.specs.Bytes.{bytesLine, bytesIn}
+use Rattle.list_text.specs.Bytes.{bytesLine, bytesInLines}
 use Rattle.list_text.specs.Text.{counts, imageRefusals}
 use Rattle.list_text.specs.declared.line.Line.{Line}
 use Rattle.list_text.specs.declared.line.Line.the-variants.{Good, Bad}
@@ -37,18 +37,18 @@ module _ (k n : ℕ) (l : List ℕ) (ls : List (List ℕ)) (c : Input) where
     unfolding imageRefusals
     first-good h = pass _ _ _ (rw (e, le-ltb 16384 (n + length (bytesOf l)) h))
 
-pub more-bytes : (l : List ℕ) (ls : List (List ℕ)) → length (bytesIn (l ∷ ls)) ≡ length (bytesOf l) + length (bytesIn ls)
-unfolding bytesIn
-more-bytes l ls = length-append (bytesOf l) (bytesIn ls)
+pub more-bytes : (l : List ℕ) (ls : List (List ℕ)) → length (bytesInLines (l ∷ ls)) ≡ length (bytesOf l) + length (bytesInLines ls)
+unfolding bytesInLines
+more-bytes l ls = length-append (bytesOf l) (bytesInLines ls)
 
-pub no-bytes : bytesIn [] ≡ []
-unfolding bytesIn
+pub no-bytes : bytesInLines [] ≡ []
+unfolding bytesInLines
 no-bytes = refl
 
 module _ (text : List ℕ) (from entries : ℕ) where
   -- the bytes of the lines from a place on
   abbrev left : ℕ → List ℕ
-  left at = bytesIn (lines (drop at text))
+  left at = bytesInLines (lines (drop at text))
 
   abbrev all : Input
   all = counts entries (length (left from))
@@ -72,7 +72,7 @@ module _ (text : List ℕ) (from entries : ℕ) where
     unfolding imageRefusals
     judge-end h c a b =
         let e = lines-end text at h in
-        let t : n ≡ length (left from) = omega (arith, j .total, ap (λ (ls : List (List ℕ)). length (bytesIn ls)) e, ap length no-bytes) in
+        let t : n ≡ length (left from) = omega (arith, j .total, ap (λ (ls : List (List ℕ)). length (bytesInLines ls)) e, ap length no-bytes) in
         let m : c .bytes ≡ length (left from) = b ∙ t in
         let s : c ≡ all = rw (← a, ← m) in
         ap accepted s ∙ sym (ap (λ (ls : List (List ℕ)). judge (imageRefusals k n ls) all) e ∙ done all) ∙ j .same
@@ -102,6 +102,6 @@ module _ (text : List ℕ) (from entries : ℕ) where
           record {
             few = o;
             count = omega (arith, j .count, w .1, y);
-            total = omega (arith, j .total, w .1, ap (λ (ls : List (List ℕ)). length (bytesIn ls)) next, more-bytes line (lines (drop (e + 1) text)));
+            total = omega (arith, j .total, w .1, ap (λ (ls : List (List ℕ)). length (bytesInLines ls)) next, more-bytes line (lines (drop (e + 1) text)));
             same = rw (add-one, ← w .1) (sym (here ∙ first-good k n line _ all (w .0) (rw (w .1) o)) ∙ j .same);
           }

@@ -8,9 +8,9 @@ use lib.Dec.{ltb}
 use lib.IntN.{ℤ, pos}
 use lib.ListN.{length}
 use borrow.Author.Tests.{lt-ltb, le-ltb}
-use Rattle.instruction.specs.Answer.{Answer, accepted, refused, judge, after}
+use Rattle.instruction.specs.Answer.{Answer, accepted, refused, judge, after, laid}
 use Rattle.instruction.proofs.Judging.{pass, stop, done, first-of, past-all, accepts}
-use Rattle.list_text.specs.Text.{countsOf, entriesOf, imageOf, lineRefusals, laid, parsedOf, parseAnswer, parseEntries, parseImage}
+use Rattle.list_text.specs.Text.{countsOf, entriesOf, imageOf, inputRefusals, parsedOf, parseAnswer, parseEntries, parseImage}
 use Rattle.list_text.specs.declared.parsed.Input.{Input}
 use Rattle.list_text.specs.declared.parsed.Parsed.{Parsed}
 use Rattle.list_text.specs.declared.parsed.Parsed.the-variants.{Accepted, Malformed, NoRoom}
@@ -25,7 +25,7 @@ module _ (text room image : List ℕ) where
 
   -- what the lines alone are judged to be
   abbrev judged : Answer Input
-  judged = judge (lineRefusals text) (countsOf text)
+  judged = judge (inputRefusals text) (countsOf text)
 
   held : (r : Answer Input) → parseAnswer text room image ≡ r → Is r (after r (laid (entriesOf text) room) room) (after r (laid (imageOf text) image) image)
   unfolding parseEntries parseImage
@@ -33,7 +33,7 @@ module _ (text room image : List ℕ) where
 
   said : (n : ℕ) (vs : List ℤ) → refused n vs ≡ judged → Is (refused n vs) room image
   unfolding parseAnswer
-  said n vs e = held (refused n vs) (first-of _ (countsOf text) (countsOf text) (lineRefusals text) n vs (sym e))
+  said n vs e = held (refused n vs) (first-of _ (countsOf text) (countsOf text) (inputRefusals text) n vs (sym e))
 
   -- an answer other than that all lines are good
   pub other : (v : Parsed) → ((c : Input) → v ≡ Accepted c → ⊥) → parsedOf v ≡ judged → Is (parsedOf v) room image
@@ -44,7 +44,7 @@ module _ (text room image : List ℕ) where
   module _ (v : Parsed) (c : Input) (g : v ≡ Accepted c) (e : parsedOf v ≡ judged) where
     -- the counts are those of the text
     same : countsOf text ≡ c
-    same = accepts (lineRefusals text) (countsOf text) c (sym e ∙ ap parsedOf g)
+    same = accepts (inputRefusals text) (countsOf text) c (sym e ∙ ap parsedOf g)
 
     good : judged ≡ accepted (countsOf text)
     good = sym e ∙ ap parsedOf g ∙ ap accepted (sym same)
@@ -61,7 +61,7 @@ module _ (text room image : List ℕ) where
     unfolding parseAnswer
     short h =
         rw (← entries-of, ← bytes-of)
-        (held (refused 11 (pos (length (entriesOf text)) ∷ pos (length (imageOf text)) ∷ [])) (past-all _ (countsOf text) (countsOf text) (lineRefusals text) good ∙ stop _ _ _ h))
+        (held (refused 11 (pos (length (entriesOf text)) ∷ pos (length (imageOf text)) ∷ [])) (past-all _ (countsOf text) (countsOf text) (inputRefusals text) good ∙ stop _ _ _ h))
 
     pub few-entries : length room < c .entries → Is (refused 11 (pos (c .entries) ∷ pos (c .bytes) ∷ [])) room image
     few-entries h = short (rw (lt-ltb (length room) (length (entriesOf text)) (rw entries-of h)))
@@ -78,7 +78,7 @@ module _ (text room image : List ℕ) where
       shown s t x y =
           let f = room-for in
           let w : parseAnswer text room image ≡ accepted (countsOf text) =
-          past-all _ (countsOf text) (countsOf text) (lineRefusals text) good
+          past-all _ (countsOf text) (countsOf text) (inputRefusals text) good
           ∙ pass _ _ _ (rw (le-ltb (length room) (length (entriesOf text)) (f .0), le-ltb (length image) (length (imageOf text)) (f .1)))
           ∙ done (countsOf text) in
           let i = held (accepted (countsOf text)) w in

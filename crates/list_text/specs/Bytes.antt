@@ -13,6 +13,6 @@ unfoldable pub bytesLine : List ℕ → Line
 bytesLine l = cond (isBytes 32 l) (Good (length (bytesOf l))) Bad
 
 -- the bytes of one line after the other
-unfoldable pub bytesIn : List (List ℕ) → List ℕ
-bytesIn [] = []
-bytesIn (l ∷ ls) = bytesOf l ++ bytesIn ls
+unfoldable pub bytesInLines : List (List ℕ) → List ℕ
+bytesInLines [] = []
+bytesInLines (l ∷ ls) = bytesOf l ++ bytesInLines ls

@@ -5,7 +5,7 @@ use mathlib.Core.List.{List}
 use mathlib.Core.Path.{_≡_}
 use lib.ListN.{length}
 use Rattle.instruction.specs.Answer.{Answer, accepted, refused, judge, Apart}
-use Rattle.list_text.specs.Text.{countsOf, entriesOf, imageOf, lineRefusals, parsedOf, parseAnswer}
+use Rattle.list_text.specs.Text.{countsOf, entriesOf, imageOf, inputRefusals, parsedOf, parseAnswer}
 use Rattle.list_text.specs.declared.parsed.Input.{Input}
 
 -- the number and values of the answers tell all cases and all values apart
@@ -14,7 +14,7 @@ ParsedApart = Apart parsedOf
 
 -- every line is good
 abbrev pub Valid : List ℕ → Type 0
-Valid text = _≡_ {A = Answer Input} (judge (lineRefusals text) (countsOf text)) (accepted (countsOf text))
+Valid text = _≡_ {A = Answer Input} (judge (inputRefusals text) (countsOf text)) (accepted (countsOf text))
 
 -- rooms for 256 entries and 16,384 bytes are enough for every valid input
 abbrev pub MostHeld : Type 0

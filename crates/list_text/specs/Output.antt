@@ -8,9 +8,9 @@ use lib.Dec.{eqb}
 use lib.IntN.{ℤ, pos, natAbs}
 use lib.ListN.{length, getD, replicate}
 use Rattle.instruction.specs.Answer.{Answer, accepted, refused, judge}
-use Rattle.trace.specs.Run.{orElse, runAnswer, runMarks}
+use Rattle.trace.specs.Run.{andThen, runAnswer, runMarks}
 use Rattle.views.specs.View.{viewRefusals}
-use Rattle.list_text.specs.Text.{countsOf, entriesOf, imageOf, lineRefusals}
+use Rattle.list_text.specs.Text.{countsOf, entriesOf, imageOf, inputRefusals}
 use Rattle.listing.specs.Walk.{listingOf}
 use Rattle.listing.specs.declared.tabbed.Arrivals.the-variants.{Declined}
 use Rattle.text.specs.Refusal.{numberLine, valueLine}
@@ -20,23 +20,23 @@ abbrev pub refusalLine : ℕ → List ℤ → List ℕ
 refusalLine n vs = cond (eqb n 5) (valueLine n (natAbs (getD vs 2 (pos 0)))) (numberLine n)
 
 -- the marks and the order list that a run is lent: as many places as an image may have
-unfoldable pub lent : List ℕ
-lent = replicate 16384 0
+unfoldable pub lentRoom : List ℕ
+lentRoom = replicate 16384 0
 
 -- the listing of a run in this image from these entries, with no arrivals; or a refusal
 unfoldable pub tracedText : List ℕ → List ℕ → Answer (List ℕ)
 tracedText image entries =
-    let m = runMarks image lent lent entries (length image) in
-    orElse (runAnswer image lent lent entries (length image)) (judge (viewRefusals image m) (listingOf image m Declined))
+    let m = runMarks image lentRoom lentRoom entries (length image) in
+    andThen (runAnswer image lentRoom lentRoom entries (length image)) (judge (viewRefusals image m) (listingOf image m Declined))
 
 -- the same of a text; a line that is malformed first
 unfoldable pub textListed : List ℕ → Answer (List ℕ)
-textListed text = orElse (judge (lineRefusals text) (countsOf text)) (tracedText (imageOf text) (entriesOf text))
+textListed text = andThen (judge (inputRefusals text) (countsOf text)) (tracedText (imageOf text) (entriesOf text))
 
 -- the listing, or the line of its refusal
-abbrev pub shown : Answer (List ℕ) → List ℕ
-shown (accepted out) = out
-shown (refused n vs) = refusalLine n vs
+abbrev pub outputText : Answer (List ℕ) → List ℕ
+outputText (accepted out) = out
+outputText (refused n vs) = refusalLine n vs
 
 unfoldable pub outputOf : List ℕ → List ℕ
-outputOf text = shown (textListed text)
+outputOf text = outputText (textListed text)

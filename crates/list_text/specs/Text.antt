@@ -6,10 +6,10 @@ use mathlib.Core.List.{List, [], _∷_, _++_}
 use lib.Dec.{ltb}
 use lib.IntN.{pos}
 use lib.ListN.{length, drop}
-use Rattle.instruction.specs.Answer.{Answer, accepted, refused, Refusal, refuse, judge, after}
+use Rattle.instruction.specs.Answer.{Answer, accepted, refused, Refusal, refuse, judge, after, laid}
 use Rattle.text.specs.Bytes.{bytesOf, isBytes}
 use Rattle.text.specs.Cut.{lines}
-use Rattle.list_text.specs.Bytes.{bytesIn}
+use Rattle.list_text.specs.Bytes.{bytesInLines}
 use Rattle.list_text.specs.Entries.{isEntries, entriesIn}
 use Rattle.list_text.specs.declared.parsed.Input.{Input}
 use Rattle.list_text.specs.declared.parsed.Parsed.{Parsed}
@@ -36,7 +36,7 @@ abbrev pub entriesOf : List ℕ → List ℕ
 entriesOf text = entriesIn (entryLine text)
 
 abbrev pub imageOf : List ℕ → List ℕ
-imageOf text = bytesIn (imageLines text)
+imageOf text = bytesInLines (imageLines text)
 
 -- a line with the number k is bad
 abbrev pub bad : Bool → ℕ → Refusal
@@ -49,8 +49,8 @@ imageRefusals k n (l ∷ ls) =
     bad (not (isBytes 32 l) || ltb 16384 (n + length (bytesOf l))) k ∷ imageRefusals (suc k) (n + length (bytesOf l)) ls
 
 -- the lines in their order: the first bad one speaks
-unfoldable pub lineRefusals : List ℕ → List Refusal
-lineRefusals text = bad (not (isEntries (entryLine text))) 1 ∷ imageRefusals 2 0 (imageLines text)
+unfoldable pub inputRefusals : List ℕ → List Refusal
+inputRefusals text = bad (not (isEntries (entryLine text))) 1 ∷ imageRefusals 2 0 (imageLines text)
 
 -- how many entries and how many bytes
 abbrev pub counts : ℕ → ℕ → Input
@@ -69,15 +69,12 @@ parsedOf (NoRoom c) = refused 11 (pos (c .entries) ∷ pos (c .bytes) ∷ [])
 unfoldable pub parseAnswer : List ℕ → List ℕ → List ℕ → Answer Input
 parseAnswer text entries image =
     judge
-    (lineRefusals text
+    (inputRefusals text
     ++ refuse (ltb (length entries) (length (entriesOf text)) || ltb (length image) (length (imageOf text))) 11 (pos (length (entriesOf text)) ∷ pos (length (imageOf text)) ∷ [])
     ∷ [])
     (countsOf text)
 
--- what was read is laid over the beginning of a room, whose rest stays; a refusal changes nothing
-abbrev pub laid : List ℕ → List ℕ → List ℕ
-laid out room = out ++ drop (length out) room
-
+-- what was read is laid over the beginning of a room; a refusal changes nothing
 unfoldable pub parseEntries : List ℕ → List ℕ → List ℕ → List ℕ
 parseEntries text entries image = after (parseAnswer text entries image) (laid (entriesOf text) entries) entries
 

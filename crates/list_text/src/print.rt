@@ -4,7 +4,7 @@ ghost use mathlib.Core.List.{[]};
 ghost use Prim.Native.Nat.{_≤_};
 ghost use lib.ListN.{length};
 ghost use Rattle.views.specs.View.{viewedOf, roomAnswer, roomAfter};
-ghost use Rattle.list_text.specs.Output.{shown, tracedText, outputOf};
+ghost use Rattle.list_text.specs.Output.{outputText, tracedText, outputOf};
 use crate::parsed::Parsed;
 use crate::read;
 use crate::rooms;
@@ -16,7 +16,8 @@ use views::Viewed;
 // The listing of a run in this image from these entries, or the line of a refusal.
 fn list_image(image: &[u8], entries: &[u32], room: &mut [u8]) -> Viewed
     requires { ⌜ length (now image) ≤ 16384 ⌝ }
-    ensures { λ r. ⌜ (viewedOf r ≡ roomAnswer [] (shown (tracedText (now (image .entry)) (now (entries .entry)))) (now (room .entry))) × (now (room .exit) ≡ roomAfter [] (shown (tracedText (now (image .entry)) (now (entries .entry)))) (now (room .entry))) ⌝ }
+    ensures { λ r. ⌜ viewedOf r ≡ roomAnswer [] (outputText (tracedText (now (image .entry)) (now (entries .entry)))) (now (room .entry)) ⌝ }
+    ensures { λ _. ⌜ now (room .exit) ≡ roomAfter [] (outputText (tracedText (now (image .entry)) (now (entries .entry)))) (now (room .entry)) ⌝ }
 {
     let mut marks = rooms::bytes();
     let mut order = rooms::positions();
@@ -32,7 +33,8 @@ fn list_image(image: &[u8], entries: &[u32], room: &mut [u8]) -> Viewed
 
 // The whole output of the listing program for this input: how many bytes were written, or 11 with how many are needed.
 pub fn list_text(text: &[u8], room: &mut [u8]) -> Viewed
-    ensures { λ r. ⌜ (viewedOf r ≡ roomAnswer [] (outputOf (now (text .entry))) (now (room .entry))) × (now (room .exit) ≡ roomAfter [] (outputOf (now (text .entry))) (now (room .entry))) ⌝ }
+    ensures { λ r. ⌜ viewedOf r ≡ roomAnswer [] (outputOf (now (text .entry))) (now (room .entry)) ⌝ }
+    ensures { λ _. ⌜ now (room .exit) ≡ roomAfter [] (outputOf (now (text .entry))) (now (room .entry)) ⌝ }
 {
     let mut entries = rooms::entries();
     let mut image = rooms::bytes();

@@ -3,10 +3,11 @@ ghost use mathlib.Core.Path.{_≡_};
 ghost use Prim.Native.Nat.{_≤_};
 ghost use lib.ListN.{length, drop};
 ghost use lib.Seq.{sets};
-ghost use Rattle.instruction.specs.Answer.{judge};
+ghost use Rattle.instruction.specs.Answer.{judge, laid};
 ghost use Rattle.text.specs.Cut.{lines};
-ghost use Rattle.list_text.specs.Bytes.{bytesIn};
-ghost use Rattle.list_text.specs.Text.{counts, countsOf, entriesOf, imageOf, imageRefusals, lineRefusals, laid, parsedOf, parseAnswer, parseEntries, parseImage};
+ghost use Rattle.list_text.specs.Bytes.{bytesInLines};
+ghost use Rattle.list_text.specs.Text.{counts, countsOf, entriesOf, imageOf, imageRefusals, inputRefusals};
+ghost use Rattle.list_text.specs.Text.{parsedOf, parseAnswer, parseEntries, parseImage};
 use crate::bytes;
 use crate::entries;
 use crate::line::Line;
@@ -17,7 +18,8 @@ use text::cut;
 
 // Judges the lines of image bytes, which start at `from`.
 fn judge_image(text: &[u8], from: usize, entries: usize) -> Parsed
-    ensures { λ r. ⌜ parsedOf r ≡ judge (imageRefusals 2 0 (lines (drop from (now (text .entry))))) (counts entries (length (bytesIn (lines (drop from (now (text .entry))))))) ⌝ }
+    ensures { λ r. ⌜ parsedOf r
+        ≡ judge (imageRefusals 2 0 (lines (drop from (now (text .entry))))) (counts entries (length (bytesInLines (lines (drop from (now (text .entry))))))) ⌝ }
 {
     let mut at = from;
     let mut k: usize = 2;
@@ -39,7 +41,7 @@ fn judge_image(text: &[u8], from: usize, entries: usize) -> Parsed
 
 // The refusal 13, or else what the text holds.
 fn judge_text(text: &[u8]) -> Parsed
-    ensures { λ r. ⌜ parsedOf r ≡ judge (lineRefusals (now (text .entry))) (countsOf (now (text .entry))) ⌝ }
+    ensures { λ r. ⌜ parsedOf r ≡ judge (inputRefusals (now (text .entry))) (countsOf (now (text .entry))) ⌝ }
 {
     let e = cut::end(text, 0, cut::LINE_END);
     let Line::Good(n) = entries::judge(&text[0..e]) else {
@@ -50,8 +52,8 @@ fn judge_text(text: &[u8]) -> Parsed
 
 // Writes the bytes of the lines that start at `from`.
 fn write_image(text: &[u8], from: usize, image: &mut [u8])
-    requires { ⌜ length (bytesIn (lines (drop from (now text)))) ≤ length (now image) ⌝ }
-    ensures { λ _. ⌜ now (image .exit) ≡ sets (now (image .entry)) 0 (bytesIn (lines (drop from (now (text .entry))))) ⌝ }
+    requires { ⌜ length (bytesInLines (lines (drop from (now text)))) ≤ length (now image) ⌝ }
+    ensures { λ _. ⌜ now (image .exit) ≡ sets (now (image .entry)) 0 (bytesInLines (lines (drop from (now (text .entry))))) ⌝ }
 {
     let mut at = from;
     let mut n: usize = 0;
@@ -65,7 +67,8 @@ fn write_image(text: &[u8], from: usize, image: &mut [u8])
 
 fn write_text(text: &[u8], entries: &mut [u32], image: &mut [u8])
     requires { ⌜ (length (entriesOf (now text)) ≤ length (now entries)) × (length (imageOf (now text)) ≤ length (now image)) ⌝ }
-    ensures { λ _. ⌜ (now (entries .exit) ≡ laid (entriesOf (now (text .entry))) (now (entries .entry))) × (now (image .exit) ≡ laid (imageOf (now (text .entry))) (now (image .entry))) ⌝ }
+    ensures { λ _. ⌜ now (entries .exit) ≡ laid (entriesOf (now (text .entry))) (now (entries .entry)) ⌝ }
+    ensures { λ _. ⌜ now (image .exit) ≡ laid (imageOf (now (text .entry))) (now (image .entry)) ⌝ }
 {
     let e = cut::end(text, 0, cut::LINE_END);
     entries::write(&text[0..e], entries);
@@ -74,7 +77,9 @@ fn write_text(text: &[u8], entries: &mut [u32], image: &mut [u8])
 
 // Reads the entries and the image bytes of an input: how many of each, or 13 with the first bad line, then 11 with how many are needed.
 pub fn parse(text: &[u8], entries: &mut [u32], image: &mut [u8]) -> Parsed
-    ensures { λ r. ⌜ (parsedOf r ≡ parseAnswer (now (text .entry)) (now (entries .entry)) (now (image .entry))) × (now (entries .exit) ≡ parseEntries (now (text .entry)) (now (entries .entry)) (now (image .entry))) × (now (image .exit) ≡ parseImage (now (text .entry)) (now (entries .entry)) (now (image .entry))) ⌝ }
+    ensures { λ r. ⌜ parsedOf r ≡ parseAnswer (now (text .entry)) (now (entries .entry)) (now (image .entry)) ⌝ }
+    ensures { λ _. ⌜ now (entries .exit) ≡ parseEntries (now (text .entry)) (now (entries .entry)) (now (image .entry)) ⌝ }
+    ensures { λ _. ⌜ now (image .exit) ≡ parseImage (now (text .entry)) (now (entries .entry)) (now (image .entry)) ⌝ }
 {
     let judged = judge_text(text);
     let Parsed::Accepted(c) = judged else {

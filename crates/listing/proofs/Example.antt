@@ -10,10 +10,10 @@ use lib.Dec.{eqb}
 use Rattle.instruction.specs.Answer.{judge}
 use Rattle.instruction.specs.Kinds.{kindsOf}
 use Rattle.instruction.specs.Range.{unfit}
-use Rattle.instruction.specs.Pattern.{pattern, bytesOf, onto, given, next}
+use Rattle.instruction.specs.Pattern.{pattern, patternBytes, onto, bitsGiven, nextBracket}
 use Rattle.instruction.specs.Decode.{fieldsIn}
 use Rattle.instruction.specs.Flow.{stops, jumps, branches, flowOf}
-use Rattle.instruction.specs.Forms.{forms, formAt, formOf, numberOf}
+use Rattle.instruction.specs.Forms.{forms, formAt, formOf, formNamed}
 use Rattle.instruction.specs.Mnemonic.{mnemonicOf, lettersOf}
 use Rattle.instruction.specs.Parts.{partsOf, madeOf}
 use Rattle.targets.specs.At.{fitsHere, instrHere, waysHere, flashHere, nameHere}
@@ -29,11 +29,11 @@ use Rattle.views.specs.Labels.{labelled, labelsOf}
 use Rattle.views.specs.Mask.{masked, maskOf}
 use Rattle.arrivals.specs.Arrivals.{heldAt, arrives, arrivalsOf}
 use Rattle.views.specs.Overlaps.{overlapsOf}
-use Rattle.listing.specs.Hex.{digit, hex2, hex3, hex4, hexes}
-use Rattle.listing.specs.Line.{fields}
+use Rattle.listing.specs.Hex.{hex1, hex2, hex3, hex4, hexes}
+use Rattle.listing.specs.Line.{fieldsText}
 use Rattle.listing.specs.Lines.{labelLine, overlapLine, arrivalLine, instrText, dataLine}
 use Rattle.listing.specs.Operand.{target, shown, operandsBy}
-use Rattle.listing.specs.Walk.{codeLines, printed, passed, walk, listingOf}
+use Rattle.listing.specs.Walk.{codeLines, linesAt, passed, walk, listingOf}
 use Rattle.listing.specs.declared.tabbed.Arrivals.{Arrivals}
 use Rattle.listing.specs.declared.tabbed.Arrivals.the-variants.{Chosen, Declined}
 
@@ -57,20 +57,20 @@ abbrev marks : List ℕ
 marks = 2 ∷ 0 ∷ 0 ∷ 0 ∷ 2 ∷ 2 ∷ 0 ∷ 2 ∷ []
 
 pub example : Lists image marks Declined ("LT0000" ∷ "IT0000T0102TbrT0004" ∷ "DT0002T0041" ∷ "LT0004" ∷ "IT0004T64TincT@R0" ∷ "IT0005T80F9TbzT0000" ∷ "IT0007TA0Tret" ∷ [])
-unfolding judge kindsOf unfit pattern bytesOf onto given next fieldsIn stops jumps branches flowOf forms formAt formOf numberOf mnemonicOf lettersOf partsOf madeOf fitsHere instrHere flashHere nameHere hereOf addressOf addressIn targetsIn targetsAnswer nameOf tracedMark exemptHere leading runLength dataRun labelled labelsOf masked maskOf overlapsOf upFrom some kept digit hex2 hex3 hex4 hexes fields labelLine overlapLine instrText dataLine target shown operandsBy codeLines printed passed walk listingOf
+unfolding judge kindsOf unfit pattern patternBytes onto bitsGiven nextBracket fieldsIn stops jumps branches flowOf forms formAt formOf formNamed mnemonicOf lettersOf partsOf madeOf fitsHere instrHere flashHere nameHere hereOf addressOf addressIn targetsIn targetsAnswer nameOf tracedMark exemptHere leading runLength dataRun labelled labelsOf masked maskOf overlapsOf upFrom some kept hex1 hex2 hex3 hex4 hexes fieldsText labelLine overlapLine instrText dataLine target shown operandsBy codeLines linesAt passed walk listingOf
 example = refl
 
 -- the same with arrivals
 pub chosen : Lists image marks Chosen ("LT0000" ∷ "AT0000T0005" ∷ "IT0000T0102TbrT0004" ∷ "DT0002T0041" ∷ "LT0004" ∷ "AT0004T0000" ∷ "IT0004T64TincT@R0" ∷ "AT0005T0004" ∷ "IT0005T80F9TbzT0000" ∷ "AT0007T0005" ∷ "IT0007TA0Tret" ∷ [])
-unfolding judge kindsOf unfit pattern bytesOf onto given next fieldsIn stops jumps branches flowOf forms formAt formOf numberOf mnemonicOf lettersOf partsOf madeOf fitsHere instrHere flashHere nameHere hereOf addressOf addressIn targetsIn targetsAnswer nameOf tracedMark exemptHere leading runLength dataRun labelled labelsOf masked maskOf overlapsOf upFrom some kept arrivalsOf arrives heldAt held waysHere arrivalLine digit hex2 hex3 hex4 hexes fields labelLine overlapLine instrText dataLine target shown operandsBy codeLines printed passed walk listingOf
+unfolding judge kindsOf unfit pattern patternBytes onto bitsGiven nextBracket fieldsIn stops jumps branches flowOf forms formAt formOf formNamed mnemonicOf lettersOf partsOf madeOf fitsHere instrHere flashHere nameHere hereOf addressOf addressIn targetsIn targetsAnswer nameOf tracedMark exemptHere leading runLength dataRun labelled labelsOf masked maskOf overlapsOf upFrom some kept arrivalsOf arrives heldAt held waysHere arrivalLine hex1 hex2 hex3 hex4 hexes fieldsText labelLine overlapLine instrText dataLine target shown operandsBy codeLines linesAt passed walk listingOf
 chosen = refl
 
 -- edge 13, entries 0 and 2: an overlap, and a position walked inside an instruction
 pub overlap : Lists (0x22 ∷ 0x01 ∷ 0x00 ∷ 0xA0 ∷ []) (2 ∷ 0 ∷ 2 ∷ 2 ∷ []) Declined ("OT0000T0002" ∷ "IT0000T220100TmovT#00T001" ∷ "IT0002T00Tnop" ∷ "IT0003TA0Tret" ∷ [])
-unfolding judge kindsOf unfit pattern bytesOf onto given next fieldsIn stops jumps branches flowOf forms formAt formOf numberOf mnemonicOf lettersOf partsOf madeOf fitsHere instrHere flashHere nameHere hereOf addressOf addressIn targetsIn targetsAnswer nameOf tracedMark exemptHere leading runLength dataRun labelled labelsOf masked maskOf overlapsOf upFrom some kept digit hex2 hex3 hex4 hexes fields labelLine overlapLine instrText dataLine target shown operandsBy codeLines printed passed walk listingOf
+unfolding judge kindsOf unfit pattern patternBytes onto bitsGiven nextBracket fieldsIn stops jumps branches flowOf forms formAt formOf formNamed mnemonicOf lettersOf partsOf madeOf fitsHere instrHere flashHere nameHere hereOf addressOf addressIn targetsIn targetsAnswer nameOf tracedMark exemptHere leading runLength dataRun labelled labelsOf masked maskOf overlapsOf upFrom some kept hex1 hex2 hex3 hex4 hexes fieldsText labelLine overlapLine instrText dataLine target shown operandsBy codeLines linesAt passed walk listingOf
 overlap = refl
 
 -- edge 14: a target outside, and a run left out
 pub outside : Lists (0x01 ∷ 0x80 ∷ 0x00 ∷ 0x00 ∷ []) (2 ∷ 0 ∷ 0 ∷ 0 ∷ []) Declined ("IT0000T0180TbrT?" ∷ [])
-unfolding judge kindsOf unfit pattern bytesOf onto given next fieldsIn stops jumps branches flowOf forms formAt formOf numberOf mnemonicOf lettersOf partsOf madeOf fitsHere instrHere flashHere nameHere hereOf addressOf addressIn targetsIn targetsAnswer nameOf tracedMark exemptHere leading runLength dataRun labelled labelsOf masked maskOf overlapsOf upFrom some kept digit hex2 hex3 hex4 hexes fields labelLine overlapLine instrText dataLine target shown operandsBy codeLines printed passed walk listingOf
+unfolding judge kindsOf unfit pattern patternBytes onto bitsGiven nextBracket fieldsIn stops jumps branches flowOf forms formAt formOf formNamed mnemonicOf lettersOf partsOf madeOf fitsHere instrHere flashHere nameHere hereOf addressOf addressIn targetsIn targetsAnswer nameOf tracedMark exemptHere leading runLength dataRun labelled labelsOf masked maskOf overlapsOf upFrom some kept hex1 hex2 hex3 hex4 hexes fieldsText labelLine overlapLine instrText dataLine target shown operandsBy codeLines linesAt passed walk listingOf
 outside = refl

@@ -10,7 +10,7 @@ use lib.Dec.{leb, ltb}
 use borrow.Author.Tests.{leb-true}
 use lib.ListN.{length, take, length-append, length-take}
 use Rattle.instruction.specs.Kinds.{kindsOf}
-use Rattle.instruction.specs.Pattern.{pattern, bytesOf, onto, given, next}
+use Rattle.instruction.specs.Pattern.{pattern, patternBytes, onto, bitsGiven, nextBracket}
 use Rattle.instruction.specs.declared.kind.Kind.{Kind}
 use Rattle.instruction.specs.declared.kind.Kind.the-variants.{Absent, Immediate, Direct, Register, BitNumber, Page, Far, Short, Long}
 use Rattle.instruction.specs.Encode.{formIn}
@@ -20,7 +20,7 @@ use Rattle.instruction.specs.Parts.{partsOf}
 use Rattle.instruction.specs.declared.instr.Instr.{Instr}
 use Rattle.instruction.proofs.Shapes.{at-each}
 use Rattle.listing.specs.Hex.{hex4, hexes}
-use Rattle.listing.specs.Line.{fields}
+use Rattle.listing.specs.Line.{fieldsText}
 use Rattle.listing.specs.Lines.{instrText}
 use Rattle.listing.specs.Operand.{target, shown, shownAll, operandsBy, operands}
 use Rattle.listing.proofs.Hexing.{hex2-length, hex3-length, hex4-length, hexes-length}
@@ -61,27 +61,27 @@ abbrev widths : List Kind → ℕ
 widths [] = 0
 widths (k ∷ ks) = 1 + widthOf k + widths ks
 
-fields-width : (t : ℕ) (ks : List Kind) (ns : List ℕ) → length (fields (shownAll t ks ns)) ≤ widths ks + 1
-unfolding fields
+fields-width : (t : ℕ) (ks : List Kind) (ns : List ℕ) → length (fieldsText (shownAll t ks ns)) ≤ widths ks + 1
+unfolding fieldsText
 fields-width t [] ns = omega arith
 fields-width t (k ∷ ks) [] = omega arith
 fields-width t (k ∷ ks) (n ∷ ns) =
-    omega (arith, shown-width t k n, fields-width t ks ns, length-append (shown t k n) (fields (shownAll t ks ns)))
+    omega (arith, shown-width t k n, fields-width t ks ns, length-append (shown t k n) (fieldsText (shownAll t ks ns)))
 
 -- of the bytes, the mnemonic and the operands
 abbrev widthIn : Form → ℕ
 widthIn w = 2 * sizeOf w + (length (lettersOf (w .name)) + widths (kindsOf (w .shape)))
 
 narrow : (k : ℕ) → k < 70 → leb (widthIn (formAt k)) 22 ≡ true
-unfolding forms pattern bytesOf onto given next lettersOf kindsOf
+unfolding forms pattern patternBytes onto bitsGiven nextBracket lettersOf kindsOf
 narrow = at-each (λ w. leb (widthIn w) 22) (λ w. true) refl
 
 pub instr-width : (p : ℕ) (i : Instr) (all : List ℕ) → partsOf i .form < 70 → length (instrText p i all) ≤ 31
-unfolding instrText fields operandsBy mnemonicOf
+unfolding instrText fieldsText operandsBy mnemonicOf
 instr-width p i all h =
     let bytes : List ℕ = take (sizeOf (formIn i)) all in
     let name : List ℕ = lettersOf (formIn i .name) in
-    let end : List ℕ = fields (operands p i) in
+    let end : List ℕ = fieldsText (operands p i) in
     let w : widthIn (formIn i) ≤ 22 = leb-true (widthIn (formIn i)) 22 (narrow (partsOf i .form) h) in
     let o : length end ≤ widths (kindsOf (formIn i .shape)) + 1 = fields-width _ (kindsOf (formIn i .shape)) _ in
     omega (arith, w, o, hex4-length p, hexes-length bytes, length-take (sizeOf (formIn i)) all, length-append name end, length-append (hexes bytes) (9 ∷ name ++ end), length-append (hex4 p) (9 ∷ hexes bytes ++ (9 ∷ name ++ end)))

@@ -24,8 +24,8 @@ use Rattle.views.specs.Overlaps.{overlapsIn}
 use Rattle.views.specs.declared.overlaps.Overlaps.{Overlaps}
 use Rattle.views.specs.declared.overlaps.Overlaps.the-variants.{Nothing, One, Two, Three}
 use Rattle.listing.specs.Hex.{hex4, hexes}
-use Rattle.listing.specs.Line.{fields}
-use Rattle.listing.specs.Lines.{labelLine, foundLine, overlapLine, arrivalLine, instrText, codeBy, codeLine, zeros, dataLine}
+use Rattle.listing.specs.Line.{fieldsText}
+use Rattle.listing.specs.Lines.{labelLine, foundLine, overlapLine, arrivalLine, instrText, codeBy, codeLine, allZero, dataLine}
 use Rattle.listing.specs.Operand.{firstOf, operandsBy}
 use Rattle.text.specs.Puts.{Puts, letters}
 use Rattle.listing.proofs.Hexing.{hex4-length, hexes-length}
@@ -68,11 +68,11 @@ pub no-label : (mark p : ℕ) → mark ≡ 0 → [] ≡ cond (eqb mark 0) [] (la
 no-label mark p e = rw (eq-eqb mark 0 e)
 
 pub label : (mark p : ℕ) → (mark ≡ 0 → ⊥) → begin (code "L") p ++ (10 ∷ []) ≡ cond (eqb mark 0) [] (labelLine p)
-unfolding labelLine fields
+unfolding labelLine fieldsText
 label mark p e = rw (ne-eqb mark 0 e)
 
 pub label-length : (mark p : ℕ) → length (cond (eqb mark 0) [] (labelLine p)) ≤ 7
-unfolding labelLine fields
+unfolding labelLine fieldsText
 label-length mark p = by (eqb mark 0)
   where
     by : (b : Bool) → length (cond b [] (begin (code "L") p ++ (10 ∷ []))) ≤ 7
@@ -90,23 +90,23 @@ module _ (p : ℕ) (o : Overlaps) (qs : List ℕ) (e : overlapsIn o ≡ qs) (n :
       by [] h = refl
       by (q ∷ l) h = absurd (omega arith)
 
-  pub overlaps : (n ≡ 0 → ⊥) → begin (code "O") p ++ fields (map hex4 (overlapsIn o)) ≡ overlapLine p qs
-  unfolding overlapLine fields
+  pub overlaps : (n ≡ 0 → ⊥) → begin (code "O") p ++ fieldsText (map hex4 (overlapsIn o)) ≡ overlapLine p qs
+  unfolding overlapLine fieldsText
   overlaps z = by (overlapsIn o) (λ h. z (f ∙ h)) ∙ ap (foundLine (code "O") p) e
     where
-      by : (l : List ℕ) → (length l ≡ 0 → ⊥) → begin (code "O") p ++ fields (map hex4 l) ≡ foundLine (code "O") p l
+      by : (l : List ℕ) → (length l ≡ 0 → ⊥) → begin (code "O") p ++ fieldsText (map hex4 l) ≡ foundLine (code "O") p l
       by [] h = absurd (h refl)
       by (q ∷ l) h = refl
 
-one-length : (a : ℕ) (l : List (List ℕ)) (n : ℕ) → length (fields l) ≤ n → length (fields (hex4 a ∷ l)) ≤ 5 + n
-unfolding fields
-one-length a l n h = omega (arith, hex4-length a, length-append (hex4 a) (fields l))
+one-length : (a : ℕ) (l : List (List ℕ)) (n : ℕ) → length (fieldsText l) ≤ n → length (fieldsText (hex4 a ∷ l)) ≤ 5 + n
+unfolding fieldsText
+one-length a l n h = omega (arith, hex4-length a, length-append (hex4 a) (fieldsText l))
 
-none-length : length (fields []) ≤ 1
-unfolding fields
+none-length : length (fieldsText []) ≤ 1
+unfolding fieldsText
 none-length = omega arith
 
-pub found-length : (o : Overlaps) → length (fields (map hex4 (overlapsIn o))) ≤ 16
+pub found-length : (o : Overlaps) → length (fieldsText (map hex4 (overlapsIn o))) ≤ 16
 found-length Nothing = omega (arith, none-length)
 found-length (One a) = omega (arith, one-length a [] 1 none-length)
 found-length (Two a b) = one-length a _ 11 (omega (arith, one-length b [] 1 none-length))
@@ -122,16 +122,16 @@ module _ (p : ℕ) (chosen : Bool) (qs : List ℕ) where
   unfolding arrivalLine
   no-arrivals e f = rw (e, f)
 
-  pub arrivals : chosen ≡ true → (q : ℕ) (l : List ℕ) → qs ≡ q ∷ l → begin (code "A") p ++ fields (map hex4 qs) ≡ cond chosen (arrivalLine p qs) []
-  unfolding arrivalLine fields
+  pub arrivals : chosen ≡ true → (q : ℕ) (l : List ℕ) → qs ≡ q ∷ l → begin (code "A") p ++ fieldsText (map hex4 qs) ≡ cond chosen (arrivalLine p qs) []
+  unfolding arrivalLine fieldsText
   arrivals e q l f = rw (e, f)
 
 -- ---- `I`
 
 module _ (all : List ℕ) (p : ℕ) (i : Instr) where
   pub instr : (t : ℕ) → t ≡ firstOf (targetsAnswer p i) → (w : ℕ) → letters 8 w ≡ mnemonicOf (partsOf i .form) → (bytes : List ℕ) → bytes ≡ take (sizeOf (formIn i)) all
-      → begin (code "I") p ++ ((9 ∷ hexes bytes) ++ ((9 ∷ letters 8 w) ++ fields (operandsBy t i))) ≡ instrText p i all
-  unfolding instrText fields
+      → begin (code "I") p ++ ((9 ∷ hexes bytes) ++ ((9 ∷ letters 8 w) ++ fieldsText (operandsBy t i))) ≡ instrText p i all
+  unfolding instrText fieldsText
   instr t e w f bytes g = rw (e, f, g)
 
 -- by itself
@@ -154,23 +154,23 @@ module _ (p : ℕ) (bytes : List ℕ) where
 
 -- ---- `D`
 
-zeros-cons : (bs : List ℕ) (i : ℕ) → i < length bs → zeros (drop i bs) ≡ (eqb (getD bs i 0) 0 && zeros (drop (i + 1) bs))
+zeros-cons : (bs : List ℕ) (i : ℕ) → i < length bs → allZero (drop i bs) ≡ (eqb (getD bs i 0) 0 && allZero (drop (i + 1) bs))
 zeros-cons bs i h = rw (add-one, drop-cons bs i 0)
 
-pub zeros-on : (bs : List ℕ) (i : ℕ) → i < length bs → getD bs i 0 ≡ 0 → zeros (drop (i + 1) bs) ≡ zeros (drop i bs)
+pub zeros-on : (bs : List ℕ) (i : ℕ) → i < length bs → getD bs i 0 ≡ 0 → allZero (drop (i + 1) bs) ≡ allZero (drop i bs)
 zeros-on bs i h e = sym (zeros-cons bs i h ∙ rw (eq-eqb (getD bs i 0) 0 e))
 
-pub zeros-off : (bs : List ℕ) (i : ℕ) → i < length bs → (getD bs i 0 ≡ 0 → ⊥) → false ≡ zeros (drop i bs)
+pub zeros-off : (bs : List ℕ) (i : ℕ) → i < length bs → (getD bs i 0 ≡ 0 → ⊥) → false ≡ allZero (drop i bs)
 zeros-off bs i h e = sym (zeros-cons bs i h ∙ rw (ne-eqb (getD bs i 0) 0 e))
 
-pub zeros-end : (bs : List ℕ) (i : ℕ) → length bs ≤ i → true ≡ zeros (drop i bs)
+pub zeros-end : (bs : List ℕ) (i : ℕ) → length bs ≤ i → true ≡ allZero (drop i bs)
 zeros-end bs i h = rw (drop-of-length-le bs h)
 
-module _ (p : ℕ) (bytes : List ℕ) (z : Bool) (e : z ≡ zeros bytes) where
+module _ (p : ℕ) (bytes : List ℕ) (z : Bool) (e : z ≡ allZero bytes) where
   pub no-data : z ≡ true → [] ≡ dataLine p bytes
   unfolding dataLine
   no-data f = rw (← e, f)
 
   pub data-shown : z ≡ false → begin (code "D") p ++ ((9 ∷ hexes bytes) ++ (10 ∷ [])) ≡ dataLine p bytes
-  unfolding dataLine fields
+  unfolding dataLine fieldsText
   data-shown f = rw (← e, f)

@@ -6,7 +6,7 @@ use mathlib.Core.List.{List, [], _∷_}
 use Prim.Native.Nat.{ℕ}
 use lib.Dec.{T, eqb, eqb→eq}
 use Rattle.instruction.specs.Forms.{forms, formAt}
-use Rattle.instruction.specs.Mnemonic.{mnemonicOf, lettersOf, wordOf}
+use Rattle.instruction.specs.Mnemonic.{mnemonicOf, lettersOf, packedLetters}
 use Rattle.instruction.specs.Parts.{partsOf}
 use Rattle.instruction.specs.declared.instr.Instr.{Instr}
 use Rattle.instruction.proofs.Every.{and-left, and-right, upTo, holds}
@@ -26,11 +26,11 @@ alike-is (x ∷ xs) [] t = absurd t
 alike-is (x ∷ xs) (y ∷ ys) t = rw (eqb→eq x y (and-left (eqb x y) (alike xs ys) t), alike-is xs ys (and-right (eqb x y) (alike xs ys) t))
 
 abbrev test : ℕ → Bool
-test k = alike (letters 8 (wordOf (mnemonicOf k))) (mnemonicOf k)
+test k = alike (letters 8 (packedLetters (mnemonicOf k))) (mnemonicOf k)
 
 all : T (upTo test 70)
-unfolding letters wordOf mnemonicOf lettersOf formAt forms
+unfolding letters packedLetters mnemonicOf lettersOf formAt forms
 all = tt
 
-pub spelled : (i : Instr) → letters 8 (wordOf (mnemonicOf (partsOf i .form))) ≡ mnemonicOf (partsOf i .form)
+pub spelled : (i : Instr) → letters 8 (packedLetters (mnemonicOf (partsOf i .form))) ≡ mnemonicOf (partsOf i .form)
 spelled i = alike-is _ _ (holds test 70 all (partsOf i .form) (form-small i refl))

@@ -21,8 +21,8 @@ use Rattle.instruction.specs.declared.instr.Instr.{Instr}
 use Rattle.instruction.specs.declared.instr.Parts.{Parts}
 use Rattle.targets.specs.At.{placeOf}
 use Rattle.targets.specs.Targets.{isGiven}
-use Rattle.listing.specs.Hex.{digit, hex2, hex3, hex4}
-use Rattle.listing.specs.Line.{fields}
+use Rattle.listing.specs.Hex.{hex1, hex2, hex3, hex4}
+use Rattle.listing.specs.Line.{fieldsText}
 use Rattle.listing.specs.Operand.{target, shown, shownAll, shownField, operandsBy}
 use Rattle.listing.proofs.Hexing.{hex2-length, hex3-length, hex4-length}
 
@@ -51,11 +51,11 @@ module _ (t n : ℕ) (k : Kind) where
   unfolding shown
   is-direct e = rw e
 
-  pub is-register : k ≡ Register → As (code "@" ∷ code "R" ∷ digit n ∷ [])
+  pub is-register : k ≡ Register → As (code "@" ∷ code "R" ∷ hex1 n ∷ [])
   unfolding shown
   is-register e = rw e
 
-  pub is-bit : k ≡ BitNumber → As (digit n ∷ [])
+  pub is-bit : k ≡ BitNumber → As (hex1 n ∷ [])
   unfolding shown
   is-bit e = rw e
 
@@ -107,8 +107,8 @@ field-length t Long n = target-length t
 abbrev pub three : ℕ → Kinds → ℕ → ℕ → ℕ → List ℕ
 three t k a b c = shownField t (k .a) a ++ (shownField t (k .b) b ++ (shownField t (k .c) c ++ (10 ∷ [])))
 
-by-shape : (t : ℕ) (s : Shape) (a b c : ℕ) → three t (threeOf s) a b c ≡ fields (shownAll t (kindsOf s) (a ∷ b ∷ c ∷ []))
-unfolding fields kindsOf
+by-shape : (t : ℕ) (s : Shape) (a b c : ℕ) → three t (threeOf s) a b c ≡ fieldsText (shownAll t (kindsOf s) (a ∷ b ∷ c ∷ []))
+unfolding fieldsText kindsOf
 by-shape t Bare a b c = refl
 by-shape t Imm a b c = refl
 by-shape t D9 a b c = refl
@@ -127,7 +127,7 @@ by-shape t ImmR8 a b c = refl
 by-shape t RiImmR8 a b c = refl
 
 module _ (t : ℕ) (i : Instr) (v : Parts) (k : Kinds) where
-  pub is-operands : v ≡ partsOf i → k ≡ threeOf (formIn i .shape) → (a b c : ℕ) → a ≡ placeOf (v .a) → b ≡ placeOf (v .b) → c ≡ placeOf (v .c) → three t k a b c ≡ fields (operandsBy t i)
+  pub is-operands : v ≡ partsOf i → k ≡ threeOf (formIn i .shape) → (a b c : ℕ) → a ≡ placeOf (v .a) → b ≡ placeOf (v .b) → c ≡ placeOf (v .c) → three t k a b c ≡ fieldsText (operandsBy t i)
   unfolding operandsBy
   is-operands e f a b c x y z =
       let g : three t k a b c ≡ three t k (placeOf (v .a)) (placeOf (v .b)) (placeOf (v .c)) = rw (x, y, z) in
@@ -140,7 +140,7 @@ three-length t k a b c =
     omega (arith, field-length t (k .a) a, field-length t (k .b) b, field-length t (k .c) c, length-append (shownField t (k .a) a) (shownField t (k .b) b ++ (shownField t (k .c) c ++ (10 ∷ []))), length-append (shownField t (k .b) b) (shownField t (k .c) c ++ (10 ∷ [])), length-append (shownField t (k .c) c) (10 ∷ []))
 
 -- the operands and the end of the line have at most sixteen bytes
-pub operands-length : (t : ℕ) (i : Instr) → length (fields (operandsBy t i)) ≤ 16
+pub operands-length : (t : ℕ) (i : Instr) → length (fieldsText (operandsBy t i)) ≤ 16
 operands-length t i =
     let v = partsOf i in
     let k = threeOf (formIn i .shape) in

@@ -15,21 +15,21 @@ use Rattle.views.specs.Positions.{upFrom}
 use Rattle.views.specs.DataRun.{isData, leading, runLength, dataRun}
 use Rattle.views.proofs.DataRuns.{by-mask, data-inside, leading-on}
 use Rattle.listing.specs.Lines.{dataLine}
-use Rattle.listing.specs.Walk.{codeLines, printed, passed, walk}
+use Rattle.listing.specs.Walk.{codeLines, linesAt, passed, walk}
 
 -- ---- what is printed at p, and how far it goes
 
 module _ (image m mask labels : List ℕ) (chosen : Bool) (p : ℕ) where
-  pub print-code : tracedMark (getD m p 0) ≡ true → codeLines image m labels chosen p ≡ printed image m mask labels chosen p
-  unfolding printed
+  pub print-code : tracedMark (getD m p 0) ≡ true → codeLines image m labels chosen p ≡ linesAt image m mask labels chosen p
+  unfolding linesAt
   print-code e = rw e
 
-  pub print-none : tracedMark (getD m p 0) ≡ false → (getD mask p 0 ≡ 0 → ⊥) → [] ≡ printed image m mask labels chosen p
-  unfolding printed
+  pub print-none : tracedMark (getD m p 0) ≡ false → (getD mask p 0 ≡ 0 → ⊥) → [] ≡ linesAt image m mask labels chosen p
+  unfolding linesAt
   print-none e f = rw (e, ne-eqb (getD mask p 0) 0 f)
 
-  pub print-data : tracedMark (getD m p 0) ≡ false → getD mask p 0 ≡ 0 → (run : List ℕ) → run ≡ dataRun image mask p → dataLine p run ≡ printed image m mask labels chosen p
-  unfolding printed
+  pub print-data : tracedMark (getD m p 0) ≡ false → getD mask p 0 ≡ 0 → (run : List ℕ) → run ≡ dataRun image mask p → dataLine p run ≡ linesAt image m mask labels chosen p
+  unfolding linesAt
   print-data e f run g = rw (e, eq-eqb (getD mask p 0) 0 f, g)
 
 module _ (image m mask : List ℕ) (p : ℕ) where
@@ -112,7 +112,7 @@ module _ (image m mask labels : List ℕ) (chosen : Bool) where
   walk-pass (suc s) k p =
       ap (λ (n : ℕ). from n p (suc s)) (suc-add s k) ∙ walk-pass s k (suc p) ∙ ap (λ (n : ℕ). from k n 0) (suc-add p s ∙ sym (add-suc p s))
 
-  walk-step : (k p : ℕ) → from (suc k) p 0 ≡ printed image m mask labels chosen p ++ from k (suc p) (passed image m mask p)
+  walk-step : (k p : ℕ) → from (suc k) p 0 ≡ linesAt image m mask labels chosen p ++ from k (suc p) (passed image m mask p)
   unfolding walk
   walk-step k p = refl
 
@@ -123,7 +123,7 @@ module _ (image m mask labels : List ℕ) (chosen : Bool) where
   pub left-start : leftAt 0 ≡ walk image m mask labels chosen (length image) 0 0
   left-start = let e : length image - 0 ≡ length image = omega arith in ap (λ (n : ℕ). from n 0 0) e
 
-  pub left-next : (p s : ℕ) → p < length image → s ≡ 1 + passed image m mask p → leftAt p ≡ printed image m mask labels chosen p ++ leftAt (p + s)
+  pub left-next : (p s : ℕ) → p < length image → s ≡ 1 + passed image m mask p → leftAt p ≡ linesAt image m mask labels chosen p ++ leftAt (p + s)
   left-next p s h e =
       let j : ℕ = passed image m mask p in
       let k : ℕ = length image - (p + s) in
@@ -132,7 +132,7 @@ module _ (image m mask labels : List ℕ) (chosen : Bool) where
       let r : suc p + j ≡ p + s = omega (arith, e) in
       ap (λ (n : ℕ). from n p 0) q
       ∙ walk-step (j + k) p
-      ∙ ap (λ (l : List ℕ). printed image m mask labels chosen p ++ l) (walk-pass j k (suc p) ∙ ap (λ (n : ℕ). from k n 0) r)
+      ∙ ap (λ (l : List ℕ). linesAt image m mask labels chosen p ++ l) (walk-pass j k (suc p) ∙ ap (λ (n : ℕ). from k n 0) r)
 
   pub left-end : (p : ℕ) → length image ≤ p → leftAt p ≡ []
   unfolding walk

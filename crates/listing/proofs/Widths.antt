@@ -26,23 +26,23 @@ use Rattle.arrivals.specs.Arrivals.{arrivalsOf}
 use Rattle.views.specs.Overlaps.{fromBefore, overlapsOf}
 use Rattle.arrivals.proofs.Counting.{total, total-same, arrivals-few}
 use Rattle.listing.specs.Hex.{hex4, hexes}
-use Rattle.listing.specs.Line.{fields}
-use Rattle.listing.specs.Lines.{labelLine, foundLine, overlapLine, arrivalLine, instrText, hereLine, codeBy, codeLine, dataLine, zeros}
-use Rattle.listing.specs.Walk.{codeLines, printed, passed, walk}
+use Rattle.listing.specs.Line.{fieldsText}
+use Rattle.listing.specs.Lines.{labelLine, foundLine, overlapLine, arrivalLine, instrText, hereLine, codeBy, codeLine, dataLine, allZero}
+use Rattle.listing.specs.Walk.{codeLines, linesAt, passed, walk}
 use Rattle.listing.proofs.Hexing.{hex4-length, hexes-length}
 use Rattle.listing.proofs.Lining.{label-length}
 use Rattle.listing.proofs.LineWidths.{instr-width}
 
 -- positions as fields, and the end of the line
-places-width : (qs : List ℕ) → length (fields (map hex4 qs)) ≤ 5 * length qs + 1
-unfolding fields
+places-width : (qs : List ℕ) → length (fieldsText (map hex4 qs)) ≤ 5 * length qs + 1
+unfolding fieldsText
 places-width [] = omega arith
-places-width (q ∷ qs) = omega (arith, hex4-length q, places-width qs, length-append (hex4 q) (fields (map hex4 qs)))
+places-width (q ∷ qs) = omega (arith, hex4-length q, places-width qs, length-append (hex4 q) (fieldsText (map hex4 qs)))
 
 found-width : (letter p : ℕ) (qs : List ℕ) → length (foundLine letter p qs) ≤ 5 * length qs + 7
-unfolding fields
+unfolding fieldsText
 found-width letter p [] = omega arith
-found-width letter p (q ∷ qs) = omega (arith, hex4-length p, places-width (q ∷ qs), length-append (hex4 p) (fields (map hex4 (q ∷ qs))))
+found-width letter p (q ∷ qs) = omega (arith, hex4-length p, places-width (q ∷ qs), length-append (hex4 p) (fieldsText (map hex4 (q ∷ qs))))
 
 -- lines of 7 bytes and 5 for each position found
 total-line : (f : ℕ → ℕ) (k p : ℕ) → total (λ (x : ℕ). 7 + 5 * f x) k p ≡ 7 * k + 5 * total f k p
@@ -107,8 +107,8 @@ module _ (image m : List ℕ) (B : Small image) where
   run-short mask p = omega (arith, length-take (leading (isData image mask) (upFrom 16 p)) (drop p image), leading-few (isData image mask) 16 p)
 
   data-width : (p : ℕ) (bytes : List ℕ) → length bytes ≤ 16 → length (dataLine p bytes) ≤ 60
-  unfolding dataLine fields
-  data-width p bytes h = by (zeros bytes)
+  unfolding dataLine fieldsText
+  data-width p bytes h = by (allZero bytes)
     where
       by : (t : Bool) → length (cond t [] (code "D" ∷ 9 ∷ hex4 p ++ (9 ∷ hexes bytes ++ (10 ∷ [])))) ≤ 60
       by true = omega arith
@@ -136,8 +136,8 @@ module _ (image m : List ℕ) (B : Small image) where
         let h = hereLine image p (hereOf image p) in
         omega (arith, label-length (getD labels p 0) p, found-width (code "O") p (overlapsOf image m p), overlaps-few p, most p, here-width p, length-append l (o ++ (arrived chosen p ++ h)), length-append o (arrived chosen p ++ h), length-append (arrived chosen p) h)
 
-    printed-width : (p : ℕ) → length (printed image m mask labels chosen p) ≤ 60 + w p
-    unfolding printed
+    printed-width : (p : ℕ) → length (linesAt image m mask labels chosen p) ≤ 60 + w p
+    unfolding linesAt
     printed-width p = by (tracedMark (getD m p 0)) (eqb (getD mask p 0) 0)
       where
         by : (t b : Bool) → length (cond t (codeLines image m labels chosen p) (cond b (dataLine p (dataRun image mask p)) [])) ≤ 60 + w p
@@ -151,7 +151,7 @@ module _ (image m : List ℕ) (B : Small image) where
     walk-width (suc k) p (suc s) = omega (arith, walk-width k (suc p) s)
     walk-width (suc k) p zero =
         let rest = walk image m mask labels chosen k (suc p) (passed image m mask p) in
-        omega (arith, printed-width p, walk-width k (suc p) (passed image m mask p), length-append (printed image m mask labels chosen p) rest)
+        omega (arith, printed-width p, walk-width k (suc p) (passed image m mask p), length-append (linesAt image m mask labels chosen p) rest)
 
   pub all-width : (mask labels : List ℕ) (chosen : Bool) → length (walk image m mask labels chosen (length image) 0 0) ≤ cond chosen 77 60 * length image
   all-width mask labels true =

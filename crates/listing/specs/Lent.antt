@@ -6,6 +6,8 @@ use mathlib.Core.List.{List}
 use mathlib.Core.Path.{_≡_}
 use lib.Dec.{ltb}
 use lib.ListN.{length}
+use Rattle.instruction.specs.Answer.{Answer}
+use Rattle.views.specs.View.{viewAnswer, viewRoom}
 use Rattle.views.specs.Labels.{labelsOf}
 use Rattle.views.specs.Mask.{maskOf}
 use Rattle.arrivals.specs.Index.{indexOf}
@@ -22,3 +24,10 @@ Indexed image m index = isLent index ≡ true → index ≡ indexOf image m
 -- the listing, with arrivals or without
 unfoldable pub textOf : List ℕ → List ℕ → Bool → List ℕ
 textOf image m chosen = walk image m (maskOf image m) (labelsOf image m) chosen (length image) 0 0
+
+-- what the call answers of it, and what it leaves in the room
+abbrev pub textAnswer : List ℕ → List ℕ → Bool → List ℕ → Answer ℕ
+textAnswer image m chosen room = viewAnswer image m (textOf image m chosen) room
+
+abbrev pub textRoom : List ℕ → List ℕ → Bool → List ℕ → List ℕ
+textRoom image m chosen room = viewRoom image m (textOf image m chosen) room

@@ -4,9 +4,9 @@ use Prim.Native.Nat.{ℕ}
 use mathlib.Core.List.{List, [], _∷_, _++_}
 
 -- a tab and the field, for each field, and byte 10
-unfoldable pub fields : List (List ℕ) → List ℕ
-fields [] = 10 ∷ []
-fields (f ∷ fs) = 9 ∷ f ++ fields fs
+unfoldable pub fieldsText : List (List ℕ) → List ℕ
+fieldsText [] = 10 ∷ []
+fieldsText (f ∷ fs) = 9 ∷ f ++ fieldsText fs
 
 abbrev pub line : ℕ → List (List ℕ) → List ℕ
-line letter fs = letter ∷ fields fs
+line letter fs = letter ∷ fieldsText fs

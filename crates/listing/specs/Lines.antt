@@ -57,10 +57,10 @@ codeBy p bytes Outside = []
 unfoldable pub codeLine : ℕ → List ℕ → List ℕ
 codeLine p bytes = codeBy p bytes (hereOf bytes 0)
 
-abbrev pub zeros : List ℕ → Bool
-zeros [] = true
-zeros (b ∷ bs) = eqb b 0 && zeros bs
+abbrev pub allZero : List ℕ → Bool
+allZero [] = true
+allZero (b ∷ bs) = eqb b 0 && allZero bs
 
 -- a data run, left out if all zero
 unfoldable pub dataLine : ℕ → List ℕ → List ℕ
-dataLine p bytes = cond (zeros bytes) [] (line (code "D") (hex4 p ∷ hexes bytes ∷ []))
+dataLine p bytes = cond (allZero bytes) [] (line (code "D") (hex4 p ∷ hexes bytes ∷ []))

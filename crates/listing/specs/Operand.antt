@@ -16,7 +16,7 @@ use Rattle.instruction.specs.Parts.{partsOf}
 use Rattle.instruction.specs.declared.instr.Instr.{Instr}
 use Rattle.targets.specs.At.{placeOf}
 use Rattle.targets.specs.Targets.{isGiven, targetsAnswer}
-use Rattle.listing.specs.Hex.{digit, hex2, hex3, hex4}
+use Rattle.listing.specs.Hex.{hex1, hex2, hex3, hex4}
 
 -- a target by its position: 65,536 and more are outside memory, and so is what lies below 0
 unfoldable pub target : ℕ → List ℕ
@@ -27,8 +27,8 @@ unfoldable pub shown : ℕ → Kind → ℕ → List ℕ
 shown t Absent n = []
 shown t Immediate n = code "#" ∷ hex2 n
 shown t Direct n = hex3 n
-shown t Register n = code "@" ∷ code "R" ∷ digit n ∷ []
-shown t BitNumber n = digit n ∷ []
+shown t Register n = code "@" ∷ code "R" ∷ hex1 n ∷ []
+shown t BitNumber n = hex1 n ∷ []
 shown t Page n = target t
 shown t Far n = target t
 shown t Short n = target t

@@ -7,6 +7,8 @@ use mathlib.Core.Bool.{Bool, true, false, cond}
 use mathlib.Core.List.{List, [], _++_}
 use lib.Dec.{eqb}
 use lib.ListN.{length, getD}
+use Rattle.instruction.specs.Answer.{Answer}
+use Rattle.views.specs.View.{viewAnswer, viewRoom}
 use Rattle.reach.specs.Mark.{tracedMark}
 use Rattle.targets.specs.Here.{hereOf}
 use Rattle.views.specs.DataRun.{dataRun}
@@ -35,8 +37,8 @@ codeLines image m labels chosen p =
     ++ hereLine image p (hereOf image p)))
 
 -- what is printed at p, by the mask and the target marks
-unfoldable pub printed : List ℕ → List ℕ → List ℕ → List ℕ → Bool → ℕ → List ℕ
-printed image m mask labels chosen p =
+unfoldable pub linesAt : List ℕ → List ℕ → List ℕ → List ℕ → Bool → ℕ → List ℕ
+linesAt image m mask labels chosen p =
     cond (tracedMark (getD m p 0)) (codeLines image m labels chosen p)
     (cond (eqb (getD mask p 0) 0) (dataLine p (dataRun image mask p)) [])
 
@@ -50,7 +52,14 @@ unfoldable pub walk : List ℕ → List ℕ → List ℕ → List ℕ → Bool �
 walk image m mask labels chosen zero p s = []
 walk image m mask labels chosen (suc k) p (suc s) = walk image m mask labels chosen k (suc p) s
 walk image m mask labels chosen (suc k) p zero =
-    printed image m mask labels chosen p ++ walk image m mask labels chosen k (suc p) (passed image m mask p)
+    linesAt image m mask labels chosen p ++ walk image m mask labels chosen k (suc p) (passed image m mask p)
 
 unfoldable pub listingOf : List ℕ → List ℕ → Arrivals → List ℕ
 listingOf image m choice = walk image m (maskOf image m) (labelsOf image m) (isChosen choice) (length image) 0 0
+
+-- what the call answers, and what it leaves in the room
+abbrev pub listingAnswer : List ℕ → List ℕ → Arrivals → List ℕ → Answer ℕ
+listingAnswer image m choice room = viewAnswer image m (listingOf image m choice) room
+
+abbrev pub listingRoom : List ℕ → List ℕ → Arrivals → List ℕ → List ℕ
+listingRoom image m choice room = viewRoom image m (listingOf image m choice) room

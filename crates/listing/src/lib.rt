@@ -8,7 +8,7 @@ pub mod tabbed;
 mod walk;
 
 pub use code::code_line;
-pub use put::digit;
+pub use put::hex1;
 pub use tabbed::Arrivals;
 pub use tabbed::listing;
 pub use tabbed::listing_with;

@@ -14,8 +14,8 @@ ghost use Rattle.views.specs.Overlaps.{overlapsIn, overlapsOf};
 ghost use Rattle.arrivals.specs.Index.{indexOf};
 ghost use Rattle.listing.specs.Hex.{hex4};
 ghost use Rattle.listing.specs.Lent.{isLent, Indexed};
-ghost use Rattle.listing.specs.Line.{fields};
-ghost use Rattle.listing.specs.Lines.{labelLine, overlapLine, arrivalLine, instrText, hereLine, zeros, dataLine};
+ghost use Rattle.listing.specs.Line.{fieldsText};
+ghost use Rattle.listing.specs.Lines.{labelLine, overlapLine, arrivalLine, instrText, hereLine, allZero, dataLine};
 ghost use Rattle.text.specs.Puts.{Puts};
 use crate::operands;
 use crate::put;
@@ -39,7 +39,7 @@ pub fn put_label(out: &mut [u8], at: usize, p: u32, mark: u8) -> usize
 // Positions as fields, and the end of the line.
 fn put_one(out: &mut [u8], at: usize, p: u32) -> usize
     requires { ⌜ at < 2 ^ 57 ⌝ }
-    ensures { λ r. ⌜ Puts (fields (hex4 p ∷ [])) at (now (out .entry)) (now (out .exit)) r ⌝ }
+    ensures { λ r. ⌜ Puts (fieldsText (hex4 p ∷ [])) at (now (out .entry)) (now (out .exit)) r ⌝ }
 {
     let a = put::put_place(out, at, p);
     put::put_byte(out, a, b'\n')
@@ -47,7 +47,7 @@ fn put_one(out: &mut [u8], at: usize, p: u32) -> usize
 
 fn put_two(out: &mut [u8], at: usize, p: u32, q: u32) -> usize
     requires { ⌜ at < 2 ^ 56 ⌝ }
-    ensures { λ r. ⌜ Puts (fields (hex4 p ∷ hex4 q ∷ [])) at (now (out .entry)) (now (out .exit)) r ⌝ }
+    ensures { λ r. ⌜ Puts (fieldsText (hex4 p ∷ hex4 q ∷ [])) at (now (out .entry)) (now (out .exit)) r ⌝ }
 {
     let a = put::put_place(out, at, p);
     put_one(out, a, q)
@@ -55,7 +55,7 @@ fn put_two(out: &mut [u8], at: usize, p: u32, q: u32) -> usize
 
 fn put_three(out: &mut [u8], at: usize, o: u32, p: u32, q: u32) -> usize
     requires { ⌜ at < 2 ^ 55 ⌝ }
-    ensures { λ r. ⌜ Puts (fields (hex4 o ∷ hex4 p ∷ hex4 q ∷ [])) at (now (out .entry)) (now (out .exit)) r ⌝ }
+    ensures { λ r. ⌜ Puts (fieldsText (hex4 o ∷ hex4 p ∷ hex4 q ∷ [])) at (now (out .entry)) (now (out .exit)) r ⌝ }
 {
     let a = put::put_place(out, at, o);
     put_two(out, a, p, q)
@@ -63,7 +63,7 @@ fn put_three(out: &mut [u8], at: usize, o: u32, p: u32, q: u32) -> usize
 
 fn put_found(out: &mut [u8], at: usize, o: Overlaps) -> usize
     requires { ⌜ at < 2 ^ 55 ⌝ }
-    ensures { λ r. ⌜ Puts (fields (map hex4 (overlapsIn o))) at (now (out .entry)) (now (out .exit)) r ⌝ }
+    ensures { λ r. ⌜ Puts (fieldsText (map hex4 (overlapsIn o))) at (now (out .entry)) (now (out .exit)) r ⌝ }
 {
     match o {
         Overlaps::Nothing => put::put_byte(out, at, b'\n'),
@@ -76,7 +76,8 @@ fn put_found(out: &mut [u8], at: usize, o: Overlaps) -> usize
 // `O`, where there are overlaps.
 pub fn put_overlaps(image: &[u8], marks: &[u8], out: &mut [u8], at: usize, p: u32) -> usize
     requires { ⌜ at < 2 ^ 54 ⌝ }
-    ensures { λ r. ⌜ (Puts (overlapLine p (overlapsOf (now (image .entry)) (now (marks .entry)) p)) at (now (out .entry)) (now (out .exit)) r) × (r ≤ at + 2 ^ 20) ⌝ }
+    ensures { λ r. ⌜ Puts (overlapLine p (overlapsOf (now (image .entry)) (now (marks .entry)) p)) at (now (out .entry)) (now (out .exit)) r ⌝ }
+    ensures { λ r. ⌜ r ≤ at + 2 ^ 20 ⌝ }
 {
     let o = views::overlaps_at(image, marks, p);
     if o.count() == 0 {
@@ -96,8 +97,10 @@ fn put_arrived(
     p: u32,
     first: u32,
 ) -> usize
-    requires { ⌜ (at < 2 ^ 55) × (length (now image) ≤ 65536) × (now index ≡ indexOf (now image) (now marks)) × (first ≡ nextArrival (now image) (now marks) p 0) ⌝ }
-    ensures { λ r. ⌜ (Puts (fields (map hex4 (arrivalsOf (now (image .entry)) (now (marks .entry)) p))) at (now (out .entry)) (now (out .exit)) r) × (r ≤ at + 327681) ⌝ }
+    requires { ⌜ (at < 2 ^ 55) × (length (now image) ≤ 65536) × (now index ≡ indexOf (now image) (now marks))
+        × (first ≡ nextArrival (now image) (now marks) p 0) ⌝ }
+    ensures { λ r. ⌜ Puts (fieldsText (map hex4 (arrivalsOf (now (image .entry)) (now (marks .entry)) p))) at (now (out .entry)) (now (out .exit)) r ⌝ }
+    ensures { λ r. ⌜ r ≤ at + 327681 ⌝ }
 {
     let n = image.len() as u32;
     let mut a = at;
@@ -119,7 +122,10 @@ pub fn put_arrivals(
     p: u32,
 ) -> usize
     requires { ⌜ (at < 2 ^ 54) × (length (now image) ≤ 65536) × (p < length (now image)) × Indexed (now image) (now marks) (now index) ⌝ }
-    ensures { λ r. ⌜ (Puts (cond (isLent (now (index .entry))) (arrivalLine p (arrivalsOf (now (image .entry)) (now (marks .entry)) p)) []) at (now (out .entry)) (now (out .exit)) r) × (r ≤ at + 2 ^ 20) ⌝ }
+    ensures { λ r. ⌜ Puts
+        (cond (isLent (now (index .entry))) (arrivalLine p (arrivalsOf (now (image .entry)) (now (marks .entry)) p)) [])
+        at (now (out .entry)) (now (out .exit)) r ⌝ }
+    ensures { λ r. ⌜ r ≤ at + 2 ^ 20 ⌝ }
 {
     if index.len() == 0 {
         return at;
@@ -135,7 +141,8 @@ pub fn put_arrivals(
 // `I`, of an instruction with which these bytes begin.
 pub fn put_instr(bytes: &[u8], out: &mut [u8], at: usize, p: u32, instr: Instr) -> usize
     requires { ⌜ (at < 2 ^ 54) × (sizeOf (formIn instr) < 4) × (sizeOf (formIn instr) ≤ length (now bytes)) ⌝ }
-    ensures { λ r. ⌜ (Puts (instrText p instr (now (bytes .entry))) at (now (out .entry)) (now (out .exit)) r) × (r ≤ at + 2 ^ 18) ⌝ }
+    ensures { λ r. ⌜ Puts (instrText p instr (now (bytes .entry))) at (now (out .entry)) (now (out .exit)) r ⌝ }
+    ensures { λ r. ⌜ r ≤ at + 2 ^ 18 ⌝ }
 {
     let t = operands::first_of(targets::targets(p, instr));
     let n = instr.size();
@@ -149,7 +156,8 @@ pub fn put_instr(bytes: &[u8], out: &mut [u8], at: usize, p: u32, instr: Instr) 
 // `I`, of what stands at p.
 pub fn put_here(image: &[u8], out: &mut [u8], at: usize, p: u32) -> usize
     requires { ⌜ at < 2 ^ 54 ⌝ }
-    ensures { λ r. ⌜ (Puts (hereLine (now (image .entry)) p (hereOf (now (image .entry)) p)) at (now (out .entry)) (now (out .exit)) r) × (r ≤ at + 2 ^ 20) ⌝ }
+    ensures { λ r. ⌜ Puts (hereLine (now (image .entry)) p (hereOf (now (image .entry)) p)) at (now (out .entry)) (now (out .exit)) r ⌝ }
+    ensures { λ r. ⌜ r ≤ at + 2 ^ 20 ⌝ }
 {
     match targets::instr_at(image, p) {
         Here::Whole(i) => put_instr(&image[p as usize..], out, at, p, i),
@@ -159,7 +167,7 @@ pub fn put_here(image: &[u8], out: &mut [u8], at: usize, p: u32) -> usize
 }
 
 fn all_zero(bytes: &[u8]) -> bool
-    ensures { λ r. ⌜ r ≡ zeros (now (bytes .entry)) ⌝ }
+    ensures { λ r. ⌜ r ≡ allZero (now (bytes .entry)) ⌝ }
 {
     let mut i: usize = 0;
     while i < bytes.len() {
@@ -174,7 +182,8 @@ fn all_zero(bytes: &[u8]) -> bool
 // `D`, where the bytes are not all zero.
 pub fn put_data(out: &mut [u8], at: usize, p: u32, bytes: &[u8]) -> usize
     requires { ⌜ (at < 2 ^ 54) × (length (now bytes) ≤ 65536) ⌝ }
-    ensures { λ r. ⌜ (Puts (dataLine p (now (bytes .entry))) at (now (out .entry)) (now (out .exit)) r) × (r ≤ at + 2 ^ 20) ⌝ }
+    ensures { λ r. ⌜ Puts (dataLine p (now (bytes .entry))) at (now (out .entry)) (now (out .exit)) r ⌝ }
+    ensures { λ r. ⌜ r ≤ at + 2 ^ 20 ⌝ }
 {
     if all_zero(bytes) {
         return at;

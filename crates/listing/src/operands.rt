@@ -3,8 +3,8 @@ ghost use mathlib.Core.Path.{_≡_};
 ghost use mathlib.Core.List.{[], _∷_};
 ghost use Prim.Native.Nat.{_^_, _<_};
 ghost use Rattle.targets.specs.Targets.{isGiven, targetsOf};
-ghost use Rattle.listing.specs.Hex.{digit, hex2};
-ghost use Rattle.listing.specs.Line.{fields};
+ghost use Rattle.listing.specs.Hex.{hex1, hex2};
+ghost use Rattle.listing.specs.Line.{fieldsText};
 ghost use Rattle.listing.specs.Operand.{target, shown, shownField, firstOf, operandsBy};
 ghost use Rattle.text.specs.Puts.{Puts};
 use crate::put;
@@ -64,7 +64,7 @@ fn put_immediate(out: &mut [u8], at: usize, n: u32) -> usize
 
 fn put_register(out: &mut [u8], at: usize, n: u32) -> usize
     requires { ⌜ at < 2 ^ 59 ⌝ }
-    ensures { λ r. ⌜ Puts (64 ∷ 82 ∷ digit n ∷ []) at (now (out .entry)) (now (out .exit)) r ⌝ }
+    ensures { λ r. ⌜ Puts (64 ∷ 82 ∷ hex1 n ∷ []) at (now (out .entry)) (now (out .exit)) r ⌝ }
 {
     let a = put::put_byte(out, at, b'@');
     let b = put::put_byte(out, a, b'R');
@@ -104,7 +104,7 @@ fn put_field(out: &mut [u8], at: usize, kind: Kind, n: u32, t: u32) -> usize
 // The operands in the order shown, and the end of the line.
 pub fn put_operands(out: &mut [u8], at: usize, instr: Instr, t: u32) -> usize
     requires { ⌜ at < 2 ^ 57 ⌝ }
-    ensures { λ r. ⌜ Puts (fields (operandsBy t instr)) at (now (out .entry)) (now (out .exit)) r ⌝ }
+    ensures { λ r. ⌜ Puts (fieldsText (operandsBy t instr)) at (now (out .entry)) (now (out .exit)) r ⌝ }
 {
     let v = instr.apart();
     let k = instr.kinds();

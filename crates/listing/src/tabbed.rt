@@ -1,9 +1,9 @@
 // The tabbed listing.
 ghost use mathlib.Core.Path.{_≡_};
 ghost use mathlib.Core.Bool.{true};
-ghost use Rattle.views.specs.View.{Sound, viewedOf, viewAnswer, viewRoom};
-ghost use Rattle.listing.specs.Lent.{isLent, Indexed, textOf};
-ghost use Rattle.listing.specs.Walk.{isChosen, unchosen, listingOf};
+ghost use Rattle.views.specs.View.{Sound, viewedOf};
+ghost use Rattle.listing.specs.Lent.{isLent, Indexed, textAnswer, textRoom};
+ghost use Rattle.listing.specs.Walk.{isChosen, unchosen, listingAnswer, listingRoom};
 use crate::rooms;
 use crate::walk;
 use views::Viewed;
@@ -31,7 +31,8 @@ impl Arrivals {
 // The listing of marks that are not damaged, with arrivals where an index of them is lent.
 fn list(image: &[u8], marks: &[u8], index: &[u32], room: &mut [u8]) -> Viewed
     requires { ⌜ Sound (now image) (now marks) × Indexed (now image) (now marks) (now index) ⌝ }
-    ensures { λ r. ⌜ (viewedOf r ≡ viewAnswer (now (image .entry)) (now (marks .entry)) (textOf (now (image .entry)) (now (marks .entry)) (isLent (now (index .entry)))) (now (room .entry))) × (now (room .exit) ≡ viewRoom (now (image .entry)) (now (marks .entry)) (textOf (now (image .entry)) (now (marks .entry)) (isLent (now (index .entry)))) (now (room .entry))) ⌝ }
+    ensures { λ r. ⌜ viewedOf r ≡ textAnswer (now (image .entry)) (now (marks .entry)) (isLent (now (index .entry))) (now (room .entry)) ⌝ }
+    ensures { λ _. ⌜ now (room .exit) ≡ textRoom (now (image .entry)) (now (marks .entry)) (isLent (now (index .entry))) (now (room .entry)) ⌝ }
 {
     let n = image.len();
     let mut mask = rooms::bytes();
@@ -48,7 +49,8 @@ fn list(image: &[u8], marks: &[u8], index: &[u32], room: &mut [u8]) -> Viewed
 // The same with arrivals.
 fn list_arrivals(image: &[u8], marks: &[u8], room: &mut [u8]) -> Viewed
     requires { ⌜ Sound (now image) (now marks) ⌝ }
-    ensures { λ r. ⌜ (viewedOf r ≡ viewAnswer (now (image .entry)) (now (marks .entry)) (textOf (now (image .entry)) (now (marks .entry)) true) (now (room .entry))) × (now (room .exit) ≡ viewRoom (now (image .entry)) (now (marks .entry)) (textOf (now (image .entry)) (now (marks .entry)) true) (now (room .entry))) ⌝ }
+    ensures { λ r. ⌜ viewedOf r ≡ textAnswer (now (image .entry)) (now (marks .entry)) true (now (room .entry)) ⌝ }
+    ensures { λ _. ⌜ now (room .exit) ≡ textRoom (now (image .entry)) (now (marks .entry)) true (now (room .entry)) ⌝ }
 {
     let n = 3 * image.len();
     let mut index = rooms::cells();
@@ -58,7 +60,8 @@ fn list_arrivals(image: &[u8], marks: &[u8], room: &mut [u8]) -> Viewed
 
 // The listing of the traced image, with arrivals where they are chosen: how many bytes were written.
 pub fn listing_with(image: &[u8], marks: &[u8], arrivals: Arrivals, room: &mut [u8]) -> Viewed
-    ensures { λ r. ⌜ (viewedOf r ≡ viewAnswer (now (image .entry)) (now (marks .entry)) (listingOf (now (image .entry)) (now (marks .entry)) arrivals) (now (room .entry))) × (now (room .exit) ≡ viewRoom (now (image .entry)) (now (marks .entry)) (listingOf (now (image .entry)) (now (marks .entry)) arrivals) (now (room .entry))) ⌝ }
+    ensures { λ r. ⌜ viewedOf r ≡ listingAnswer (now (image .entry)) (now (marks .entry)) arrivals (now (room .entry)) ⌝ }
+    ensures { λ _. ⌜ now (room .exit) ≡ listingRoom (now (image .entry)) (now (marks .entry)) arrivals (now (room .entry)) ⌝ }
 {
     let v = views::check(image, marks);
     if !v.is_written() {
@@ -73,7 +76,8 @@ pub fn listing_with(image: &[u8], marks: &[u8], arrivals: Arrivals, room: &mut [
 
 // The listing without a choice.
 pub fn listing(image: &[u8], marks: &[u8], room: &mut [u8]) -> Viewed
-    ensures { λ r. ⌜ (viewedOf r ≡ viewAnswer (now (image .entry)) (now (marks .entry)) (listingOf (now (image .entry)) (now (marks .entry)) unchosen) (now (room .entry))) × (now (room .exit) ≡ viewRoom (now (image .entry)) (now (marks .entry)) (listingOf (now (image .entry)) (now (marks .entry)) unchosen) (now (room .entry))) ⌝ }
+    ensures { λ r. ⌜ viewedOf r ≡ listingAnswer (now (image .entry)) (now (marks .entry)) unchosen (now (room .entry)) ⌝ }
+    ensures { λ _. ⌜ now (room .exit) ≡ listingRoom (now (image .entry)) (now (marks .entry)) unchosen (now (room .entry)) ⌝ }
 {
     listing_with(image, marks, Arrivals::DEFAULT, room)
 }

@@ -5,7 +5,7 @@ ghost use Prim.Native.Nat.{_+_, _^_, _≤_, _<_};
 ghost use lib.ListN.{length};
 ghost use Rattle.listing.specs.Lent.{isLent, Indexed};
 ghost use Rattle.text.specs.Puts.{Puts, Needed};
-ghost use Rattle.listing.specs.Walk.{codeLines, printed, passed, walk};
+ghost use Rattle.listing.specs.Walk.{codeLines, linesAt, passed, walk};
 use crate::lines;
 use marks::Mark;
 
@@ -25,8 +25,12 @@ fn put_code(
     at: usize,
     p: u32,
 ) -> usize
-    requires { ⌜ (at < 2 ^ 52) × (length (now image) ≤ 65536) × (p < length (now labels)) × (p < length (now image)) × Indexed (now image) (now marks) (now index) ⌝ }
-    ensures { λ r. ⌜ (Puts (codeLines (now (image .entry)) (now (marks .entry)) (now (labels .entry)) (isLent (now (index .entry))) p) at (now (out .entry)) (now (out .exit)) r) × (r ≤ at + 2 ^ 22) ⌝ }
+    requires { ⌜ (at < 2 ^ 52) × (length (now image) ≤ 65536) × (p < length (now labels)) × (p < length (now image))
+        × Indexed (now image) (now marks) (now index) ⌝ }
+    ensures { λ r. ⌜ Puts
+        (codeLines (now (image .entry)) (now (marks .entry)) (now (labels .entry)) (isLent (now (index .entry))) p)
+        at (now (out .entry)) (now (out .exit)) r ⌝ }
+    ensures { λ r. ⌜ r ≤ at + 2 ^ 22 ⌝ }
 {
     let a = lines::put_label(out, at, p, labels[p as usize]);
     let b = lines::put_overlaps(image, marks, out, a, p);
@@ -45,8 +49,12 @@ fn put_at(
     at: usize,
     p: u32,
 ) -> usize
-    requires { ⌜ (at < 2 ^ 52) × (length (now image) ≤ 65536) × (p < length (now labels)) × (p < length (now marks)) × (p < length (now mask)) × (p < length (now image)) × Indexed (now image) (now marks) (now index) ⌝ }
-    ensures { λ r. ⌜ (Puts (printed (now (image .entry)) (now (marks .entry)) (now (mask .entry)) (now (labels .entry)) (isLent (now (index .entry))) p) at (now (out .entry)) (now (out .exit)) r) × (r ≤ at + 2 ^ 22) ⌝ }
+    requires { ⌜ (at < 2 ^ 52) × (length (now image) ≤ 65536) × (p < length (now labels)) × (p < length (now marks)) × (p < length (now mask))
+        × (p < length (now image)) × Indexed (now image) (now marks) (now index) ⌝ }
+    ensures { λ r. ⌜ Puts
+        (linesAt (now (image .entry)) (now (marks .entry)) (now (mask .entry)) (now (labels .entry)) (isLent (now (index .entry))) p)
+        at (now (out .entry)) (now (out .exit)) r ⌝ }
+    ensures { λ r. ⌜ r ≤ at + 2 ^ 22 ⌝ }
 {
     let i = p as usize;
     if Mark::is_traced(marks[i]) {
@@ -81,8 +89,12 @@ pub fn put_walk(
     index: &[u32],
     out: &mut [u8],
 ) -> usize
-    requires { ⌜ (length (now image) ≤ 65536) × (length (now image) ≤ length (now marks)) × (length (now mask) ≡ length (now image)) × (length (now labels) ≡ length (now image)) × Indexed (now image) (now marks) (now index) ⌝ }
-    ensures { λ r. ⌜ Puts (walk (now (image .entry)) (now (marks .entry)) (now (mask .entry)) (now (labels .entry)) (isLent (now (index .entry))) (length (now (image .entry))) 0 0) 0 (now (out .entry)) (now (out .exit)) r ⌝ }
+    requires { ⌜ (length (now image) ≤ 65536) × (length (now image) ≤ length (now marks)) × (length (now mask) ≡ length (now image))
+        × (length (now labels) ≡ length (now image)) × Indexed (now image) (now marks) (now index) ⌝ }
+    ensures { λ r. ⌜ Puts
+        (walk (now (image .entry)) (now (marks .entry)) (now (mask .entry)) (now (labels .entry)) (isLent (now (index .entry)))
+        (length (now (image .entry))) 0 0)
+        0 (now (out .entry)) (now (out .exit)) r ⌝ }
 {
     let n = image.len();
     let mut at: usize = 0;
@@ -112,8 +124,12 @@ pub fn needed(
     index: &[u32],
     room: usize,
 ) -> usize
-    requires { ⌜ (length (now image) ≤ 65536) × (length (now image) ≤ length (now marks)) × (length (now mask) ≡ length (now image)) × (length (now labels) ≡ length (now image)) × Indexed (now image) (now marks) (now index) ⌝ }
-    ensures { λ r. ⌜ Needed (walk (now (image .entry)) (now (marks .entry)) (now (mask .entry)) (now (labels .entry)) (isLent (now (index .entry))) (length (now (image .entry))) 0 0) room r ⌝ }
+    requires { ⌜ (length (now image) ≤ 65536) × (length (now image) ≤ length (now marks)) × (length (now mask) ≡ length (now image))
+        × (length (now labels) ≡ length (now image)) × Indexed (now image) (now marks) (now index) ⌝ }
+    ensures { λ r. ⌜ Needed
+        (walk (now (image .entry)) (now (marks .entry)) (now (mask .entry)) (now (labels .entry)) (isLent (now (index .entry)))
+        (length (now (image .entry))) 0 0)
+        room r ⌝ }
 {
     let most = most(index) * image.len();
     if most <= room {

@@ -9,11 +9,11 @@ use native.Mathlib.Omega.{arith}
 use lib.Dec.{eqb, ltb, leb}
 use lib.ListN.{length, getD, drop, length-take}
 use borrow.Author.Tests.{eqb-true, le-leb, lt-ltb}
+use Rattle.instruction.specs.Bytes.{Bytes}
 use Rattle.targets.specs.At.{sizeHere}
 use Rattle.targets.proofs.Ands.{both}
 use Rattle.targets.proofs.Within.{size-short}
 use Rattle.reach.specs.Mark.{tracedMark}
-use Rattle.trace_laws.specs.ClaimsImages.{Bytes}
 use Rattle.views.specs.Positions.{upFrom, kept, bit, tracedAt}
 use Rattle.views.proofs.TracedAt.{traced-inside}
 use Rattle.views.proofs.Ups.{up-at}
@@ -22,7 +22,7 @@ use Rattle.views.specs.Mask.{under, covers, masked, maskOf}
 use Rattle.views.proofs.DataRuns.{data-inside, by-mask}
 use Rattle.views.proofs.Masking.{mask-length}
 use Rattle.views_laws.proofs.Somes.{passing}
-use Rattle.listing.specs.Walk.{printed, passed, walk, listingOf}
+use Rattle.listing.specs.Walk.{linesAt, passed, walk, listingOf}
 use Rattle.listing_laws.specs.ClaimsLines.{joined, stopsFrom, TracedListed}
 
 -- each of the positions that pass a test one after another passes it
@@ -37,11 +37,11 @@ leading-each f (suc k) p i h = by (f p) i refl h (leading-each f k (suc p))
     by false i e g rest = absurd (omega arith)
 
 module _ (image m mask labels : List ℕ) (chosen : Bool) where
-  walk-stops : (k p s : ℕ) → walk image m mask labels chosen k p s ≡ joined (map (printed image m mask labels chosen) (stopsFrom image m mask k p s))
+  walk-stops : (k p s : ℕ) → walk image m mask labels chosen k p s ≡ joined (map (linesAt image m mask labels chosen) (stopsFrom image m mask k p s))
   unfolding walk joined stopsFrom
   walk-stops zero p s = refl
   walk-stops (suc k) p (suc s) = walk-stops k (suc p) s
-  walk-stops (suc k) p zero = ap (λ (t : List ℕ). printed image m mask labels chosen p ++ t) (walk-stops k (suc p) (passed image m mask p))
+  walk-stops (suc k) p zero = ap (λ (t : List ℕ). linesAt image m mask labels chosen p ++ t) (walk-stops k (suc p) (passed image m mask p))
 
 module _ (image m : List ℕ) (B : Bytes image) where
   abbrev Untraced : ℕ → ℕ → Type 0

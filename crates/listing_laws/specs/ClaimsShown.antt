@@ -8,6 +8,7 @@ use mathlib.Core.List.{List, _∷_}
 use mathlib.Core.Path.{_≡_}
 use lib.IntN.{ℤ}
 use lib.ListN.{length, take, drop}
+use Rattle.instruction.specs.Bytes.{Bytes}
 use Rattle.instruction.specs.Answer.{accepted}
 use Rattle.instruction.specs.Decode.{decodeAnswer}
 use Rattle.instruction.specs.Encode.{formIn}
@@ -18,8 +19,8 @@ use Rattle.instruction.specs.declared.instr.Instr.{Instr}
 use Rattle.targets.specs.At.{fitsHere}
 use Rattle.targets.specs.Here.{hereOf}
 use Rattle.targets.specs.Targets.{targetsAnswer}
-use Rattle.trace.specs.Run.{Said, runAnswer, runMarks}
-use Rattle.trace_laws.specs.ClaimsImages.{Bytes, Clean}
+use Rattle.trace.specs.Run.{RunResult, runAnswer, runMarks}
+use Rattle.trace_laws.specs.ClaimsImages.{Clean}
 use Rattle.views.specs.Positions.{tracedAt}
 use Rattle.views_laws.specs.ClaimsCode.{Reachable}
 use Rattle.views_laws.specs.ClaimsSound.{Undamaged}
@@ -45,6 +46,6 @@ TracedShown =
 -- instruction is not cut off
 abbrev pub TracedReachable : Type 0
 TracedReachable =
-    (image marks order entries : List ℕ) (limit : ℕ) (s : Said) → Bytes image → Clean image → runAnswer image marks order entries limit ≡ accepted s → s .finished ≡ true
+    (image marks order entries : List ℕ) (limit : ℕ) (s : RunResult) → Bytes image → Clean image → runAnswer image marks order entries limit ≡ accepted s → s .finished ≡ true
     → (p : ℕ) → (tracedAt image (runMarks image marks order entries limit) p ≡ true → Reachable image entries p × (fitsHere image p ≡ true))
     × (Reachable image entries p → fitsHere image p ≡ true → tracedAt image (runMarks image marks order entries limit) p ≡ true)

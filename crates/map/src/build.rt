@@ -13,7 +13,8 @@ use crate::cover;
 use views::Viewed;
 
 fn write_map(image: &[u8], marks: &[u8], words: &mut [u64], need: usize)
-    requires { ⌜ (length (now image) ≤ length (now marks)) × (length (now image) ≤ 65536) × (need ≡ wordsFor (length (now image))) × (need ≤ length (now words)) × ((p : ℕ) → p < length (now image) → damagedHere (now image) (now marks) p ≡ false) ⌝ }
+    requires { ⌜ (length (now image) ≤ length (now marks)) × (length (now image) ≤ 65536) × (need ≡ wordsFor (length (now image)))
+        × (need ≤ length (now words)) × ((p : ℕ) → p < length (now image) → damagedHere (now image) (now marks) p ≡ false) ⌝ }
     ensures { λ _. ⌜ now (words .exit) ≡ packed (maskOf (now (image .entry)) (now (marks .entry))) ++ drop need (now (words .entry)) ⌝ }
 {
     let n = image.len();
@@ -27,7 +28,8 @@ fn write_map(image: &[u8], marks: &[u8], words: &mut [u64], need: usize)
 
 // One bit for each image byte, 1 on each byte of a traced instruction.
 pub fn build_map(image: &[u8], marks: &[u8], words: &mut [u64]) -> Viewed
-    ensures { λ r. ⌜ (viewedOf r ≡ buildAnswer (now (image .entry)) (now (marks .entry)) (now (words .entry))) × (now (words .exit) ≡ buildWords (now (image .entry)) (now (marks .entry)) (now (words .entry))) ⌝ }
+    ensures { λ r. ⌜ viewedOf r ≡ buildAnswer (now (image .entry)) (now (marks .entry)) (now (words .entry)) ⌝ }
+    ensures { λ _. ⌜ now (words .exit) ≡ buildWords (now (image .entry)) (now (marks .entry)) (now (words .entry)) ⌝ }
 {
     let v = views::check(image, marks);
     if !v.is_written() {

@@ -38,8 +38,10 @@ pub fn cover(words: &mut [u64], p: u32, size: u32)
 
 // The bits of the instruction at p set, if it is traced.
 pub fn cover_at(image: &[u8], marks: &[u8], words: &mut [u64], p: u32)
-    requires { ⌜ (p < length (now image)) × (length (now image) ≤ length (now marks)) × (length (now image) ≤ 65536) × (length (now image) ≤ 64 * length (now words)) × (tracedMark (getD (now marks) p 0) ≡ true → fitsHere (now image) p ≡ true) ⌝ }
-    ensures { λ _. ⌜ now (words .exit) ≡ cond (tracedMark (getD (now (marks .entry)) p 0)) (covered (now (words .entry)) (sizeHere (now (image .entry)) p) p) (now (words .entry)) ⌝ }
+    requires { ⌜ (p < length (now image)) × (length (now image) ≤ length (now marks)) × (length (now image) ≤ 65536)
+        × (length (now image) ≤ 64 * length (now words)) × (tracedMark (getD (now marks) p 0) ≡ true → fitsHere (now image) p ≡ true) ⌝ }
+    ensures { λ _. ⌜ now (words .exit)
+        ≡ cond (tracedMark (getD (now (marks .entry)) p 0)) (covered (now (words .entry)) (sizeHere (now (image .entry)) p) p) (now (words .entry)) ⌝ }
 {
     if !Mark::is_traced(marks[p as usize]) {
         return;

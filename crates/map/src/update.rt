@@ -36,7 +36,8 @@ pub fn as_updated(v: Viewed) -> Updated
 
 // Sets the bits of the traced instruction at p.
 pub fn update_map(image: &[u8], marks: &[u8], words: &mut [u64], p: u32) -> Updated
-    ensures { λ r. ⌜ (updatedOf r ≡ updateAnswer (now (image .entry)) (now (marks .entry)) (now (words .entry)) p) × (now (words .exit) ≡ updateWords (now (image .entry)) (now (marks .entry)) (now (words .entry)) p) ⌝ }
+    ensures { λ r. ⌜ updatedOf r ≡ updateAnswer (now (image .entry)) (now (marks .entry)) (now (words .entry)) p ⌝ }
+    ensures { λ _. ⌜ now (words .exit) ≡ updateWords (now (image .entry)) (now (marks .entry)) (now (words .entry)) p ⌝ }
 {
     let v = views::check(image, marks);
     if !v.is_written() {

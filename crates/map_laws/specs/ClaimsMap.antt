@@ -9,7 +9,7 @@ use lib.Dec.{eqb}
 use lib.ListN.{length, getD, take, drop}
 use Rattle.instruction.specs.Answer.{accepted}
 use Rattle.targets.specs.At.{sizeHere}
-use Rattle.trace.specs.Step.{Said, stepAnswer, stepMarks}
+use Rattle.trace.specs.Step.{StepResult, stepAnswer, stepMarks}
 use Rattle.views.specs.Mask.{maskOf}
 use Rattle.map.specs.Bits.{firstIn}
 use Rattle.map.specs.Words.{wordsFor, codeAt}
@@ -27,7 +27,7 @@ pub record KeptUp (image m ws : List ℕ) (p : ℕ) : Type 0 where
 -- so it is wherever the map could be built and the step was accepted
 abbrev pub UpdatedIsBuilt : Type 0
 UpdatedIsBuilt =
-    (image m ws : List ℕ) (p k : ℕ) (s : Said) → buildAnswer image m ws ≡ accepted k → stepAnswer image m p ≡ accepted s → KeptUp image m ws p
+    (image m ws : List ℕ) (p k : ℕ) (s : StepResult) → buildAnswer image m ws ≡ accepted k → stepAnswer image m p ≡ accepted s → KeptUp image m ws p
 
 -- the sum of a list
 unfoldable pub sum : List ℕ → ℕ

@@ -6,8 +6,8 @@ use mathlib.Core.List.{List}
 use Prim.Native.Nat.{ℕ, _<_, _≤_}
 use lib.Dec.{T, eqb, leb}
 use borrow.Author.Tests.{eq-eqb, ne-eqb, leb-true}
-use Rattle.instruction.specs.Forms.{forms, formOf, numberOf}
-use Rattle.instruction.specs.Pattern.{pattern, bytesOf, onto, given, next}
+use Rattle.instruction.specs.Forms.{forms, formOf, formNamed}
+use Rattle.instruction.specs.Pattern.{pattern, patternBytes, onto, bitsGiven, nextBracket}
 use Rattle.instruction.proofs.Every.{holds}
 use Rattle.targets.proofs.Ands.{first-part}
 use Rattle.targets.specs.At.{flashHere}
@@ -24,14 +24,14 @@ same-is true false t = absurd t
 same-is false true t = absurd t
 same-is false false t = refl
 
-pub jmpf-by-byte : (x : ℕ) → x < 256 → eqb (formOf x) (numberOf "Jmpf") ≡ eqb x 0x21
-unfolding same formOf numberOf forms pattern bytesOf onto given next
-jmpf-by-byte x h = same-is (eqb (formOf x) (numberOf "Jmpf")) (eqb x 0x21) (holds (λ k. same (eqb (formOf k) (numberOf "Jmpf")) (eqb k 0x21)) 256 tt x h)
+pub jmpf-by-byte : (x : ℕ) → x < 256 → eqb (formOf x) (formNamed "Jmpf") ≡ eqb x 0x21
+unfolding same formOf formNamed forms pattern patternBytes onto bitsGiven nextBracket
+jmpf-by-byte x h = same-is (eqb (formOf x) (formNamed "Jmpf")) (eqb x 0x21) (holds (λ k. same (eqb (formOf k) (formNamed "Jmpf")) (eqb k 0x21)) 256 tt x h)
 
-pub jmpf-is : (x : ℕ) → x < 256 → x ≡ 0x21 → eqb (formOf x) (numberOf "Jmpf") ≡ true
+pub jmpf-is : (x : ℕ) → x < 256 → x ≡ 0x21 → eqb (formOf x) (formNamed "Jmpf") ≡ true
 jmpf-is x h e = jmpf-by-byte x h ∙ eq-eqb x 0x21 e
 
-pub jmpf-not : (x : ℕ) → x < 256 → (x ≡ 0x21 → ⊥) → eqb (formOf x) (numberOf "Jmpf") ≡ false
+pub jmpf-not : (x : ℕ) → x < 256 → (x ≡ 0x21 → ⊥) → eqb (formOf x) (formNamed "Jmpf") ≡ false
 jmpf-not x h e = jmpf-by-byte x h ∙ ne-eqb x 0x21 e
 
 -- a Jmpf after B8 0D has two bytes before it

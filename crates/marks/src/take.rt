@@ -26,7 +26,8 @@ impl Taken {
 
 // Notes one position: it, where it became waiting.
 pub fn note_place(marks: &mut [u8], n: usize, t: u32) -> Places
-    ensures { λ r. ⌜ (placesIn r ≡ fresh n (t ∷ []) (now (marks .entry))) × (now (marks .exit) ≡ note n (t ∷ []) (now (marks .entry))) ⌝ }
+    ensures { λ r. ⌜ placesIn r ≡ fresh n (t ∷ []) (now (marks .entry)) ⌝ }
+    ensures { λ _. ⌜ now (marks .exit) ≡ note n (t ∷ []) (now (marks .entry)) ⌝ }
 {
     if note::note_one(marks, n, t) == 1 {
         return Places::First(t);
@@ -36,7 +37,8 @@ pub fn note_place(marks: &mut [u8], n: usize, t: u32) -> Places
 
 // Two positions, the first before the second.
 fn note_both(marks: &mut [u8], n: usize, s: u32, t: u32) -> Places
-    ensures { λ r. ⌜ (placesIn r ≡ fresh n (s ∷ t ∷ []) (now (marks .entry))) × (now (marks .exit) ≡ note n (s ∷ t ∷ []) (now (marks .entry))) ⌝ }
+    ensures { λ r. ⌜ placesIn r ≡ fresh n (s ∷ t ∷ []) (now (marks .entry)) ⌝ }
+    ensures { λ _. ⌜ now (marks .exit) ≡ note n (s ∷ t ∷ []) (now (marks .entry)) ⌝ }
 {
     let a = note::note_one(marks, n, s);
     let b = note::note_one(marks, n, t);
@@ -54,7 +56,8 @@ fn note_both(marks: &mut [u8], n: usize, s: u32, t: u32) -> Places
 
 // These positions noted, in their order.
 fn note_all(marks: &mut [u8], n: usize, ps: Places) -> Places
-    ensures { λ r. ⌜ (placesIn r ≡ fresh n (placesIn ps) (now (marks .entry))) × (now (marks .exit) ≡ note n (placesIn ps) (now (marks .entry))) ⌝ }
+    ensures { λ r. ⌜ placesIn r ≡ fresh n (placesIn ps) (now (marks .entry)) ⌝ }
+    ensures { λ _. ⌜ now (marks .exit) ≡ note n (placesIn ps) (now (marks .entry)) ⌝ }
 {
     match ps {
         Places::Nothing => Places::Nothing,

@@ -4,13 +4,14 @@ ghost use Rattle.instruction.specs.Decode.{decodeAnswer};
 ghost use Rattle.instruction.specs.Encode.{encodeAnswer, encodeRoom};
 ghost use Rattle.instruction.specs.Resolve.{resolveAnswer};
 ghost use Rattle.targets.specs.Targets.{targetsAnswer};
-ghost use Rattle.c_answers.specs.Reply.{numberOf, valuesOf, countValues};
+ghost use Rattle.c_answers.specs.Reply.{refusalNumber, valuesOf, countValues};
 ghost use Rattle.c_answers.specs.Codec.{instrValues, named, targetsValues};
 
 // Accepted: form, size, three operands.
 #[no_mangle]
 pub extern "C" fn pw_decode(bytes: &[u8], answer: &mut [i64; 5]) -> u32
-    ensures { λ r. ⌜ (r ≡ numberOf (decodeAnswer (now (bytes .entry)))) × (now (answer .exit) ≡ valuesOf instrValues (decodeAnswer (now (bytes .entry)))) ⌝ }
+    ensures { λ r. ⌜ r ≡ refusalNumber (decodeAnswer (now (bytes .entry))) ⌝ }
+    ensures { λ _. ⌜ now (answer .exit) ≡ valuesOf instrValues (decodeAnswer (now (bytes .entry))) ⌝ }
 {
     c_answers::decode(bytes).give(answer)
 }
@@ -25,7 +26,9 @@ pub extern "C" fn pw_encode(
     out: &mut [u8],
     answer: &mut [i64; 5],
 ) -> u32
-    ensures { λ r. ⌜ (r ≡ numberOf (encodeAnswer (named first a b c) (now (out .entry)))) × (now (answer .exit) ≡ valuesOf countValues (encodeAnswer (named first a b c) (now (out .entry)))) × (now (out .exit) ≡ encodeRoom (named first a b c) (now (out .entry))) ⌝ }
+    ensures { λ r. ⌜ r ≡ refusalNumber (encodeAnswer (named first a b c) (now (out .entry))) ⌝ }
+    ensures { λ _. ⌜ now (answer .exit) ≡ valuesOf countValues (encodeAnswer (named first a b c) (now (out .entry))) ⌝ }
+    ensures { λ _. ⌜ now (out .exit) ≡ encodeRoom (named first a b c) (now (out .entry)) ⌝ }
 {
     c_answers::encode(first, a, b, c, out).give(answer)
 }
@@ -40,7 +43,8 @@ pub extern "C" fn pw_resolve(
     base: u32,
     answer: &mut [i64; 5],
 ) -> u32
-    ensures { λ r. ⌜ (r ≡ numberOf (resolveAnswer (named first a b c) base)) × (now (answer .exit) ≡ valuesOf instrValues (resolveAnswer (named first a b c) base)) ⌝ }
+    ensures { λ r. ⌜ r ≡ refusalNumber (resolveAnswer (named first a b c) base) ⌝ }
+    ensures { λ _. ⌜ now (answer .exit) ≡ valuesOf instrValues (resolveAnswer (named first a b c) base) ⌝ }
 {
     c_answers::resolve(first, a, b, c, base).give(answer)
 }
@@ -55,7 +59,8 @@ pub extern "C" fn pw_targets(
     c: i32,
     answer: &mut [i64; 5],
 ) -> u32
-    ensures { λ r. ⌜ (r ≡ numberOf (targetsAnswer position (named first a b c))) × (now (answer .exit) ≡ valuesOf targetsValues (targetsAnswer position (named first a b c))) ⌝ }
+    ensures { λ r. ⌜ r ≡ refusalNumber (targetsAnswer position (named first a b c)) ⌝ }
+    ensures { λ _. ⌜ now (answer .exit) ≡ valuesOf targetsValues (targetsAnswer position (named first a b c)) ⌝ }
 {
     c_answers::targets(position, first, a, b, c).give(answer)
 }

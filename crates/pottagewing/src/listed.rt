@@ -1,11 +1,11 @@
 // The exported calls of the listing, and of one read back.
 ghost use mathlib.Core.Path.{_≡_};
 ghost use mathlib.Core.List.{[]};
-ghost use Rattle.views.specs.View.{roomAnswer, roomAfter, viewAnswer, viewRoom};
-ghost use Rattle.listing.specs.Walk.{listingOf};
+ghost use Rattle.views.specs.View.{roomAnswer, roomAfter};
+ghost use Rattle.listing.specs.Walk.{listingAnswer, listingRoom};
 ghost use Rattle.read_back.specs.Back.{backAnswer, backImage, backMarks};
 ghost use Rattle.list_text.specs.Output.{outputOf};
-ghost use Rattle.c_answers.specs.Reply.{numberOf, valuesOf, countValues};
+ghost use Rattle.c_answers.specs.Reply.{refusalNumber, valuesOf, countValues};
 ghost use Rattle.c_answers.specs.Listing.{choiceOf};
 
 // Accepted: the number of bytes written.
@@ -17,7 +17,10 @@ pub extern "C" fn pw_listing(
     room: &mut [u8],
     answer: &mut [i64; 5],
 ) -> u32
-    ensures { λ r. ⌜ (r ≡ numberOf (viewAnswer (now (image .entry)) (now (marks .entry)) (listingOf (now (image .entry)) (now (marks .entry)) (choiceOf arrivals)) (now (room .entry)))) × (now (answer .exit) ≡ valuesOf countValues (viewAnswer (now (image .entry)) (now (marks .entry)) (listingOf (now (image .entry)) (now (marks .entry)) (choiceOf arrivals)) (now (room .entry)))) × (now (room .exit) ≡ viewRoom (now (image .entry)) (now (marks .entry)) (listingOf (now (image .entry)) (now (marks .entry)) (choiceOf arrivals)) (now (room .entry))) ⌝ }
+    ensures { λ r. ⌜ r ≡ refusalNumber (listingAnswer (now (image .entry)) (now (marks .entry)) (choiceOf arrivals) (now (room .entry))) ⌝ }
+    ensures { λ _.
+        ⌜ now (answer .exit) ≡ valuesOf countValues (listingAnswer (now (image .entry)) (now (marks .entry)) (choiceOf arrivals) (now (room .entry))) ⌝ }
+    ensures { λ _. ⌜ now (room .exit) ≡ listingRoom (now (image .entry)) (now (marks .entry)) (choiceOf arrivals) (now (room .entry)) ⌝ }
 {
     c_answers::listing(image, marks, arrivals, room).give(answer)
 }
@@ -25,7 +28,9 @@ pub extern "C" fn pw_listing(
 // Accepted: the number of bytes written, those of a refusal's line among them.
 #[no_mangle]
 pub extern "C" fn pw_list_text(text: &[u8], room: &mut [u8], answer: &mut [i64; 5]) -> u32
-    ensures { λ r. ⌜ (r ≡ numberOf (roomAnswer [] (outputOf (now (text .entry))) (now (room .entry)))) × (now (answer .exit) ≡ valuesOf countValues (roomAnswer [] (outputOf (now (text .entry))) (now (room .entry)))) × (now (room .exit) ≡ roomAfter [] (outputOf (now (text .entry))) (now (room .entry))) ⌝ }
+    ensures { λ r. ⌜ r ≡ refusalNumber (roomAnswer [] (outputOf (now (text .entry))) (now (room .entry))) ⌝ }
+    ensures { λ _. ⌜ now (answer .exit) ≡ valuesOf countValues (roomAnswer [] (outputOf (now (text .entry))) (now (room .entry))) ⌝ }
+    ensures { λ _. ⌜ now (room .exit) ≡ roomAfter [] (outputOf (now (text .entry))) (now (room .entry)) ⌝ }
 {
     c_answers::list_text(text, room).give(answer)
 }
@@ -39,7 +44,10 @@ pub extern "C" fn pw_read_back(
     marks: &mut [u8],
     answer: &mut [i64; 5],
 ) -> u32
-    ensures { λ r. ⌜ (r ≡ numberOf (backAnswer (now (text .entry)) length (now (image .entry)) (now (marks .entry)))) × (now (answer .exit) ≡ valuesOf countValues (backAnswer (now (text .entry)) length (now (image .entry)) (now (marks .entry)))) × (now (image .exit) ≡ backImage (now (text .entry)) length (now (image .entry)) (now (marks .entry))) × (now (marks .exit) ≡ backMarks (now (text .entry)) length (now (image .entry)) (now (marks .entry))) ⌝ }
+    ensures { λ r. ⌜ r ≡ refusalNumber (backAnswer (now (text .entry)) length (now (image .entry)) (now (marks .entry))) ⌝ }
+    ensures { λ _. ⌜ now (answer .exit) ≡ valuesOf countValues (backAnswer (now (text .entry)) length (now (image .entry)) (now (marks .entry))) ⌝ }
+    ensures { λ _. ⌜ now (image .exit) ≡ backImage (now (text .entry)) length (now (image .entry)) (now (marks .entry)) ⌝ }
+    ensures { λ _. ⌜ now (marks .exit) ≡ backMarks (now (text .entry)) length (now (image .entry)) (now (marks .entry)) ⌝ }
 {
     c_answers::read_back(text, length, image, marks).give(answer)
 }

@@ -3,7 +3,7 @@ ghost use mathlib.Core.Path.{_≡_};
 ghost use Rattle.map.specs.Ask.{testAnswer, countAnswer, firstAnswer};
 ghost use Rattle.map.specs.Build.{buildAnswer, buildWords};
 ghost use Rattle.map.specs.Update.{updateAnswer, updateWords};
-ghost use Rattle.c_answers.specs.Reply.{numberOf, valuesOf, countValues};
+ghost use Rattle.c_answers.specs.Reply.{refusalNumber, valuesOf, countValues};
 
 // Accepted: the number of words written.
 #[no_mangle]
@@ -13,7 +13,9 @@ pub extern "C" fn pw_map_build(
     words: &mut [u64],
     answer: &mut [i64; 5],
 ) -> u32
-    ensures { λ r. ⌜ (r ≡ numberOf (buildAnswer (now (image .entry)) (now (marks .entry)) (now (words .entry)))) × (now (answer .exit) ≡ valuesOf countValues (buildAnswer (now (image .entry)) (now (marks .entry)) (now (words .entry)))) × (now (words .exit) ≡ buildWords (now (image .entry)) (now (marks .entry)) (now (words .entry))) ⌝ }
+    ensures { λ r. ⌜ r ≡ refusalNumber (buildAnswer (now (image .entry)) (now (marks .entry)) (now (words .entry))) ⌝ }
+    ensures { λ _. ⌜ now (answer .exit) ≡ valuesOf countValues (buildAnswer (now (image .entry)) (now (marks .entry)) (now (words .entry))) ⌝ }
+    ensures { λ _. ⌜ now (words .exit) ≡ buildWords (now (image .entry)) (now (marks .entry)) (now (words .entry)) ⌝ }
 {
     c_answers::map_build(image, marks, words).give(answer)
 }
@@ -26,7 +28,8 @@ pub extern "C" fn pw_map_test(
     position: u32,
     answer: &mut [i64; 5],
 ) -> u32
-    ensures { λ r. ⌜ (r ≡ numberOf (testAnswer (now (words .entry)) length position)) × (now (answer .exit) ≡ valuesOf countValues (testAnswer (now (words .entry)) length position)) ⌝ }
+    ensures { λ r. ⌜ r ≡ refusalNumber (testAnswer (now (words .entry)) length position) ⌝ }
+    ensures { λ _. ⌜ now (answer .exit) ≡ valuesOf countValues (testAnswer (now (words .entry)) length position) ⌝ }
 {
     c_answers::map_test(words, length, position).give(answer)
 }
@@ -40,7 +43,8 @@ pub extern "C" fn pw_map_count(
     end: u32,
     answer: &mut [i64; 5],
 ) -> u32
-    ensures { λ r. ⌜ (r ≡ numberOf (countAnswer (now (words .entry)) length begin end)) × (now (answer .exit) ≡ valuesOf countValues (countAnswer (now (words .entry)) length begin end)) ⌝ }
+    ensures { λ r. ⌜ r ≡ refusalNumber (countAnswer (now (words .entry)) length begin end) ⌝ }
+    ensures { λ _. ⌜ now (answer .exit) ≡ valuesOf countValues (countAnswer (now (words .entry)) length begin end) ⌝ }
 {
     c_answers::map_count(words, length, begin, end).give(answer)
 }
@@ -53,7 +57,8 @@ pub extern "C" fn pw_map_first_data(
     position: u32,
     answer: &mut [i64; 5],
 ) -> u32
-    ensures { λ r. ⌜ (r ≡ numberOf (firstAnswer (now (words .entry)) length position)) × (now (answer .exit) ≡ valuesOf countValues (firstAnswer (now (words .entry)) length position)) ⌝ }
+    ensures { λ r. ⌜ r ≡ refusalNumber (firstAnswer (now (words .entry)) length position) ⌝ }
+    ensures { λ _. ⌜ now (answer .exit) ≡ valuesOf countValues (firstAnswer (now (words .entry)) length position) ⌝ }
 {
     c_answers::map_first_data(words, length, position).give(answer)
 }
@@ -67,7 +72,9 @@ pub extern "C" fn pw_map_update(
     position: u32,
     answer: &mut [i64; 5],
 ) -> u32
-    ensures { λ r. ⌜ (r ≡ numberOf (updateAnswer (now (image .entry)) (now (marks .entry)) (now (words .entry)) position)) × (now (answer .exit) ≡ valuesOf countValues (updateAnswer (now (image .entry)) (now (marks .entry)) (now (words .entry)) position)) × (now (words .exit) ≡ updateWords (now (image .entry)) (now (marks .entry)) (now (words .entry)) position) ⌝ }
+    ensures { λ r. ⌜ r ≡ refusalNumber (updateAnswer (now (image .entry)) (now (marks .entry)) (now (words .entry)) position) ⌝ }
+    ensures { λ _. ⌜ now (answer .exit) ≡ valuesOf countValues (updateAnswer (now (image .entry)) (now (marks .entry)) (now (words .entry)) position) ⌝ }
+    ensures { λ _. ⌜ now (words .exit) ≡ updateWords (now (image .entry)) (now (marks .entry)) (now (words .entry)) position ⌝ }
 {
     c_answers::map_update(image, marks, words, position).give(answer)
 }

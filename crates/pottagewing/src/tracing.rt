@@ -3,7 +3,7 @@ ghost use mathlib.Core.Path.{_≡_};
 ghost use Rattle.trace.specs.Start.{startAnswer, startMarks};
 ghost use Rattle.trace.specs.Step.{stepAnswer, stepMarks};
 ghost use Rattle.trace.specs.Run.{runAnswer, runMarks, runOrder};
-ghost use Rattle.c_answers.specs.Reply.{numberOf, valuesOf, countValues};
+ghost use Rattle.c_answers.specs.Reply.{refusalNumber, valuesOf, countValues};
 ghost use Rattle.c_answers.specs.Tracing.{stepValues, runValues};
 
 // Accepted: the number of positions set.
@@ -14,7 +14,9 @@ pub extern "C" fn pw_start(
     entries: &[u32],
     answer: &mut [i64; 5],
 ) -> u32
-    ensures { λ r. ⌜ (r ≡ numberOf (startAnswer (now (image .entry)) (now (marks .entry)) (now (entries .entry)))) × (now (answer .exit) ≡ valuesOf countValues (startAnswer (now (image .entry)) (now (marks .entry)) (now (entries .entry)))) × (now (marks .exit) ≡ startMarks (now (image .entry)) (now (marks .entry)) (now (entries .entry))) ⌝ }
+    ensures { λ r. ⌜ r ≡ refusalNumber (startAnswer (now (image .entry)) (now (marks .entry)) (now (entries .entry))) ⌝ }
+    ensures { λ _. ⌜ now (answer .exit) ≡ valuesOf countValues (startAnswer (now (image .entry)) (now (marks .entry)) (now (entries .entry))) ⌝ }
+    ensures { λ _. ⌜ now (marks .exit) ≡ startMarks (now (image .entry)) (now (marks .entry)) (now (entries .entry)) ⌝ }
 {
     c_answers::start(image, marks, entries).give(answer)
 }
@@ -22,7 +24,9 @@ pub extern "C" fn pw_start(
 // Accepted: the new mark, and how many positions became waiting.
 #[no_mangle]
 pub extern "C" fn pw_step(image: &[u8], marks: &mut [u8], p: u32, answer: &mut [i64; 5]) -> u32
-    ensures { λ r. ⌜ (r ≡ numberOf (stepAnswer (now (image .entry)) (now (marks .entry)) p)) × (now (answer .exit) ≡ valuesOf stepValues (stepAnswer (now (image .entry)) (now (marks .entry)) p)) × (now (marks .exit) ≡ stepMarks (now (image .entry)) (now (marks .entry)) p) ⌝ }
+    ensures { λ r. ⌜ r ≡ refusalNumber (stepAnswer (now (image .entry)) (now (marks .entry)) p) ⌝ }
+    ensures { λ _. ⌜ now (answer .exit) ≡ valuesOf stepValues (stepAnswer (now (image .entry)) (now (marks .entry)) p) ⌝ }
+    ensures { λ _. ⌜ now (marks .exit) ≡ stepMarks (now (image .entry)) (now (marks .entry)) p ⌝ }
 {
     c_answers::step(image, marks, p).give(answer)
 }
@@ -37,7 +41,11 @@ pub extern "C" fn pw_run(
     limit: u32,
     answer: &mut [i64; 5],
 ) -> u32
-    ensures { λ r. ⌜ (r ≡ numberOf (runAnswer (now (image .entry)) (now (marks .entry)) (now (order .entry)) (now (entries .entry)) limit)) × (now (answer .exit) ≡ valuesOf runValues (runAnswer (now (image .entry)) (now (marks .entry)) (now (order .entry)) (now (entries .entry)) limit)) × (now (marks .exit) ≡ runMarks (now (image .entry)) (now (marks .entry)) (now (order .entry)) (now (entries .entry)) limit) × (now (order .exit) ≡ runOrder (now (image .entry)) (now (marks .entry)) (now (order .entry)) (now (entries .entry)) limit) ⌝ }
+    ensures { λ r. ⌜ r ≡ refusalNumber (runAnswer (now (image .entry)) (now (marks .entry)) (now (order .entry)) (now (entries .entry)) limit) ⌝ }
+    ensures { λ _.
+        ⌜ now (answer .exit) ≡ valuesOf runValues (runAnswer (now (image .entry)) (now (marks .entry)) (now (order .entry)) (now (entries .entry)) limit) ⌝ }
+    ensures { λ _. ⌜ now (marks .exit) ≡ runMarks (now (image .entry)) (now (marks .entry)) (now (order .entry)) (now (entries .entry)) limit ⌝ }
+    ensures { λ _. ⌜ now (order .exit) ≡ runOrder (now (image .entry)) (now (marks .entry)) (now (order .entry)) (now (entries .entry)) limit ⌝ }
 {
     c_answers::run(image, marks, order, entries, limit).give(answer)
 }

@@ -1,18 +1,19 @@
 // The exported calls of the views.
 ghost use mathlib.Core.Path.{_≡_};
 ghost use lib.ListN.{length};
-ghost use Rattle.views.specs.View.{viewAnswer, viewRoom};
-ghost use Rattle.views.specs.Mask.{maskOf};
-ghost use Rattle.views.specs.Labels.{labelsOf};
+ghost use Rattle.views.specs.Mask.{maskAnswer, maskRoom};
+ghost use Rattle.views.specs.Labels.{labelsAnswer, labelsRoom};
 ghost use Rattle.views.specs.DataRun.{dataRun};
-ghost use Rattle.views.specs.Overlaps.{overlapsOf};
-ghost use Rattle.arrivals.specs.Arrivals.{arrivalsOf};
-ghost use Rattle.c_answers.specs.Reply.{five, numberOf, valuesOf, countValues};
+ghost use Rattle.views.specs.Overlaps.{overlapsAnswer, overlapsRoom};
+ghost use Rattle.arrivals.specs.Arrivals.{arrivalsAnswer, arrivalsRoom};
+ghost use Rattle.c_answers.specs.Reply.{five, refusalNumber, valuesOf, countValues};
 
 // Accepted: the number of bytes written.
 #[no_mangle]
 pub extern "C" fn pw_mask(image: &[u8], marks: &[u8], mask: &mut [u8], answer: &mut [i64; 5]) -> u32
-    ensures { λ r. ⌜ (r ≡ numberOf (viewAnswer (now (image .entry)) (now (marks .entry)) (maskOf (now (image .entry)) (now (marks .entry))) (now (mask .entry)))) × (now (answer .exit) ≡ valuesOf countValues (viewAnswer (now (image .entry)) (now (marks .entry)) (maskOf (now (image .entry)) (now (marks .entry))) (now (mask .entry)))) × (now (mask .exit) ≡ viewRoom (now (image .entry)) (now (marks .entry)) (maskOf (now (image .entry)) (now (marks .entry))) (now (mask .entry))) ⌝ }
+    ensures { λ r. ⌜ r ≡ refusalNumber (maskAnswer (now (image .entry)) (now (marks .entry)) (now (mask .entry))) ⌝ }
+    ensures { λ _. ⌜ now (answer .exit) ≡ valuesOf countValues (maskAnswer (now (image .entry)) (now (marks .entry)) (now (mask .entry))) ⌝ }
+    ensures { λ _. ⌜ now (mask .exit) ≡ maskRoom (now (image .entry)) (now (marks .entry)) (now (mask .entry)) ⌝ }
 {
     c_answers::mask(image, marks, mask).give(answer)
 }
@@ -25,7 +26,9 @@ pub extern "C" fn pw_target_marks(
     room: &mut [u8],
     answer: &mut [i64; 5],
 ) -> u32
-    ensures { λ r. ⌜ (r ≡ numberOf (viewAnswer (now (image .entry)) (now (marks .entry)) (labelsOf (now (image .entry)) (now (marks .entry))) (now (room .entry)))) × (now (answer .exit) ≡ valuesOf countValues (viewAnswer (now (image .entry)) (now (marks .entry)) (labelsOf (now (image .entry)) (now (marks .entry))) (now (room .entry)))) × (now (room .exit) ≡ viewRoom (now (image .entry)) (now (marks .entry)) (labelsOf (now (image .entry)) (now (marks .entry))) (now (room .entry))) ⌝ }
+    ensures { λ r. ⌜ r ≡ refusalNumber (labelsAnswer (now (image .entry)) (now (marks .entry)) (now (room .entry))) ⌝ }
+    ensures { λ _. ⌜ now (answer .exit) ≡ valuesOf countValues (labelsAnswer (now (image .entry)) (now (marks .entry)) (now (room .entry))) ⌝ }
+    ensures { λ _. ⌜ now (room .exit) ≡ labelsRoom (now (image .entry)) (now (marks .entry)) (now (room .entry)) ⌝ }
 {
     c_answers::target_marks(image, marks, room).give(answer)
 }
@@ -39,7 +42,9 @@ pub extern "C" fn pw_overlaps(
     room: &mut [u32],
     answer: &mut [i64; 5],
 ) -> u32
-    ensures { λ r. ⌜ (r ≡ numberOf (viewAnswer (now (image .entry)) (now (marks .entry)) (overlapsOf (now (image .entry)) (now (marks .entry)) p) (now (room .entry)))) × (now (answer .exit) ≡ valuesOf countValues (viewAnswer (now (image .entry)) (now (marks .entry)) (overlapsOf (now (image .entry)) (now (marks .entry)) p) (now (room .entry)))) × (now (room .exit) ≡ viewRoom (now (image .entry)) (now (marks .entry)) (overlapsOf (now (image .entry)) (now (marks .entry)) p) (now (room .entry))) ⌝ }
+    ensures { λ r. ⌜ r ≡ refusalNumber (overlapsAnswer (now (image .entry)) (now (marks .entry)) p (now (room .entry))) ⌝ }
+    ensures { λ _. ⌜ now (answer .exit) ≡ valuesOf countValues (overlapsAnswer (now (image .entry)) (now (marks .entry)) p (now (room .entry))) ⌝ }
+    ensures { λ _. ⌜ now (room .exit) ≡ overlapsRoom (now (image .entry)) (now (marks .entry)) p (now (room .entry)) ⌝ }
 {
     c_answers::overlaps(image, marks, p, room).give(answer)
 }
@@ -53,7 +58,9 @@ pub extern "C" fn pw_arrivals(
     room: &mut [u32],
     answer: &mut [i64; 5],
 ) -> u32
-    ensures { λ r. ⌜ (r ≡ numberOf (viewAnswer (now (image .entry)) (now (marks .entry)) (arrivalsOf (now (image .entry)) (now (marks .entry)) p) (now (room .entry)))) × (now (answer .exit) ≡ valuesOf countValues (viewAnswer (now (image .entry)) (now (marks .entry)) (arrivalsOf (now (image .entry)) (now (marks .entry)) p) (now (room .entry)))) × (now (room .exit) ≡ viewRoom (now (image .entry)) (now (marks .entry)) (arrivalsOf (now (image .entry)) (now (marks .entry)) p) (now (room .entry))) ⌝ }
+    ensures { λ r. ⌜ r ≡ refusalNumber (arrivalsAnswer (now (image .entry)) (now (marks .entry)) p (now (room .entry))) ⌝ }
+    ensures { λ _. ⌜ now (answer .exit) ≡ valuesOf countValues (arrivalsAnswer (now (image .entry)) (now (marks .entry)) p (now (room .entry))) ⌝ }
+    ensures { λ _. ⌜ now (room .exit) ≡ arrivalsRoom (now (image .entry)) (now (marks .entry)) p (now (room .entry)) ⌝ }
 {
     c_answers::arrivals(image, marks, p, room).give(answer)
 }
@@ -61,7 +68,8 @@ pub extern "C" fn pw_arrivals(
 // Never refused: the length of the run, which begins at p.
 #[no_mangle]
 pub extern "C" fn pw_data_run(image: &[u8], mask: &[u8], p: u32, answer: &mut [i64; 5]) -> u32
-    ensures { λ r. ⌜ (r ≡ 0) × (now (answer .exit) ≡ five (countValues (length (dataRun (now (image .entry)) (now (mask .entry)) p)))) ⌝ }
+    ensures { λ r. ⌜ r ≡ 0 ⌝ }
+    ensures { λ _. ⌜ now (answer .exit) ≡ five (countValues (length (dataRun (now (image .entry)) (now (mask .entry)) p))) ⌝ }
 {
     c_answers::data_run(image, mask, p).give(answer)
 }

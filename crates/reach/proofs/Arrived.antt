@@ -21,12 +21,12 @@ arrived (target r f i o) = o
 module _ (G : Tracer) (follow : ℕ → List ℕ) (base entries m : List ℕ) (B : Base G base) where
   -- a traced position was reached, and fits
   pub traced-why : (q : ℕ) → q < G .size → IsTraced (getD m q 0) → Why G follow base entries m q → Reach G follow base entries q × (G .fits q ≡ true)
-  traced-why q h t (of-base e) = absurd (B .calm q h (inr (subst IsTraced e t)))
+  traced-why q h t (of-base e) = absurd (B .none-live q h (inr (subst IsTraced e t)))
   traced-why q h t (waits e r) = absurd (waits-not e t)
   traced-why q h t (done a e r f) = (r, f)
 
   pub waiting-why : (q : ℕ) → q < G .size → getD m q 0 ≡ waiting → Why G follow base entries m q → Reach G follow base entries q
-  waiting-why q h w (of-base e) = absurd (B .calm q h (inl (sym e ∙ w)))
+  waiting-why q h w (of-base e) = absurd (B .none-live q h (inl (sym e ∙ w)))
   waiting-why q h w (waits e r) = r
   waiting-why q h w (done a e r f) = r
 

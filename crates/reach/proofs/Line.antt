@@ -37,5 +37,5 @@ line-start G entries base B = record {
     new q i (newly j o e) = e
 
     back : (q : ℕ) → q < n → getD (note n entries base) q 0 ≡ waiting → Noticed n entries base q → Among q (fresh n entries base)
-    back q h w (as-before f e) = absurd (B .calm q h (inl (sym e ∙ w)))
+    back q h w (as-before f e) = absurd (B .none-live q h (inl (sym e ∙ w)))
     back q h w (newly j o e) = among-open-fresh n entries base q j o

@@ -20,7 +20,7 @@ use Rattle.reach.proofs.Arrived.{arrived}
 use Rattle.reach.proofs.Between.{ends-between}
 
 pub cleared-base : ClearedBase
-cleared-base G m l = record { long = omega (arith, length-cleared (G .size) m l); calm = λ q h v. live-ne v (cleared-at (G .size) m q h) }
+cleared-base G m l = record { long = omega (arith, length-cleared (G .size) m l); none-live = λ q h v. live-ne v (cleared-at (G .size) m q h) }
 
 pub any-order : AnyOrder
 any-order G P base entries m B T =
@@ -35,7 +35,7 @@ any-order G P base entries m B T =
     }
   where
     is-two : (q : ℕ) → q < G .size → IsTraced (getD m q 0) → Why G (G .ways) base entries m q → getD m q 0 ≡ traced
-    is-two q h t (of-base e) = absurd (B .calm q h (inr (subst IsTraced e t)))
+    is-two q h t (of-base e) = absurd (B .none-live q h (inr (subst IsTraced e t)))
     is-two q h t (waits e r) = absurd (waits-not e t)
     is-two q h t (done a e r f) = e ∙ mark-plain G a q (P a q)
 

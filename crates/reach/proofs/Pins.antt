@@ -15,7 +15,7 @@ use Rattle.reach.proofs.Pin.{length-pin, pin-kept, pin-set}
 pub pinned-base : PinnedBase
 pinned-base G pins base B = record {
   long = omega (arith, length-pin (G .size) pins base (B .long), B .long);
-  calm = λ q h v. ⊎-elim (λ e. B .calm q h (subst IsLive e v)) (λ e. four (subst IsLive e v)) (pin-kept (G .size) pins base q (B .long));
+  none-live = λ q h v. ⊎-elim (λ e. B .none-live q h (subst IsLive e v)) (λ e. four (subst IsLive e v)) (pin-kept (G .size) pins base q (B .long));
 }
   where
     four : IsLive pinned → ⊥

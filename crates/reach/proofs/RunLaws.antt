@@ -5,7 +5,7 @@ use mathlib.Core.Path.{_≡_, refl, sym, ap, _∙_}
 use mathlib.Core.List.{List, [], _∷_, _++_}
 use lib.Seq.{append-snoc}
 use Rattle.reach.specs.Tracer.{Tracer, took, found}
-use Rattle.reach.specs.Run.{finished, stopped, cutOff, Outcome, halt, having, runFrom}
+use Rattle.reach.specs.Run.{finished, stopped, cutOff, Outcome, halt, takingFirst, runFrom}
 
 module _ (G : Tracer) where
   -- nothing waiting
@@ -27,16 +27,16 @@ module _ (G : Tracer) where
 
     -- a step
     pub run-on : (limit : ℕ) → G .fits p ≡ true
-        → runFrom (suc limit) G (p ∷ queue) m ≡ having p (runFrom limit G (queue ++ found G m p) (took G m p))
+        → runFrom (suc limit) G (p ∷ queue) m ≡ takingFirst p (runFrom limit G (queue ++ found G m p) (took G m p))
     unfolding runFrom
     run-on limit f =
-        ap (λ (b : Bool). cond b (having p (runFrom limit G (queue ++ found G m p) (took G m p))) (halt (cutOff p) (p ∷ queue) m)) f
+        ap (λ (b : Bool). cond b (takingFirst p (runFrom limit G (queue ++ found G m p) (took G m p))) (halt (cutOff p) (p ∷ queue) m)) f
 
 -- the outcome of a run that took `before` up and then came to `out`
 abbrev pub after : List ℕ → Outcome → Outcome
 after before out = record { end = out .end; taken = before ++ out .taken; left = out .left; marks = out .marks }
 
-pub after-having : (before : List ℕ) (p : ℕ) (out : Outcome) → after before (having p out) ≡ after (before ++ (p ∷ [])) out
+pub after-having : (before : List ℕ) (p : ℕ) (out : Outcome) → after before (takingFirst p out) ≡ after (before ++ (p ∷ [])) out
 after-having before p out =
     ap (λ (l : List ℕ). record { end = out .end; taken = l; left = out .left; marks = out .marks }) (sym (append-snoc before p (out .taken)))
 

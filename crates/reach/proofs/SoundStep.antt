@@ -22,7 +22,7 @@ module _ (G : Tracer) (lo hi : ℕ → List ℕ) (base entries : List ℕ) (W : 
 
     -- a position that waits was reached
     reached : Why G hi base entries m p → Reach G hi base entries p
-    reached (of-base e) = absurd (B .calm p (R .inside) (inl (sym e ∙ R .waits)))
+    reached (of-base e) = absurd (B .none-live p (R .inside) (inl (sym e ∙ R .waits)))
     reached (waits e r) = r
     reached (done a e r f) = r
 

@@ -9,7 +9,7 @@ use lib.ListN.{length, getD, take, drop}
 use lib.Seq.{sets, length-sets, take-suc, take-take, length-take-le, take-append-le, drop-append-le}
 use Rattle.reach.specs.Tracer.{Tracer, took, found}
 use Rattle.reach.specs.Run.{runFrom}
-use Rattle.reach.specs.Queue.{TakenUp}
+use Rattle.reach.specs.Queue.{TakenInOrder}
 use Rattle.reach.proofs.Took.{length-took}
 use Rattle.reach.proofs.RunLaws.{after, run-turn}
 use Rattle.reach.proofs.Sets.{take-sets, drop-sets, drop-later}
@@ -59,5 +59,5 @@ module _ {G : Tracer} {limit : ℕ} {m₀ o₀ : List ℕ} {tail₀ : ℕ} {m o 
         ∙ ap₂ (λ (j : ℕ) (q : List ℕ). after (take head o) (runFrom j G q m)) e (sym (stand-queue fm fo S h)) ∙ S .left;
   }
 
-  pub stand-turn : {m′ o′ : List ℕ} {tail′ : ℕ} → TakenUp G (getD o head 0) m o tail m′ o′ tail′ → Stand G limit m₀ o₀ tail₀ m′ o′ tail′ (head + 1)
+  pub stand-turn : {m′ o′ : List ℕ} {tail′ : ℕ} → TakenInOrder G (getD o head 0) m o tail m′ o′ tail′ → Stand G limit m₀ o₀ tail₀ m′ o′ tail′ (head + 1)
   stand-turn T = rw (T .marks-are, T .order-is, T .tail-is) turned

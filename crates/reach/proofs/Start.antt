@@ -24,7 +24,7 @@ module _ (G : Tracer) (entries base : List ℕ) (B : Base G base) where
   start-untraced q h t = by (noticed (G .size) entries base q (B .long))
     where
       by : Noticed (G .size) entries base q → ⊥
-      by (as-before f e) = B .calm q h (inr (subst IsTraced e t))
+      by (as-before f e) = B .none-live q h (inr (subst IsTraced e t))
       by (newly i o e) = waits-not e t
 
   pub start-count : count tracedMark (take (G .size) (note (G .size) entries base)) ≡ 0

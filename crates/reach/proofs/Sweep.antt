@@ -9,7 +9,7 @@ use borrow.Author.Tests.{eqb-true, eqb-false}
 use Rattle.reach.specs.Mark.{tracedMark}
 use Rattle.reach.specs.Tracer.{Tracer}
 use Rattle.reach.specs.Takes.{Ended}
-use Rattle.reach.specs.Sweep.{sweepOnce, caught, tracedIn, takesNone, sweepMarks}
+use Rattle.reach.specs.Sweep.{sweepOnce, sweepTaken, tracedIn, takesNone, sweepMarks}
 use Rattle.reach.specs.ClaimsSweep.{OneSweep, SweepsEnd}
 use Rattle.reach.proofs.Caught.{caught-done}
 use Rattle.reach.proofs.Count.{count-under}
@@ -30,7 +30,7 @@ module _ (G : Tracer) (m : List ℕ) (l : G .size ≤ length m) where
   -- the last: none could be taken up
   last-ended : takesNone G m ≡ true → Ended G m
   last-ended e p r =
-      in-none (S .order) (omega (arith, once-count, caught-done G m l, eqb-true (caught G m) 0 e)) (S .all p r)
+      in-none (S .order) (omega (arith, once-count, caught-done G m l, eqb-true (sweepTaken G m) 0 e)) (S .all p r)
     where
       in-none : (ps : List ℕ) → length ps ≡ 0 → Among p ps → ⊥
       in-none [] z i = List·Memᴰ·not-nil i
@@ -38,7 +38,7 @@ module _ (G : Tracer) (m : List ℕ) (l : G .size ≤ length m) where
 
   -- another: at least one was
   pub further-takes : takesNone G m ≡ false → 0 < length (S .order)
-  further-takes e = omega (arith, once-count, caught-done G m l, eqb-false (caught G m) 0 e)
+  further-takes e = omega (arith, once-count, caught-done G m l, eqb-false (sweepTaken G m) 0 e)
 
   -- so one sweep less is left to do
   pub one-further : (n : ℕ) → G .size < tracedIn G m + suc n → takesNone G m ≡ false → G .size < tracedIn G (sweepOnce G m) + n

@@ -8,7 +8,7 @@ use lib.Dec.{eqb}
 use Rattle.reach.specs.Mark.{tracedMark, count}
 use Rattle.reach.specs.Note.{isOpen, note}
 use Rattle.reach.specs.Tracer.{Tracer, targets, mark, took}
-use Rattle.reach.specs.Sweep.{ripe, sweptAt, sweepFrom, caughtFrom, sweepOnce, caught, sweepMarks, sweepCount, sweptMarks, sweeps, sweptSteps}
+use Rattle.reach.specs.Sweep.{canTake, sweptAt, sweepFrom, sweepTakenFrom, sweepOnce, sweepTaken, sweepMarks, sweepCount, sweptMarks, sweeps, sweptSteps}
 use Rattle.reach.proofs.Sample.{flashCall}
 
 -- the marks, the sweeps and the steps
@@ -17,13 +17,13 @@ Comes G m m′ s t = (sweptMarks G m ≡ m′) × (sweeps G m ≡ s) × (sweptSt
 
 -- from 0 the way is ahead
 ahead : Comes flashCall (1 ∷ 0 ∷ 0 ∷ 0 ∷ 0 ∷ 9 ∷ []) (2 ∷ 0 ∷ 3 ∷ 0 ∷ 0 ∷ 9 ∷ []) 2 2
-unfolding sweptMarks sweeps sweptSteps sweepMarks sweepCount sweepOnce caught sweepFrom caughtFrom sweptAt ripe took targets mark note isOpen
+unfolding sweptMarks sweeps sweptSteps sweepMarks sweepCount sweepOnce sweepTaken sweepFrom sweepTakenFrom sweptAt canTake took targets mark note isOpen
     tracedMark count
 ahead = (refl, refl, refl)
 
 -- from 2 it is back to 0
 behind : Comes flashCall (0 ∷ 0 ∷ 1 ∷ 0 ∷ 0 ∷ 9 ∷ []) (2 ∷ 0 ∷ 2 ∷ 0 ∷ 0 ∷ 9 ∷ []) 3 2
-unfolding sweptMarks sweeps sweptSteps sweepMarks sweepCount sweepOnce caught sweepFrom caughtFrom sweptAt ripe took targets mark note isOpen
+unfolding sweptMarks sweeps sweptSteps sweepMarks sweepCount sweepOnce sweepTaken sweepFrom sweepTakenFrom sweptAt canTake took targets mark note isOpen
     tracedMark count
 behind = (refl, refl, refl)
 
@@ -32,7 +32,7 @@ abbrev cutOff : Tracer
 cutOff = record { size = 3; fits = λ p. not (eqb p 2); ways = λ p. 2 ∷ []; exempt = λ m p. false }
 
 waits : Comes cutOff (1 ∷ 0 ∷ 0 ∷ []) (2 ∷ 0 ∷ 1 ∷ []) 2 1
-unfolding sweptMarks sweeps sweptSteps sweepMarks sweepCount sweepOnce caught sweepFrom caughtFrom sweptAt ripe took targets mark note isOpen
+unfolding sweptMarks sweeps sweptSteps sweepMarks sweepCount sweepOnce sweepTaken sweepFrom sweepTakenFrom sweptAt canTake took targets mark note isOpen
     tracedMark count
 waits = (refl, refl, refl)
 
@@ -41,6 +41,6 @@ abbrev nothing : Tracer
 nothing = record { size = 0; fits = λ p. false; ways = λ p. []; exempt = λ m p. false }
 
 empty : Comes nothing (1 ∷ []) (1 ∷ []) 1 0
-unfolding sweptMarks sweeps sweptSteps sweepMarks sweepCount sweepOnce caught sweepFrom caughtFrom sweptAt ripe took targets mark note isOpen
+unfolding sweptMarks sweeps sweptSteps sweepMarks sweepCount sweepOnce sweepTaken sweepFrom sweepTakenFrom sweptAt canTake took targets mark note isOpen
     tracedMark count
 empty = (refl, refl, refl)

@@ -11,7 +11,7 @@ use borrow.Author.Tests.{eqb-true, eqb-false}
 use Rattle.reach.specs.Mark.{waiting}
 use Rattle.reach.specs.Tracer.{Tracer, took}
 use Rattle.reach.specs.Takes.{Ready}
-use Rattle.reach.specs.Sweep.{ripe, sweptAt}
+use Rattle.reach.specs.Sweep.{canTake, sweptAt}
 use Rattle.reach.proofs.Cases.{not-both}
 use Rattle.reach.proofs.Took.{length-took, Moved, itself, kept, called, moved}
 
@@ -20,7 +20,7 @@ module _ (G : Tracer) (m : List ℕ) (p : ℕ) where
   Met = (Ready G m p × (sweptAt G m p ≡ took G m p)) ⊎ ((Ready G m p → ⊥) × (sweptAt G m p ≡ m))
 
   pub met : p < G .size → Met
-  unfolding sweptAt ripe
+  unfolding sweptAt canTake
   met h = by (eqb (getD m p 0) waiting) (G .fits p) refl refl
     where
       by : (w f : Bool) → eqb (getD m p 0) waiting ≡ w → G .fits p ≡ f

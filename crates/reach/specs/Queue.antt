@@ -15,7 +15,7 @@ pub record Noted (n : ℕ) (ts m o : List ℕ) (tail : ℕ) (m′ o′ : List �
   pub tail-is : tail′ ≡ tail + length (fresh n ts m)
 
 -- the position p taken up: in the marks, and what it found in the order list from its end `tail` on
-pub record TakenUp (G : Tracer) (p : ℕ) (m o : List ℕ) (tail : ℕ) (m′ o′ : List ℕ) (tail′ : ℕ) : Type 0 where
+pub record TakenInOrder (G : Tracer) (p : ℕ) (m o : List ℕ) (tail : ℕ) (m′ o′ : List ℕ) (tail′ : ℕ) : Type 0 where
   pub marks-are : m′ ≡ took G m p
   pub order-is : o′ ≡ sets o tail (found G m p)
   pub tail-is : tail′ ≡ tail + length (found G m p)

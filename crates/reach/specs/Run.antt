@@ -36,8 +36,8 @@ abbrev pub halt : End → List ℕ → List ℕ → Outcome
 halt e queue m = record { end = e; taken = []; left = queue; marks = m }
 
 -- a run that took p up first
-abbrev pub having : ℕ → Outcome → Outcome
-having p out = record { end = out .end; taken = p ∷ out .taken; left = out .left; marks = out .marks }
+abbrev pub takingFirst : ℕ → Outcome → Outcome
+takingFirst p out = record { end = out .end; taken = p ∷ out .taken; left = out .left; marks = out .marks }
 
 -- The run of at most `limit` steps from the queue and the marks. "Before each step: nothing waiting, finished; limit used up, stopped;
 -- instruction cut off, refusal 5." A step takes the queue's first, and puts the positions that it notes at the queue's end.
@@ -46,7 +46,7 @@ runFrom zero G [] m = halt finished [] m
 runFrom zero G (p ∷ queue) m = halt stopped (p ∷ queue) m
 runFrom (suc limit) G [] m = halt finished [] m
 runFrom (suc limit) G (p ∷ queue) m =
-    let on = having p (runFrom limit G (queue ++ found G m p) (took G m p)) in
+    let on = takingFirst p (runFrom limit G (queue ++ found G m p) (took G m p)) in
     cond (G .fits p) on (halt (cutOff p) (p ∷ queue) m)
 
 -- the run from these entries, noted over the base

@@ -9,12 +9,12 @@ use Rattle.reach.specs.Mark.{waiting, tracedMark, count}
 use Rattle.reach.specs.Tracer.{Tracer, took}
 
 -- p waits and is not cut off: a sweep that meets it takes it up
-unfoldable pub ripe : Tracer → List ℕ → ℕ → Bool
-ripe G m p = eqb (getD m p 0) waiting && G .fits p
+unfoldable pub canTake : Tracer → List ℕ → ℕ → Bool
+canTake G m p = eqb (getD m p 0) waiting && G .fits p
 
 -- the marks after p was met
 unfoldable pub sweptAt : Tracer → List ℕ → ℕ → List ℕ
-sweptAt G m p = cond (ripe G m p) (took G m p) m
+sweptAt G m p = cond (canTake G m p) (took G m p) m
 
 -- the marks after k positions were met, from p upward: what became waiting ahead is met in the same sweep
 unfoldable pub sweepFrom : Tracer → ℕ → ℕ → List ℕ → List ℕ
@@ -22,19 +22,19 @@ sweepFrom G zero p m = m
 sweepFrom G (suc k) p m = sweepFrom G k (suc p) (sweptAt G m p)
 
 -- and how many of them were taken up
-unfoldable pub caughtFrom : Tracer → ℕ → ℕ → List ℕ → ℕ
-caughtFrom G zero p m = 0
-caughtFrom G (suc k) p m = cond (ripe G m p) 1 0 + caughtFrom G k (suc p) (sweptAt G m p)
+unfoldable pub sweepTakenFrom : Tracer → ℕ → ℕ → List ℕ → ℕ
+sweepTakenFrom G zero p m = 0
+sweepTakenFrom G (suc k) p m = cond (canTake G m p) 1 0 + sweepTakenFrom G k (suc p) (sweptAt G m p)
 
 -- one sweep over all positions: the marks afterwards, and how many it took
 unfoldable pub sweepOnce : Tracer → List ℕ → List ℕ
 sweepOnce G m = sweepFrom G (G .size) 0 m
 
-unfoldable pub caught : Tracer → List ℕ → ℕ
-caught G m = caughtFrom G (G .size) 0 m
+unfoldable pub sweepTaken : Tracer → List ℕ → ℕ
+sweepTaken G m = sweepTakenFrom G (G .size) 0 m
 
 abbrev pub takesNone : Tracer → List ℕ → Bool
-takesNone G m = eqb (caught G m) 0
+takesNone G m = eqb (sweepTaken G m) 0
 
 -- the marks 2 and 3
 abbrev pub tracedIn : Tracer → List ℕ → ℕ

@@ -9,15 +9,15 @@ use borrow.Author.Tests.{lt-ltb, le-ltb}
 use lib.IntN.{ℤ, pos}
 use lib.ListN.{length, getD, set, take, drop, replicate, length-map, length-replicate}
 use lib.Seq.{sets, getD-drop}
-use Rattle.instruction.specs.Answer.{Answer, accepted, refused, judge, after}
+use Rattle.instruction.specs.Answer.{Answer, accepted, refused, judge, after, laid}
 use Rattle.text.specs.Bytes.{bytesOf}
 use Rattle.text.specs.Cut.{lines}
 use Rattle.text.proofs.Pairs.{bytes-small}
-use Rattle.read_back.specs.Back.{restoredOf, lineRefusals, sheetAfter, backAnswer, backImage, backMarks, laid}
-use Rattle.read_back.specs.Gone.{sheet, Gone}
+use Rattle.read_back.specs.Back.{restoredOf, lineRefusals, sheetAfter, backAnswer, backImage, backMarks}
+use Rattle.read_back.specs.LinesLeave.{sheet, LinesLeave}
 use Rattle.read_back.specs.Line.{letterOn, positionOn, digitsOn, hasBytes}
 use Rattle.read_back.specs.Order.{start}
-use Rattle.read_back.specs.Sheet.{Sheet, blank, listedOn, noted}
+use Rattle.read_back.specs.Sheet.{Sheet, emptySheet, listedOn, sheetWith}
 use Rattle.read_back.specs.declared.back.Restored.{Restored}
 use Rattle.read_back.specs.declared.back.Restored.the-variants.{Written, LongImage, ShortMarks, NoRoom, Malformed, PastEnd}
 
@@ -60,9 +60,9 @@ listed-small l k = by (hasBytes (letterOn l))
     by false = omega arith
 
 after-bounded : (ls : List (List ℕ)) (s : Sheet) → Bounded (s .cells) → Bounded (sheetAfter s ls .cells)
-unfolding sheetAfter noted
+unfolding sheetAfter sheetWith
 after-bounded [] s b = b
-after-bounded (l ∷ ls) s b = after-bounded ls (noted s l) (sets-bounded (listedOn l) (s .cells) (positionOn l) (listed-small l) b)
+after-bounded (l ∷ ls) s b = after-bounded ls (sheetWith s l) (sets-bounded (listedOn l) (s .cells) (positionOn l) (listed-small l) b)
 
 zeros-bounded : (n : ℕ) → Bounded (replicate n 0)
 zeros-bounded zero i = omega arith
@@ -89,10 +89,10 @@ unfolding backImage
 back-bytes text n image marks b = by (backAnswer text n image marks)
   where
     cells : List ℕ
-    cells = sheetAfter (blank n) (lines text) .cells
+    cells = sheetAfter (emptySheet n) (lines text) .cells
 
     read : Bytes (bytesIn cells)
-    read i = omega (arith, bytes-at cells i, after-bounded (lines text) (blank n) (zeros-bounded n) i)
+    read i = omega (arith, bytes-at cells i, after-bounded (lines text) (emptySheet n) (zeros-bounded n) i)
 
     by : (a : Answer ℕ) → Bytes (after a (laid (bytesIn cells) image) image)
     by (accepted k) = joined-small (bytesIn cells) (drop (length (bytesIn cells)) image) read (λ i. rw (getD-drop (length (bytesIn cells)) image i 0) (b (length (bytesIn cells) + i)))
@@ -122,12 +122,12 @@ module _ (text : List ℕ) (n : ℕ) (image marks : List ℕ) where
       no-room g = is-refused 11 (pos n ∷ []) (rw (le-ltb 65536 n h, le-ltb (length marks) n k, lt-ltb (length image) n g))
 
       module _ (g : n ≤ length image) where
-        here : judge (lineRefusals n start (blank n) (lines text)) (length (lines text)) ≡ backAnswer text n image marks
+        here : judge (lineRefusals n start (emptySheet n) (lines text)) (length (lines text)) ≡ backAnswer text n image marks
         unfolding backAnswer judge
         here = rw (le-ltb 65536 n h, le-ltb (length marks) n k, le-ltb (length image) n g)
 
         -- the lines were read over cells and marks of zeros
-        module _ (cells seen new told : List ℕ) (c : cells ≡ replicate n 0) (s : seen ≡ replicate n 0) (x : Restored) (r : Gone text cells seen new told (restoredOf x)) where
+        module _ (cells seen new told : List ℕ) (c : cells ≡ replicate n 0) (s : seen ≡ replicate n 0) (x : Restored) (r : LinesLeave text cells seen new told (restoredOf x)) where
           said : restoredOf x ≡ backAnswer text n image marks
           said = r .answer ∙ rw (c, s, length-replicate {A = ℕ} n 0) here
 
@@ -143,11 +143,11 @@ module _ (text : List ℕ) (n : ℕ) (image marks : List ℕ) where
               by (PastEnd j) e f = is-refused 16 (pos j ∷ []) e
 
           module _ (j : ℕ) (f : x ≡ Written j) where
-            left : sheet new told ≡ sheetAfter (blank n) (lines text)
+            left : sheet new told ≡ sheetAfter (emptySheet n) (lines text)
             left = r .leaves j (ap restoredOf f) ∙ rw (c, s)
 
             pub bounded : Bounded new
-            bounded = rw (ap (λ (y : Sheet). y .cells) left) (after-bounded (lines text) (blank n) (zeros-bounded n))
+            bounded = rw (ap (λ (y : Sheet). y .cells) left) (after-bounded (lines text) (emptySheet n) (zeros-bounded n))
 
             pub is-done : (im mk : List ℕ) → im ≡ bytesIn new ++ drop (length new) image → mk ≡ told ++ drop (length told) marks → Is (restoredOf x) im mk
             unfolding backImage backMarks

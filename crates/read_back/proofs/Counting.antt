@@ -13,7 +13,7 @@ use Rattle.instruction.specs.Answer.{Answer, accepted, refused, Refusal, refuse
 use Rattle.text.specs.Cut.{before, cut, lines}
 use Rattle.read_back.specs.Order.{start, lineAfter}
 use Rattle.read_back.specs.Back.{lineRefusals, backAnswer}
-use Rattle.read_back.specs.Sheet.{blank}
+use Rattle.read_back.specs.Sheet.{emptySheet}
 
 -- no more lines than bytes
 pub lines-few : (t : List ℕ) → length (lines t) ≤ length t
@@ -41,7 +41,7 @@ unfolding backAnswer judge
 accepted-short text n image marks k e = by (ltb 65536 n) refl (judge rest (length (lines text))) e
   where
     rest : List Refusal
-    rest = refuse (ltb (length marks) n) 2 (pos (length marks) ∷ []) ∷ refuse (ltb (length image) n) 11 (pos n ∷ []) ∷ lineRefusals n start (blank n) (lines text)
+    rest = refuse (ltb (length marks) n) 2 (pos (length marks) ∷ []) ∷ refuse (ltb (length image) n) 11 (pos n ∷ []) ∷ lineRefusals n start (emptySheet n) (lines text)
 
     by : (b : Bool) → ltb 65536 n ≡ b → (a : Answer ℕ) → cond b (refused 1 (pos n ∷ [])) a ≡ accepted k → n ≤ 65536
     by true f a g = let z : _≡_ {A = ℕ} 0 1 = cc in absurd (omega arith)

@@ -17,11 +17,11 @@ use Rattle.instruction.proofs.Sign.{never}
 use Rattle.text.specs.Cut.{upTo, lines}
 use Rattle.text.proofs.Cuts.{end-inside, the-piece, line-next, lines-end}
 use Rattle.read_back.specs.Back.{lineRefusals, sheetAfter}
-use Rattle.read_back.specs.Gone.{sheet, Gone}
+use Rattle.read_back.specs.LinesLeave.{sheet, LinesLeave}
 use Rattle.read_back.specs.Line.{positionOn, recordOf}
 use Rattle.read_back.specs.Order.{start, lineAfter, placeAfter}
 use Rattle.read_back.specs.Read.{isGood}
-use Rattle.read_back.specs.Sheet.{Sheet, listedOn, agree, reach, noted, markedBy}
+use Rattle.read_back.specs.Sheet.{Sheet, listedOn, agree, reach, sheetWith, markedBy}
 use Rattle.read_back.specs.Turn.{turnAnswer, turnCells, turnMarks}
 use Rattle.read_back.specs.declared.place.Place.{Place}
 use Rattle.read_back.specs.declared.place.Record.{Record}
@@ -37,11 +37,11 @@ onto (refused k vs) f = refused k vs
 
 -- a line, and then the others
 module _ (place : Place) (cells marks l : List ℕ) (ls : List (List ℕ)) (x : ℕ) where
-  pub step : judge (lineRefusals (length cells) place (sheet cells marks) (l ∷ ls)) x ≡ onto (turnAnswer place cells l) (λ (p : Place). judge (lineRefusals (length cells) p (noted (sheet cells marks) l) ls) x)
+  pub step : judge (lineRefusals (length cells) place (sheet cells marks) (l ∷ ls)) x ≡ onto (turnAnswer place cells l) (λ (p : Place). judge (lineRefusals (length cells) p (sheetWith (sheet cells marks) l) ls) x)
   unfolding lineRefusals turnAnswer judge
   step = by (isGood place l && agree cells (positionOn l) (listedOn l)) (reach (length cells) (positionOn l) (listedOn l))
     where
-      by : (b c : Bool) → judge (refuse (not b) 15 (pos (place .line) ∷ []) ∷ refuse c 16 (pos (place .line) ∷ []) ∷ lineRefusals (length cells) (placeAfter place (length l) (recordOf l)) (noted (sheet cells marks) l) ls) x ≡ onto (judge (refuse (not b) 15 (pos (place .line) ∷ []) ∷ refuse c 16 (pos (place .line) ∷ []) ∷ []) (placeAfter place (length l) (recordOf l))) (λ (p : Place). judge (lineRefusals (length cells) p (noted (sheet cells marks) l) ls) x)
+      by : (b c : Bool) → judge (refuse (not b) 15 (pos (place .line) ∷ []) ∷ refuse c 16 (pos (place .line) ∷ []) ∷ lineRefusals (length cells) (placeAfter place (length l) (recordOf l)) (sheetWith (sheet cells marks) l) ls) x ≡ onto (judge (refuse (not b) 15 (pos (place .line) ∷ []) ∷ refuse c 16 (pos (place .line) ∷ []) ∷ []) (placeAfter place (length l) (recordOf l))) (λ (p : Place). judge (lineRefusals (length cells) p (sheetWith (sheet cells marks) l) ls) x)
       by true true = refl
       by true false = refl
       by false c = refl
@@ -61,8 +61,8 @@ module _ (place : Place) (cells marks l : List ℕ) (n : Place) (e : accepted n 
       by true false q = ap placeOf q
       by false c q = absurd (never (ap isAccepted q))
 
-  pub leaves : sheet (turnCells place cells l) (turnMarks place cells l marks) ≡ noted (sheet cells marks) l
-  unfolding turnCells turnMarks noted
+  pub leaves : sheet (turnCells place cells l) (turnMarks place cells l marks) ≡ sheetWith (sheet cells marks) l
+  unfolding turnCells turnMarks sheetWith
   leaves = rw (← e)
 
 -- a line keeps the lengths
@@ -74,12 +74,12 @@ marked-length r marks = by (eqb (r .letter) (code "I"))
     by false = refl
 
 module _ (cells marks l : List ℕ) where
-  noted-cells : length (noted (sheet cells marks) l .cells) ≡ length cells
-  unfolding noted
+  noted-cells : length (sheetWith (sheet cells marks) l .cells) ≡ length cells
+  unfolding sheetWith
   noted-cells = length-sets cells (positionOn l) (map suc (listedOn l))
 
-  noted-marks : length (noted (sheet cells marks) l .marks) ≡ length marks
-  unfolding noted
+  noted-marks : length (sheetWith (sheet cells marks) l .marks) ≡ length marks
+  unfolding sheetWith
   noted-marks = marked-length (recordOf l) marks
 
 module _ (text cells₀ marks₀ : List ℕ) where
@@ -107,7 +107,7 @@ module _ (text cells₀ marks₀ : List ℕ) where
     pub going-some : length text ≤ place .at → 1 ≤ place .line
     going-some h = omega (arith, g .count, ap length (lines-end text (place .at) h))
 
-    pub going-end : length text ≤ place .at → Gone text cells₀ marks₀ cells marks (accepted (place .line - 1))
+    pub going-end : length text ≤ place .at → LinesLeave text cells₀ marks₀ cells marks (accepted (place .line - 1))
     unfolding lineRefusals sheetAfter judge
     going-end h =
         let e = lines-end text (place .at) h in
@@ -125,14 +125,14 @@ module _ (text cells₀ marks₀ : List ℕ) where
           ∙ rw (the-piece 10 text (place .at) e refl, add-one)
 
       -- the answer, by this line's
-      then : (x : ℕ) (a : Answer Place) → a ≡ turnAnswer place cells line → judge (lineRefusals (length cells₀) start (sheet cells₀ marks₀) (lines text)) x ≡ onto a (λ (p : Place). judge (lineRefusals (length cells) p (noted (sheet cells marks) line) (lines (drop (suc (place .at + length line)) text))) x)
+      then : (x : ℕ) (a : Answer Place) → a ≡ turnAnswer place cells line → judge (lineRefusals (length cells₀) start (sheet cells₀ marks₀) (lines text)) x ≡ onto a (λ (p : Place). judge (lineRefusals (length cells) p (sheetWith (sheet cells marks) line) (lines (drop (suc (place .at + length line)) text))) x)
       then x a e =
           let ls : List (List ℕ) = lines (drop (suc (place .at + length line)) text) in
           so-far (line ∷ ls) next-lines x
           ∙ step place cells marks line ls x
-          ∙ ap (λ (b : Answer Place). onto b (λ (p : Place). judge (lineRefusals (length cells) p (noted (sheet cells marks) line) ls) x)) (sym e)
+          ∙ ap (λ (b : Answer Place). onto b (λ (p : Place). judge (lineRefusals (length cells) p (sheetWith (sheet cells marks) line) ls) x)) (sym e)
 
-      pub going-stop : (k : ℕ) (vs : List ℤ) → refused k vs ≡ turnAnswer place cells line → (new told : List ℕ) → Gone text cells₀ marks₀ new told (refused k vs)
+      pub going-stop : (k : ℕ) (vs : List ℤ) → refused k vs ≡ turnAnswer place cells line → (new told : List ℕ) → LinesLeave text cells₀ marks₀ new told (refused k vs)
       going-stop k vs e new told = record { answer = sym (then (length (lines text)) (refused k vs) e); leaves = λ j f. absurd (never (sym (ap isAccepted f))) }
 
       module _ (n : Place) (e : accepted n ≡ turnAnswer place cells line) where
@@ -151,7 +151,7 @@ module _ (text cells₀ marks₀ : List ℕ) where
         line-number b = ap (λ (p : Place). p .line) to ∙ rw (lt-ltb (place .line) 18446744073709551615 (omega (arith, g .number, h, b)))
 
         module _ (b : length text < 2 ^ 63) (new told : List ℕ) (p : new ≡ turnCells place cells line) (q : told ≡ turnMarks place cells line marks) where
-          noting : noted (sheet cells marks) line ≡ sheet new told
+          noting : sheetWith (sheet cells marks) line ≡ sheet new told
           noting = sym (ap₂ sheet p q ∙ leaves place cells marks line n e)
 
           others : lines (drop (suc (place .at + length line)) text) ≡ lines (drop (n .at) text)

@@ -10,10 +10,10 @@ use lib.Dec.{eqb}
 use lib.ListN.{length, getD, take, drop, length-drop, drop-of-length-le}
 use lib.Seq.{getD-drop, drop-drop}
 use Rattle.text.specs.Hex.{allHex}
-use Rattle.read_back.specs.Line.{arePlaces, isLabel, isData, isStart, byLetter, isLine}
+use Rattle.read_back.specs.Line.{arePlaces, isLabelRest, isDataRest, isStart, byLetter, isLine}
 
 -- nothing is no tab
-pub no-tab : (l : List ℕ) → length l ≡ 0 → false ≡ isData l
+pub no-tab : (l : List ℕ) → length l ≡ 0 → false ≡ isDataRest l
 no-tab [] h = refl
 no-tab (b ∷ l) h = absurd (omega arith)
 
@@ -89,9 +89,9 @@ module _ (line : List ℕ) where
       started f = rw (le-leb 6 (length line) h, eq-eqb (getD line 1 0) 9 t, ← e, f)
 
     -- nothing after the position
-    pub ended : eqb (length line) 6 ≡ isLabel (drop 6 line)
+    pub ended : eqb (length line) 6 ≡ isLabelRest (drop 6 line)
     ended = by (eqb (length line) 6) refl
       where
-        by : (b : Bool) → eqb (length line) 6 ≡ b → eqb (length line) 6 ≡ isLabel (drop 6 line)
+        by : (b : Bool) → eqb (length line) 6 ≡ b → eqb (length line) 6 ≡ isLabelRest (drop 6 line)
         by true e = e ∙ sym (eq-eqb (length (drop 6 line)) 0 (omega (arith, eqb-true (length line) 6 e, length-drop 6 line)))
         by false e = e ∙ sym (ne-eqb (length (drop 6 line)) 0 (λ z. eqb-false (length line) 6 e (omega (arith, z, h, length-drop 6 line))))

@@ -7,12 +7,12 @@ use mathlib.Core.List.{List, [], _∷_, _++_}
 use lib.Dec.{ltb}
 use lib.IntN.{pos}
 use lib.ListN.{length, drop}
-use Rattle.instruction.specs.Answer.{Answer, accepted, refused, Refusal, refuse, judge, after}
+use Rattle.instruction.specs.Answer.{Answer, accepted, refused, Refusal, refuse, judge, after, laid}
 use Rattle.text.specs.Cut.{lines}
 use Rattle.read_back.specs.Line.{positionOn, recordOf}
 use Rattle.read_back.specs.Order.{start, placeAfter}
 use Rattle.read_back.specs.Read.{isGood}
-use Rattle.read_back.specs.Sheet.{Sheet, blank, listedOn, agree, reach, noted, imageOn}
+use Rattle.read_back.specs.Sheet.{Sheet, emptySheet, listedOn, agree, reach, sheetWith, imageOn}
 use Rattle.read_back.specs.declared.back.Restored.{Restored}
 use Rattle.read_back.specs.declared.back.Restored.the-variants.{Written, LongImage, ShortMarks, NoRoom, Malformed, PastEnd}
 use Rattle.read_back.specs.declared.place.Place.{Place}
@@ -36,15 +36,15 @@ lineRefusals n place sheet [] = []
 lineRefusals n place sheet (l ∷ ls) =
     refuse (not (isFit place sheet l)) 15 (pos (place .line) ∷ [])
     ∷ refuse (reach n (positionOn l) (listedOn l)) 16 (pos (place .line) ∷ [])
-    ∷ lineRefusals n (placeAfter place (length l) (recordOf l)) (noted sheet l) ls
+    ∷ lineRefusals n (placeAfter place (length l) (recordOf l)) (sheetWith sheet l) ls
 
 -- what they leave
 unfoldable pub sheetAfter : Sheet → List (List ℕ) → Sheet
 sheetAfter sheet [] = sheet
-sheetAfter sheet (l ∷ ls) = sheetAfter (noted sheet l) ls
+sheetAfter sheet (l ∷ ls) = sheetAfter (sheetWith sheet l) ls
 
 abbrev pub sheetOf : List ℕ → ℕ → Sheet
-sheetOf text n = sheetAfter (blank n) (lines text)
+sheetOf text n = sheetAfter (emptySheet n) (lines text)
 
 -- how many lines were read, or what is refused
 unfoldable pub backAnswer : List ℕ → ℕ → List ℕ → List ℕ → Answer ℕ
@@ -53,13 +53,10 @@ backAnswer text n image marks =
     (refuse (ltb 65536 n) 1 (pos n ∷ [])
     ∷ refuse (ltb (length marks) n) 2 (pos (length marks) ∷ [])
     ∷ refuse (ltb (length image) n) 11 (pos n ∷ [])
-    ∷ lineRefusals n start (blank n) (lines text))
+    ∷ lineRefusals n start (emptySheet n) (lines text))
     (length (lines text))
 
--- what was read is laid over the beginning of a room, whose rest stays; a refusal changes nothing
-abbrev pub laid : List ℕ → List ℕ → List ℕ
-laid out room = out ++ drop (length out) room
-
+-- what was read is laid over the beginning of a room; a refusal changes nothing
 unfoldable pub backImage : List ℕ → ℕ → List ℕ → List ℕ → List ℕ
 backImage text n image marks = after (backAnswer text n image marks) (laid (imageOn (sheetOf text n)) image) image
 

@@ -4,4 +4,4 @@ pub mod Read
 pub mod Sheet
 pub mod Turn
 pub mod Back
-pub mod Gone
+pub mod LinesLeave

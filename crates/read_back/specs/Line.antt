@@ -43,16 +43,16 @@ arePlaces (t ∷ a ∷ b ∷ c ∷ []) = false
 arePlaces (t ∷ a ∷ b ∷ c ∷ d ∷ rest) = eqb t 9 && (allHex (a ∷ b ∷ c ∷ d ∷ []) && arePlaces rest)
 
 -- what stands after the position: nothing in `L`
-abbrev pub isLabel : List ℕ → Bool
-isLabel rest = eqb (length rest) 0
+abbrev pub isLabelRest : List ℕ → Bool
+isLabelRest rest = eqb (length rest) 0
 
 -- one position or more in `O` and `A`
-abbrev pub isFound : List ℕ → Bool
-isFound rest = leb 1 (length rest) && arePlaces rest
+abbrev pub isFoundRest : List ℕ → Bool
+isFoundRest rest = leb 1 (length rest) && arePlaces rest
 
 -- a tab and 1 to 16 bytes in `D`
-abbrev pub isData : List ℕ → Bool
-isData rest = eqb (getD rest 0 0) 9 && isBytes 16 (drop 1 rest)
+abbrev pub isDataRest : List ℕ → Bool
+isDataRest rest = eqb (getD rest 0 0) 9 && isBytes 16 (drop 1 rest)
 
 -- two texts are the same
 unfoldable pub same : List ℕ → List ℕ → Bool
@@ -68,11 +68,11 @@ isCode line = same (line ++ 10 ∷ []) (codeLine (positionOn line) (bytesOn line
 -- by the letter
 abbrev pub byLetter : ℕ → List ℕ → Bool
 byLetter c line =
-    cond (eqb c (code "L")) (isLabel (drop 6 line))
-    (cond (eqb c (code "O")) (isFound (drop 6 line))
-    (cond (eqb c (code "A")) (isFound (drop 6 line))
+    cond (eqb c (code "L")) (isLabelRest (drop 6 line))
+    (cond (eqb c (code "O")) (isFoundRest (drop 6 line))
+    (cond (eqb c (code "A")) (isFoundRest (drop 6 line))
     (cond (eqb c (code "I")) (isCode line)
-    (cond (eqb c (code "D")) (isData (drop 6 line)) false))))
+    (cond (eqb c (code "D")) (isDataRest (drop 6 line)) false))))
 
 unfoldable pub isLine : List ℕ → Bool
 isLine line = isStart line && byLetter (letterOn line) line

@@ -18,8 +18,8 @@ pub record Sheet : Type 0 where
   pub marks : List ℕ
 
 -- before the first line, for an image of n bytes
-abbrev pub blank : ℕ → Sheet
-blank n = record { cells = replicate n 0; marks = replicate n 0 }
+abbrev pub emptySheet : ℕ → Sheet
+emptySheet n = record { cells = replicate n 0; marks = replicate n 0 }
 
 -- the bytes that a line lists
 abbrev pub listedOn : List ℕ → List ℕ
@@ -44,8 +44,8 @@ abbrev pub markedBy : Record → List ℕ → List ℕ
 markedBy r marks = cond (eqb (r .letter) (code "I")) (set marks (r .position) traced) marks
 
 -- the sheet after a line
-unfoldable pub noted : Sheet → List ℕ → Sheet
-noted sheet line = record {
+unfoldable pub sheetWith : Sheet → List ℕ → Sheet
+sheetWith sheet line = record {
   cells = sets (sheet .cells) (positionOn line) (map suc (listedOn line));
   marks = markedBy (recordOf line) (sheet .marks);
 }

@@ -4,7 +4,7 @@ ghost use mathlib.Core.List.{_++_, map};
 ghost use Prim.Native.Nat.{ℕ, _-_, _≤_};
 ghost use lib.ListN.{length, getD, drop, replicate};
 ghost use Rattle.read_back.specs.Back.{restoredOf, backAnswer, backImage, backMarks};
-ghost use Rattle.read_back.specs.Gone.{Gone};
+ghost use Rattle.read_back.specs.LinesLeave.{LinesLeave};
 use crate::place::Place;
 use crate::turn::Turn;
 use crate::turn::read_on;
@@ -39,7 +39,7 @@ fn no_marks() -> [u8; Image::LIMIT]
 
 // Reads every line over these arrays, up to the first bad one.
 fn read_lines(text: &[u8], cells: &mut [u16], marks: &mut [u8]) -> Restored
-    ensures { λ r. ⌜ Gone (now (text .entry)) (now (cells .entry)) (now (marks .entry)) (now (cells .exit)) (now (marks .exit)) (restoredOf r) ⌝ }
+    ensures { λ r. ⌜ LinesLeave (now (text .entry)) (now (cells .entry)) (now (marks .entry)) (now (cells .exit)) (now (marks .exit)) (restoredOf r) ⌝ }
 {
     let mut place = Place::start();
     while place.at < text.len() {
@@ -93,7 +93,9 @@ fn put_marks(seen: &[u8], marks: &mut [u8])
 
 // Puts the image of so many bytes and its marks back: how many lines were read.
 pub fn read_back(text: &[u8], length: usize, image: &mut [u8], marks: &mut [u8]) -> Restored
-    ensures { λ r. ⌜ (restoredOf r ≡ backAnswer (now (text .entry)) length (now (image .entry)) (now (marks .entry))) × (now (image .exit) ≡ backImage (now (text .entry)) length (now (image .entry)) (now (marks .entry))) × (now (marks .exit) ≡ backMarks (now (text .entry)) length (now (image .entry)) (now (marks .entry))) ⌝ }
+    ensures { λ r. ⌜ restoredOf r ≡ backAnswer (now (text .entry)) length (now (image .entry)) (now (marks .entry)) ⌝ }
+    ensures { λ _. ⌜ now (image .exit) ≡ backImage (now (text .entry)) length (now (image .entry)) (now (marks .entry)) ⌝ }
+    ensures { λ _. ⌜ now (marks .exit) ≡ backMarks (now (text .entry)) length (now (image .entry)) (now (marks .entry)) ⌝ }
 {
     if Image::LIMIT < length {
         return Restored::LongImage(length);

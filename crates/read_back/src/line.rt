@@ -2,7 +2,7 @@
 ghost use mathlib.Core.Path.{_≡_};
 ghost use Prim.Native.Nat.{_≤_};
 ghost use lib.ListN.{length};
-ghost use Rattle.read_back.specs.Line.{arePlaces, isFound, isData, hasBytes, digitsOn, same, isCode, isLine, recordOf};
+ghost use Rattle.read_back.specs.Line.{arePlaces, isFoundRest, isDataRest, hasBytes, digitsOn, same, isCode, isLine, recordOf};
 use crate::place::Record;
 use text::bytes;
 use text::cut;
@@ -36,7 +36,7 @@ fn are_places(s: &[u8]) -> bool
 }
 
 fn is_found(rest: &[u8]) -> bool
-    ensures { λ r. ⌜ r ≡ isFound (now (rest .entry)) ⌝ }
+    ensures { λ r. ⌜ r ≡ isFoundRest (now (rest .entry)) ⌝ }
 {
     if rest.len() == 0 {
         return false;
@@ -45,7 +45,7 @@ fn is_found(rest: &[u8]) -> bool
 }
 
 fn is_data(rest: &[u8]) -> bool
-    ensures { λ r. ⌜ r ≡ isData (now (rest .entry)) ⌝ }
+    ensures { λ r. ⌜ r ≡ isDataRest (now (rest .entry)) ⌝ }
 {
     if rest.len() == 0 {
         return false;

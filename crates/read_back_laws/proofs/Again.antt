@@ -9,14 +9,14 @@ use lib.Dec.{eqb}
 use lib.ListN.{length, take, drop, length-take, length-drop, take-append-drop}
 use lib.Seq.{append-snoc, getD-drop}
 use borrow.Author.Tests.{le-ltb}
+use Rattle.instruction.specs.Bytes.{Bytes}
 use Rattle.instruction.specs.Answer.{accepted, judge}
 use Rattle.instruction.proofs.Judging.{pass, done}
 use Rattle.text.specs.Bytes.{bytesOf}
 use Rattle.text.specs.Cut.{before, cut, upTo, lines}
-use Rattle.list_text.specs.Bytes.{bytesIn}
+use Rattle.list_text.specs.Bytes.{bytesInLines}
 use Rattle.list_text.specs.Entries.{isEntries}
 use Rattle.list_text.specs.Text.{bad, imageRefusals}
-use Rattle.trace_laws.specs.ClaimsImages.{Bytes}
 use Rattle.listing.specs.Hex.{hexes}
 use Rattle.unlist_text.specs.Unlisted.{imageText}
 use Rattle.unlist_text.proofs.Lines.{lines-more, lines-none}
@@ -53,19 +53,19 @@ unfolding cut
 cut-none l h = ap lines (lines-none l h)
 
 -- the bytes on them are those of the image
-same-bytes : (k : ℕ) (l : List ℕ) → length l ≤ k → Bytes l → bytesIn (lines (imageText l)) ≡ l
-unfolding bytesIn
-same-bytes zero [] h B = ap bytesIn (cut-none [] (omega arith))
+same-bytes : (k : ℕ) (l : List ℕ) → length l ≤ k → Bytes l → bytesInLines (lines (imageText l)) ≡ l
+unfolding bytesInLines
+same-bytes zero [] h B = ap bytesInLines (cut-none [] (omega arith))
 same-bytes zero (b ∷ l) h B = absurd (omega arith)
-same-bytes (suc k) [] h B = ap bytesIn (cut-none [] (omega arith))
+same-bytes (suc k) [] h B = ap bytesInLines (cut-none [] (omega arith))
 same-bytes (suc k) (b ∷ l) h B =
     let m = b ∷ l in
     let d = length-drop 32 m in
-    ap bytesIn (cut-first m (omega arith))
+    ap bytesInLines (cut-first m (omega arith))
     ∙ ap₂ (λ (x y : List ℕ). x ++ y) (hexes-bytes (take 32 m) (bytes-take 32 m B)) (same-bytes k (drop 32 m) (omega (arith, d)) (bytes-drop 32 m B))
     ∙ take-append-drop 32 m
 
-pub read-bytes : (l : List ℕ) → Bytes l → bytesIn (lines (imageText l)) ≡ l
+pub read-bytes : (l : List ℕ) → Bytes l → bytesInLines (lines (imageText l)) ≡ l
 read-bytes l B = same-bytes (length l) l (omega arith) B
 
 -- and they are good, where there are no more than are allowed

@@ -8,12 +8,12 @@ use native.Mathlib.Omega.{arith}
 use lib.Dec.{eqb}
 use lib.ListN.{length}
 use borrow.Author.Tests.{le-leb, eq-eqb, ne-eqb}
+use Rattle.instruction.specs.Bytes.{Bytes}
 use Rattle.instruction.proofs.Sign.{never}
 use Rattle.text.specs.Bytes.{bytesOf, isBytes}
 use Rattle.text.specs.Cut.{upTo}
 use Rattle.text.specs.Hex.{isDigit, allHex}
 use Rattle.text.proofs.Ands.{and-left, and-right}
-use Rattle.trace_laws.specs.ClaimsImages.{Bytes}
 use Rattle.listing.specs.Hex.{hexes}
 use Rattle.listing.proofs.Hexing.{hexes-length}
 use Rattle.read_back_laws.proofs.Digits.{Small, bytes-back, bytes-hex}

@@ -9,8 +9,8 @@ use lib.Dec.{eqb}
 use lib.ListN.{length, getD, set, take, drop, length-set}
 use lib.Seq.{sets, drop-cons, getD-set-same, getD-set-other}
 use borrow.Author.Tests.{eq-eqb, eqb-true, eqb-false, le-ltb}
+use Rattle.instruction.specs.Bytes.{Bytes}
 use Rattle.views.proofs.Ors.{or-second}
-use Rattle.trace_laws.specs.ClaimsImages.{Bytes}
 use Rattle.read_back.specs.Sheet.{agree, reach}
 use Rattle.read_back_laws.proofs.Digits.{Small}
 

@@ -8,25 +8,25 @@ use native.Mathlib.Omega.{arith}
 use lib.Dec.{eqb}
 use lib.ListN.{length, getD, take}
 use borrow.Author.Tests.{le-ltb}
-use Rattle.instruction.specs.Answer.{accepted}
+use Rattle.instruction.specs.Bytes.{Bytes}
+use Rattle.instruction.specs.Answer.{accepted, laid}
 use Rattle.instruction.proofs.Judging.{pass}
 use Rattle.text.specs.Cut.{cut, lines}
 use Rattle.targets.specs.At.{fitsHere}
 use Rattle.targets.proofs.HereIs.{answer}
 use Rattle.reach.specs.Mark.{tracedMark}
-use Rattle.trace_laws.specs.ClaimsImages.{Bytes}
 use Rattle.views.specs.Positions.{tracedAt}
 use Rattle.views.proofs.TracedAt.{by-mark}
 use Rattle.views.specs.DataRun.{dataRun}
 use Rattle.views.specs.Labels.{labelsOf}
 use Rattle.views.specs.Mask.{maskOf}
 use Rattle.views_laws.specs.ClaimsSound.{Undamaged}
-use Rattle.listing.specs.Walk.{isChosen, codeLines, printed, passed, walk, listingOf}
+use Rattle.listing.specs.Walk.{isChosen, codeLines, linesAt, passed, walk, listingOf}
 use Rattle.listing.specs.Lines.{dataLine}
 use Rattle.listing_laws.proofs.ClaimsShownTraced.{traced-shown}
-use Rattle.read_back.specs.Back.{backAnswer, backImage, backMarks, laid}
+use Rattle.read_back.specs.Back.{backAnswer, backImage, backMarks}
 use Rattle.read_back.specs.Order.{start}
-use Rattle.read_back.specs.Sheet.{Sheet, blank}
+use Rattle.read_back.specs.Sheet.{Sheet, emptySheet}
 use Rattle.read_back.specs.declared.place.Place.{Place}
 use Rattle.read_back_laws.specs.ClaimsBack.{told, ListingRestores}
 use Rattle.read_back_laws.proofs.CodeStops.{Given, code-stop}
@@ -44,7 +44,7 @@ module _ (image m : List ℕ) (B : Bytes image) (small : length image ≤ 65536)
   Reads k p s = (place : Place) (sheet : Sheet) → OpenAt p 0 place → Stand image m p s sheet → Given image m place sheet (from k p s)
 
   stop : (k p : ℕ) → p < length image → Reads k (suc p) (passed image m (maskOf image m) p) → Reads (suc k) p 0
-  unfolding walk printed passed
+  unfolding walk linesAt passed
   stop k p h go place sheet O S = by (tracedMark (getD m p 0)) (eqb (getD (maskOf image m) p 0) 0) refl refl go
     where
       run : List ℕ
@@ -73,7 +73,7 @@ module _ (image m : List ℕ) (B : Bytes image) (small : length image ≤ 65536)
   reads (suc k) p zero e place sheet O S = stop k p (omega arith) (reads k (suc p) (passed image m (maskOf image m) p) (omega arith)) place sheet O S
 
 -- lines that are read so from the beginning are what is given back
-module _ (text image tells room marks : List ℕ) (R : Restores image tells start (blank (length image)) (lines text)) (small : length image ≤ 65536) (k : length image ≤ length room) (l : length image ≤ length marks) where
+module _ (text image tells room marks : List ℕ) (R : Restores image tells start (emptySheet (length image)) (lines text)) (small : length image ≤ 65536) (k : length image ≤ length room) (l : length image ≤ length marks) where
   answers : backAnswer text (length image) room marks ≡ accepted (length (lines text))
   unfolding backAnswer
   answers =
@@ -91,7 +91,7 @@ module _ (text image tells room marks : List ℕ) (R : Restores image tells star
 pub listing-restores : ListingRestores
 unfolding listingOf
 listing-restores image m choice room marks B small long U k l =
-    let R = reads image m B small long U (labelsOf image m) (isChosen choice) (length image) 0 0 (omega arith) start (blank (length image)) (none refl) (stand-start image m) in
+    let R = reads image m B small long U (labelsOf image m) (isChosen choice) (length image) 0 0 (omega arith) start (emptySheet (length image)) (none refl) (stand-start image m) in
     let text : List ℕ = listingOf image m choice in
     let tells : List ℕ = map told (take (length image) m) in
     record {

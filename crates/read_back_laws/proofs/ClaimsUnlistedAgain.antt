@@ -7,18 +7,18 @@ use Prim.Native.Nat.{ℕ, _≤_}
 use native.Mathlib.Omega.{arith}
 use lib.ListN.{length, take, drop, length-take, length-replicate}
 use lib.Seq.{take-append-seam}
+use Rattle.instruction.specs.Bytes.{Bytes}
 use Rattle.instruction.specs.Answer.{judge}
 use Rattle.text.specs.Cut.{lines}
 use Rattle.list_text.specs.ClaimsInput.{Valid}
-use Rattle.list_text.specs.Bytes.{bytesIn}
+use Rattle.list_text.specs.Bytes.{bytesInLines}
 use Rattle.list_text.specs.Entries.{isEntries, entriesIn}
-use Rattle.list_text.specs.Text.{first, others, bad, imageRefusals, countsOf, lineRefusals}
-use Rattle.trace_laws.specs.ClaimsImages.{Bytes}
+use Rattle.list_text.specs.Text.{first, others, bad, imageRefusals, countsOf, inputRefusals}
 use Rattle.listing.specs.Walk.{listingOf}
 use Rattle.read_back.specs.Back.{backImage}
 use Rattle.read_back.proofs.Backs.{zeros-small, back-bytes}
 use Rattle.read_back_laws.proofs.ClaimsBackRestored.{listing-restores}
-use Rattle.unlist_text.specs.Unlisted.{imageText, zeros, printed, unlistedOf}
+use Rattle.unlist_text.specs.Unlisted.{imageText, emptyRoom, printed, unlistedOf}
 use Rattle.read_back_laws.specs.ClaimsUnlisted.{Says, ReadAgain, UnlistedAgain, ListedUnlisted}
 use Rattle.read_back_laws.proofs.EntryLines.{entry-line}
 use Rattle.read_back_laws.proofs.Again.{lines-first, bytes-take, read-bytes, all-good}
@@ -31,7 +31,7 @@ module _ (e image : List ℕ) (E : isEntries e ≡ true) (B : Bytes image) (h : 
   cut = lines-first e (imageText image) (entry-line e E)
 
   valid : Valid input
-  unfolding lineRefusals
+  unfolding inputRefusals
   valid =
       ap (λ (ls : List (List ℕ)). judge (bad (not (isEntries (first ls))) 1 ∷ imageRefusals 2 0 (others ls)) (countsOf input)) cut
       ∙ all-good (countsOf input) e image E B h
@@ -39,28 +39,28 @@ module _ (e image : List ℕ) (E : isEntries e ≡ true) (B : Bytes image) (h : 
 pub read-again : ReadAgain
 read-again e image E B h =
     let c = cut e image E B h in
-    (valid e image E B h, ap (λ (ls : List (List ℕ)). entriesIn (first ls)) c, ap (λ (ls : List (List ℕ)). bytesIn (others ls)) c ∙ read-bytes image B)
+    (valid e image E B h, ap (λ (ls : List (List ℕ)). entriesIn (first ls)) c, ap (λ (ls : List (List ℕ)). bytesInLines (others ls)) c ∙ read-bytes image B)
 
-zeros-bytes : Bytes zeros
-unfolding zeros
+zeros-bytes : Bytes emptyRoom
+unfolding emptyRoom
 zeros-bytes = zeros-small 65536
 
 pub unlisted-again : UnlistedAgain
 unfolding unlistedOf
 unlisted-again e text n k E h a =
-    let image = take n (backImage text n zeros zeros) in
-    let p : imageText image ≡ unlistedOf text n = sym (ap (printed n (backImage text n zeros zeros)) a) in
-    let B : Bytes (backImage text n zeros zeros) = back-bytes text n zeros zeros zeros-bytes in
-    subst (λ (t : List ℕ). Says (e ++ 10 ∷ t) (entriesIn e) image) p (read-again e image E (bytes-take n (backImage text n zeros zeros) B) (omega (arith, length-take n (backImage text n zeros zeros))))
+    let image = take n (backImage text n emptyRoom emptyRoom) in
+    let p : imageText image ≡ unlistedOf text n = sym (ap (printed n (backImage text n emptyRoom emptyRoom)) a) in
+    let B : Bytes (backImage text n emptyRoom emptyRoom) = back-bytes text n emptyRoom emptyRoom zeros-bytes in
+    subst (λ (t : List ℕ). Says (e ++ 10 ∷ t) (entriesIn e) image) p (read-again e image E (bytes-take n (backImage text n emptyRoom emptyRoom) B) (omega (arith, length-take n (backImage text n emptyRoom emptyRoom))))
 
-zeros-long : length zeros ≡ 65536
-unfolding zeros
+zeros-long : length emptyRoom ≡ 65536
+unfolding emptyRoom
 zeros-long = length-replicate {A = ℕ} 65536 0
 
 pub listed-unlisted : ListedUnlisted
 unfolding unlistedOf
 listed-unlisted image m choice B h k U =
-    let r = listing-restores image m choice zeros zeros B h k U (omega (arith, zeros-long)) (omega (arith, zeros-long)) in
-    ap (printed (length image) (backImage (listingOf image m choice) (length image) zeros zeros)) (r .answer)
+    let r = listing-restores image m choice emptyRoom emptyRoom B h k U (omega (arith, zeros-long)) (omega (arith, zeros-long)) in
+    ap (printed (length image) (backImage (listingOf image m choice) (length image) emptyRoom emptyRoom)) (r .answer)
     ∙ ap (λ (t : List ℕ). imageText (take (length image) t)) (r .bytes)
-    ∙ ap imageText (take-append-seam image (drop (length image) zeros))
+    ∙ ap imageText (take-append-seam image (drop (length image) emptyRoom))

@@ -15,12 +15,12 @@ use Rattle.text.specs.Cut.{before, lines}
 use Rattle.read_back.specs.Back.{lineRefusals, backAnswer, backImage}
 use Rattle.read_back.specs.Line.{recordOf}
 use Rattle.read_back.specs.Order.{start, placeAfter}
-use Rattle.read_back.specs.Sheet.{Sheet, blank, noted}
+use Rattle.read_back.specs.Sheet.{Sheet, emptySheet, sheetWith}
 use Rattle.read_back.specs.declared.place.Place.{Place}
 use Rattle.read_back.proofs.Counting.{lines-few, after-most, accepted-short}
 use Rattle.instruction.proofs.Carried.{Each, carries}
 use Rattle.text.specs.Decimal.{width}
-use Rattle.unlist_text.specs.Unlisted.{valueOf, zeros, printed, unlistedOf}
+use Rattle.unlist_text.specs.Unlisted.{valueOf, emptyRoom, printed, unlistedOf}
 use Rattle.unlist_text.proofs.Lines.{image-length}
 use Rattle.text.proofs.RefusalPutting.{value-length}
 use Rattle.read_back_laws.specs.ClaimsUnlisted.{UnlistedFits}
@@ -39,8 +39,8 @@ width-below (suc k) (suc j) n h = by (ltb n 10) (width-below k j (n / 10) less)
     by true g = omega arith
     by false g = omega arith
 
-zeros-length : length zeros ≡ 65536
-unfolding zeros
+zeros-length : length emptyRoom ≡ 65536
+unfolding emptyRoom
 zeros-length = length-replicate {A = ℕ} 65536 0
 
 -- each line's number is at most one more than that of the line before
@@ -56,23 +56,23 @@ lines-each : (n : ℕ) (place : Place) (sheet : Sheet) (ls : List (List ℕ)) �
 unfolding lineRefusals
 lines-each n place sheet [] h = tt
 lines-each n place sheet (l ∷ ls) h =
-    ((omega arith, omega arith), ((omega arith, omega arith), lines-each n (placeAfter place (length l) (recordOf l)) (noted sheet l) ls (omega (arith, h, after-line place (length l) l))))
+    ((omega arith, omega arith), ((omega arith, omega arith), lines-each n (placeAfter place (length l) (recordOf l)) (sheetWith sheet l) ls (omega (arith, h, after-line place (length l) l))))
 
 module _ (text : List ℕ) (n : ℕ) (t : length text < 2 ^ 63) (h : n < 2 ^ 63) where
-  each : Each Word (refuse (ltb 65536 n) 1 (pos n ∷ []) ∷ refuse (ltb (length zeros) n) 2 (pos (length zeros) ∷ []) ∷ refuse (ltb (length zeros) n) 11 (pos n ∷ []) ∷ lineRefusals n start (blank n) (lines text))
+  each : Each Word (refuse (ltb 65536 n) 1 (pos n ∷ []) ∷ refuse (ltb (length emptyRoom) n) 2 (pos (length emptyRoom) ∷ []) ∷ refuse (ltb (length emptyRoom) n) 11 (pos n ∷ []) ∷ lineRefusals n start (emptySheet n) (lines text))
   each =
       let z = zeros-length in
-      ((omega arith, omega arith), ((omega arith, omega (arith, z)), ((omega arith, omega arith), lines-each n start (blank n) (lines text) (omega (arith, t, lines-few text)))))
+      ((omega arith, omega arith), ((omega arith, omega (arith, z)), ((omega arith, omega arith), lines-each n start (emptySheet n) (lines text) (omega (arith, t, lines-few text)))))
 
-  fits : (a : Answer ℕ) → backAnswer text n zeros zeros ≡ a → length (printed n (backImage text n zeros zeros) a) ≤ 133120
+  fits : (a : Answer ℕ) → backAnswer text n emptyRoom emptyRoom ≡ a → length (printed n (backImage text n emptyRoom emptyRoom) a) ≤ 133120
   unfolding backAnswer
   fits (accepted k) e =
-      let image = backImage text n zeros zeros in
-      omega (arith, image-length (take n image), length-take n image, accepted-short text n zeros zeros k e)
+      let image = backImage text n emptyRoom emptyRoom in
+      omega (arith, image-length (take n image), length-take n image, accepted-short text n emptyRoom emptyRoom k e)
   fits (refused r vs) e =
       let g = carries Word _ _ r vs each (sym e) in
       omega (arith, value-length r (valueOf vs) (width r r) (width (valueOf vs) (valueOf vs)) refl refl, width-below 19 r r (omega (arith, g .0)), width-below 19 (valueOf vs) (valueOf vs) (omega (arith, g .1)))
 
 pub unlisted-fits : UnlistedFits
 unfolding unlistedOf
-unlisted-fits text n t h = fits text n t h (backAnswer text n zeros zeros) refl
+unlisted-fits text n t h = fits text n t h (backAnswer text n emptyRoom emptyRoom) refl

@@ -8,6 +8,7 @@ use Prim.Native.Char.{code}
 use native.Mathlib.Omega.{arith}
 use lib.Dec.{eqb, ltb, lit<, lit≤}
 use lib.ListN.{length, getD, set, take}
+use Rattle.instruction.specs.Bytes.{Bytes}
 use Rattle.text.specs.Cut.{lines}
 use Rattle.instruction.specs.Mnemonic.{mnemonicOf}
 use Rattle.instruction.specs.Parts.{partsOf}
@@ -16,7 +17,6 @@ use Rattle.targets.specs.At.{sizeHere, fitsHere, instrHere}
 use Rattle.targets.specs.Here.{hereOf}
 use Rattle.targets.proofs.Ands.{second-part}
 use Rattle.reach.specs.Mark.{traced}
-use Rattle.trace_laws.specs.ClaimsImages.{Bytes}
 use Rattle.views.specs.Positions.{tracedAt}
 use Rattle.views.proofs.TracedAt.{traced-inside}
 use Rattle.views.specs.Overlaps.{overlapsOf}
@@ -37,7 +37,7 @@ use Rattle.read_back_laws.proofs.Names.{name-above, operands-above}
 use Rattle.read_back_laws.proofs.Places.{open-more, open-past}
 use Rattle.read_back_laws.proofs.Saying.{body, said-label, said-overlaps, said-arrivals, said-code}
 use Rattle.read_back_laws.proofs.Stand.{Stand, stand-next}
-use Rattle.read_back_laws.proofs.Steps.{Said, wrote, OpenAt, Restores, read-line}
+use Rattle.read_back_laws.proofs.Steps.{LineSays, wrote, OpenAt, Restores, read-line}
 use Rattle.read_back_laws.proofs.Tells.{told-traced}
 
 -- what is read from a place and a sheet on gives the image and the marks back
@@ -53,7 +53,7 @@ module _ (image m : List ℕ) (p : ℕ) (small : p < 65536) where
   no-line : (r : ℕ) → Passes r []
   no-line r place sheet rest O go = go place (open-more (omega arith) O)
 
-  one-line : (c : ℕ) (fs : List (List ℕ)) → eqb c 10 ≡ false → allAbove fs ≡ true → Said c p [] (body c p fs) → ((sheet : Sheet) → wrote sheet c p [] ≡ sheet) → rankOf c < 5
+  one-line : (c : ℕ) (fs : List (List ℕ)) → eqb c 10 ≡ false → allAbove fs ≡ true → LineSays c p [] (body c p fs) → ((sheet : Sheet) → wrote sheet c p [] ≡ sheet) → rankOf c < 5
       → Passes (rankOf c) (line c (hex4 p ∷ fs))
   unfolding agree
   one-line c fs e a S w h place sheet rest O go =

@@ -9,6 +9,7 @@ use native.Mathlib.Nat.{add-zero}
 use native.Mathlib.Omega.{arith}
 use lib.ListN.{length, getD, take, drop, length-drop}
 use lib.Seq.{getD-take, getD-drop, length-take-le, take-take}
+use Rattle.instruction.specs.Bytes.{Bytes}
 use Rattle.instruction.specs.Pattern.{Bit, field}
 use Rattle.instruction.specs.Decode.{fieldsIn}
 use Rattle.instruction.specs.Forms.{formAt, formOf, bits, sizeOf}
@@ -21,7 +22,6 @@ use Rattle.targets.specs.Here.{hereOf}
 use Rattle.targets.specs.declared.here.Here.the-variants.{Whole}
 use Rattle.targets.proofs.HereIs.{answer, whole-here}
 use Rattle.targets.proofs.Within.{Within, within, form-is, form-here}
-use Rattle.trace_laws.specs.ClaimsImages.{Bytes}
 use Rattle.listing.specs.Hex.{hex4, hexes}
 use Rattle.listing.specs.Line.{line}
 use Rattle.listing.specs.Lines.{instrText, hereLine, codeLine}

@@ -9,18 +9,18 @@ use native.Mathlib.Omega.{arith}
 use lib.Dec.{eqb, lit≤}
 use lib.ListN.{length, getD}
 use borrow.Author.Tests.{eqb-true, eqb-false}
+use Rattle.instruction.specs.Bytes.{Bytes}
 use Rattle.instruction.proofs.Sign.{never}
 use Rattle.text.specs.Cut.{lines}
 use Rattle.targets.proofs.Ands.{first-part, second-part}
 use Rattle.reach.specs.Mark.{tracedMark}
-use Rattle.trace_laws.specs.ClaimsImages.{Bytes}
 use Rattle.views.specs.Positions.{tracedAt}
 use Rattle.views.proofs.TracedAt.{by-mark}
 use Rattle.views.specs.DataRun.{dataRun}
 use Rattle.views.specs.Mask.{maskOf}
 use Rattle.listing.specs.Hex.{hex4, hexes}
 use Rattle.listing.specs.Line.{line}
-use Rattle.listing.specs.Lines.{zeros, dataLine}
+use Rattle.listing.specs.Lines.{allZero, dataLine}
 use Rattle.read_back.specs.Sheet.{Sheet}
 use Rattle.read_back.specs.declared.place.Place.{Place}
 use Rattle.read_back_laws.proofs.Cells.{Part, Cell, empty, full, Right, Sound, part-small, part-inside, part-agrees, Lays, lays}
@@ -40,14 +40,14 @@ cell-zero (empty e) z = omega arith
 cell-zero (full e) z = omega arith
 
 -- where bytes are all zero, nothing is to be stored
-zeros-right : (image cells : List ℕ) → Sound image cells → (bs : List ℕ) (p : ℕ) → Part image p bs → zeros bs ≡ true → (q : ℕ) → p ≤ q → q < p + length bs → Right image cells q
+zeros-right : (image cells : List ℕ) → Sound image cells → (bs : List ℕ) (p : ℕ) → Part image p bs → allZero bs ≡ true → (q : ℕ) → p ≤ q → q < p + length bs → Right image cells q
 zeros-right image cells S [] p P z q h k = absurd (omega arith)
-zeros-right image cells S (b ∷ bs) p P z q h k = by (eqb q p) refl (zeros-right image cells S bs (suc p) (P .1) (second-part (eqb b 0) (zeros bs) z) q)
+zeros-right image cells S (b ∷ bs) p P z q h k = by (eqb q p) refl (zeros-right image cells S bs (suc p) (P .1) (second-part (eqb b 0) (allZero bs) z) q)
   where
     by : (t : Bool) → eqb q p ≡ t → (suc p ≤ q → q < suc p + length bs → Right image cells q) → Right image cells q
     by true f rest =
         let d : q ≡ p = eqb-true q p f in
-        let y : b ≡ 0 = eqb-true b 0 (first-part (eqb b 0) (zeros bs) z) in
+        let y : b ≡ 0 = eqb-true b 0 (first-part (eqb b 0) (allZero bs) z) in
         cell-zero (S .each q) (ap (λ (j : ℕ). getD image j 0) d ∙ sym (P .0) ∙ y)
     by false f rest = let d : q ≡ p → ⊥ = eqb-false q p f in rest (omega arith) (omega arith)
 
@@ -75,7 +75,7 @@ module _ (image m : List ℕ) (B : Bytes image) (small : length image ≤ 65536)
 
     pub data-stop : eqb (getD (maskOf image m) p 0) 0 ≡ true → On (length (dataRun image (maskOf image m) p) - 1) → Given image m place sheet (dataLine p (dataRun image (maskOf image m) p) ++ rest)
     unfolding dataLine
-    data-stop e go = by (zeros run) refl
+    data-stop e go = by (allZero run) refl
       where
         run : List ℕ
         run = dataRun image (maskOf image m) p
@@ -89,7 +89,7 @@ module _ (image m : List ℕ) (B : Bytes image) (small : length image ≤ 65536)
             on (length run - 1) (length run) next L f (omega (arith, R .least))
             (λ i j. ap (tracedAt image m) (let d : suc p + i ≡ p + suc i = omega arith in d) ∙ R .free (suc i) (omega arith))
 
-        by : (z : Bool) → zeros run ≡ z → Given image m place sheet (cond z [] (line (code "D") (hex4 p ∷ hexes run ∷ [])) ++ rest)
+        by : (z : Bool) → allZero run ≡ z → Given image m place sheet (cond z [] (line (code "D") (hex4 p ∷ hexes run ∷ [])) ++ rest)
         by true z =
             go place sheet (open-past (omega arith) O)
             (stands sheet (record { sound = S .sound; keeps = λ q r. r; fills = zeros-right image (sheet .cells) (S .sound) run p (R .from) z }) refl)

@@ -11,7 +11,7 @@ use Rattle.instruction.proofs.Every.{holds}
 use Rattle.text.specs.Bytes.{bytesOf}
 use Rattle.text.specs.Four.{fourOf}
 use Rattle.text.specs.Hex.{isDigit, digitOf, allHex}
-use Rattle.listing.specs.Hex.{letterOf, digit, hex2, hex3, hex4, hexes}
+use Rattle.listing.specs.Hex.{letterOf, hex1, hex2, hex3, hex4, hexes}
 
 is : (b : Bool) → T b → b ≡ true
 is true t = refl
@@ -20,17 +20,17 @@ is false t = absurd t
 sixteenth : (n : ℕ) → n % 16 < 16
 sixteenth n = mod-lt n (lit< tt)
 
-pub digit-is : (n : ℕ) → isDigit (digit n) ≡ true
-unfolding digit
+pub digit-is : (n : ℕ) → isDigit (hex1 n) ≡ true
+unfolding hex1
 digit-is n = is _ (holds (λ k. isDigit (letterOf k)) 16 tt (n % 16) (sixteenth n))
 
-pub digit-back : (n : ℕ) → digitOf (digit n) ≡ n % 16
-unfolding digit digitOf
+pub digit-back : (n : ℕ) → digitOf (hex1 n) ≡ n % 16
+unfolding hex1 digitOf
 digit-back n = eqb→eq _ _ (holds (λ k. eqb (digitOf (letterOf k)) k) 16 tt (n % 16) (sixteenth n))
 
 -- no digit is a tab or a byte 10
-pub digit-above : (n : ℕ) → ltb 10 (digit n) ≡ true
-unfolding digit
+pub digit-above : (n : ℕ) → ltb 10 (hex1 n) ≡ true
+unfolding hex1
 digit-above n = is _ (holds (λ k. ltb 10 (letterOf k)) 16 tt (n % 16) (sixteenth n))
 
 -- four digits

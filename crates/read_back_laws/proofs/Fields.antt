@@ -10,7 +10,7 @@ use borrow.Author.Tests.{ltb-true, ne-eqb}
 use Rattle.text.specs.Cut.{before, cut, upTo, lines}
 use Rattle.targets.proofs.Ands.{first-part, second-part}
 use Rattle.listing.specs.Hex.{hex2, hex3, hex4, hexes}
-use Rattle.listing.specs.Line.{fields, line}
+use Rattle.listing.specs.Line.{fieldsText, line}
 use Rattle.read_back_laws.proofs.Digits.{digit-above}
 
 -- every byte is above 10
@@ -69,12 +69,12 @@ module _ (rest : List ℕ) where
   cuts-field (b ∷ f) t l h c =
       cuts-byte b (f ++ t) (f ++ l) (other b 10 (omega arith) (first-part (ltb 10 b) (above f) h)) (cuts-field f t l (second-part (ltb 10 b) (above f) h) c)
 
-  cuts-fields : (fs : List (List ℕ)) → allAbove fs ≡ true → Cuts (fields fs) (tabbed fs)
-  unfolding fields
+  cuts-fields : (fs : List (List ℕ)) → allAbove fs ≡ true → Cuts (fieldsText fs) (tabbed fs)
+  unfolding fieldsText
   cuts-fields [] h = cuts-end
   cuts-fields (f ∷ fs) h =
-      cuts-byte 9 (f ++ fields fs) (f ++ tabbed fs) refl
-      (cuts-field f (fields fs) (tabbed fs) (first-part (above f) (allAbove fs) h) (cuts-fields fs (second-part (above f) (allAbove fs) h)))
+      cuts-byte 9 (f ++ fieldsText fs) (f ++ tabbed fs) refl
+      (cuts-field f (fieldsText fs) (tabbed fs) (first-part (above f) (allAbove fs) h) (cuts-fields fs (second-part (above f) (allAbove fs) h)))
 
   pub cuts-line : (c : ℕ) (fs : List (List ℕ)) → eqb c 10 ≡ false → allAbove fs ≡ true → lines (line c fs ++ rest) ≡ (c ∷ tabbed fs) ∷ lines rest
-  cuts-line c fs e h = cuts-byte c (fields fs) (tabbed fs) e (cuts-fields fs h)
+  cuts-line c fs e h = cuts-byte c (fieldsText fs) (tabbed fs) e (cuts-fields fs h)

@@ -8,7 +8,7 @@ use native.Mathlib.Omega.{arith}
 use lib.Dec.{eqb}
 use lib.ListN.{length, getD, drop, length-drop}
 use lib.Seq.{length-take-le}
-use Rattle.trace_laws.specs.ClaimsImages.{Bytes}
+use Rattle.instruction.specs.Bytes.{Bytes}
 use Rattle.views.specs.Positions.{upFrom, tracedAt}
 use Rattle.views.specs.DataRun.{leading, isData, runLength, dataRun}
 use Rattle.views.specs.Mask.{maskOf}

@@ -13,7 +13,7 @@ use Rattle.instruction.proofs.Sign.{never}
 use Rattle.targets.specs.At.{sizeHere}
 use Rattle.views.specs.Positions.{tracedAt}
 use Rattle.views.proofs.TracedAt.{by-mark}
-use Rattle.read_back.specs.Sheet.{Sheet, blank, imageOn}
+use Rattle.read_back.specs.Sheet.{Sheet, emptySheet, imageOn}
 use Rattle.read_back_laws.specs.ClaimsBack.{told}
 use Rattle.read_back_laws.proofs.Cells.{Sound, Right, Lays, empty}
 use Rattle.read_back_laws.proofs.Tells.{toldTo, told-start, told-end, told-untouched}
@@ -33,7 +33,7 @@ module _ (image m : List ℕ) where
     pub free : (i : ℕ) → i < s → tracedAt image m (p + i) ≡ false
 
   -- before the first line
-  pub stand-start : Stand 0 0 (blank (length image))
+  pub stand-start : Stand 0 0 (emptySheet (length image))
   stand-start = record {
     sound = record { size = length-replicate (length image) 0; each = λ q. empty (none-at (length image) q) };
     right = λ q h. absurd (omega arith);

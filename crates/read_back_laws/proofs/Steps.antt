@@ -16,12 +16,12 @@ use Rattle.reach.specs.Mark.{traced}
 use Rattle.read_back.specs.Back.{isFit, lineRefusals, sheetAfter}
 use Rattle.read_back.specs.Line.{letterOn, positionOn, isLine, recordOf}
 use Rattle.read_back.specs.Order.{rankOf, follows, placeAfter}
-use Rattle.read_back.specs.Sheet.{Sheet, listedOn, agree, reach, noted, imageOn}
+use Rattle.read_back.specs.Sheet.{Sheet, listedOn, agree, reach, sheetWith, imageOn}
 use Rattle.read_back.specs.declared.place.Place.{Place}
 use Rattle.read_back_laws.proofs.Places.{Open, later, open-follows}
 
 -- a line of the letter c at p that lists these bytes
-pub record Said (c p : ℕ) (bs l : List ℕ) : Type 0 where
+pub record LineSays (c p : ℕ) (bs l : List ℕ) : Type 0 where
   pub fits : isLine l ≡ true
   pub letter : letterOn l ≡ c
   pub position : positionOn l ≡ p
@@ -53,7 +53,7 @@ module _ (image marks : List ℕ) where
   -- one more line
   module _ (place : Place) (sheet : Sheet) (l : List ℕ) (ls : List (List ℕ)) where
     goes-on : isFit place sheet l ≡ true → reach (length image) (positionOn l) (listedOn l) ≡ false
-        → Restores image marks (placeAfter place (length l) (recordOf l)) (noted sheet l) ls → Restores image marks place sheet (l ∷ ls)
+        → Restores image marks (placeAfter place (length l) (recordOf l)) (sheetWith sheet l) ls → Restores image marks place sheet (l ∷ ls)
     unfolding lineRefusals sheetAfter
     goes-on e f R = record {
       accepts = λ k. pass _ _ k (ap not e) ∙ pass _ _ k f ∙ R .accepts k;
@@ -61,13 +61,13 @@ module _ (image marks : List ℕ) where
       tells = R .tells;
     }
 
-    module _ (c p r : ℕ) (bs : List ℕ) (S : Said c p bs l) (O : OpenAt p r place) (h : r ≤ rankOf c) (k : 0 < r → rankOf c < 5) where
+    module _ (c p r : ℕ) (bs : List ℕ) (S : LineSays c p bs l) (O : OpenAt p r place) (h : r ≤ rankOf c) (k : 0 < r → rankOf c < 5) where
       in-order : follows place (recordOf l) ≡ true
       unfolding follows recordOf
       in-order = rw (S .letter, S .position) (open-follows (rankOf c) O h k)
 
-      wrote-so : noted sheet l ≡ wrote sheet c p bs
-      unfolding noted recordOf
+      wrote-so : sheetWith sheet l ≡ wrote sheet c p bs
+      unfolding sheetWith recordOf
       wrote-so =
           ap (λ (x : ℕ). wrote sheet x (positionOn l) (listedOn l)) (S .letter) ∙ ap (λ (x : ℕ). wrote sheet c x (listedOn l)) (S .position) ∙ ap (wrote sheet c p) (S .lists)
 

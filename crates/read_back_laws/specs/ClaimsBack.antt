@@ -5,14 +5,14 @@ use mathlib.Core.Bool.{cond}
 use mathlib.Core.List.{List, map}
 use mathlib.Core.Path.{_≡_}
 use lib.ListN.{length, take}
-use Rattle.instruction.specs.Answer.{accepted, Apart}
+use Rattle.instruction.specs.Bytes.{Bytes}
+use Rattle.instruction.specs.Answer.{accepted, Apart, laid}
 use Rattle.reach.specs.Mark.{untouched, traced, tracedMark}
 use Rattle.text.specs.Cut.{lines}
-use Rattle.trace_laws.specs.ClaimsImages.{Bytes}
 use Rattle.views_laws.specs.ClaimsSound.{Undamaged}
 use Rattle.listing.specs.Walk.{listingOf}
 use Rattle.listing.specs.declared.tabbed.Arrivals.{Arrivals}
-use Rattle.read_back.specs.Back.{restoredOf, backAnswer, backImage, backMarks, laid}
+use Rattle.read_back.specs.Back.{restoredOf, backAnswer, backImage, backMarks}
 use Rattle.read_back.specs.Read.{readOf}
 
 -- a mark as a listing tells it: 1 becomes 0, and 3 becomes 2

@@ -6,16 +6,16 @@ use mathlib.Core.Bool.{true}
 use mathlib.Core.List.{List, _∷_, _++_}
 use mathlib.Core.Path.{_≡_}
 use lib.ListN.{length, take}
+use Rattle.instruction.specs.Bytes.{Bytes}
 use Rattle.instruction.specs.Answer.{accepted}
 use Rattle.list_text.specs.ClaimsInput.{Valid}
 use Rattle.list_text.specs.Entries.{isEntries, entriesIn}
 use Rattle.list_text.specs.Text.{entriesOf, imageOf}
-use Rattle.trace_laws.specs.ClaimsImages.{Bytes}
 use Rattle.views_laws.specs.ClaimsSound.{Undamaged}
 use Rattle.listing.specs.Walk.{listingOf}
 use Rattle.listing.specs.declared.tabbed.Arrivals.{Arrivals}
 use Rattle.read_back.specs.Back.{backAnswer, backImage}
-use Rattle.unlist_text.specs.Unlisted.{imageText, zeros, unlistedOf}
+use Rattle.unlist_text.specs.Unlisted.{imageText, emptyRoom, unlistedOf}
 
 -- an input that has every line good, these entries and this image
 abbrev pub Says : List ℕ → List ℕ → List ℕ → Type 0
@@ -28,8 +28,8 @@ ReadAgain = (e image : List ℕ) → isEntries e ≡ true → Bytes image → le
 -- so is what is printed of a listing that is accepted
 abbrev pub UnlistedAgain : Type 0
 UnlistedAgain =
-    (e text : List ℕ) (n k : ℕ) → isEntries e ≡ true → n ≤ 16384 → backAnswer text n zeros zeros ≡ accepted k
-    → Says (e ++ 10 ∷ unlistedOf text n) (entriesIn e) (take n (backImage text n zeros zeros))
+    (e text : List ℕ) (n k : ℕ) → isEntries e ≡ true → n ≤ 16384 → backAnswer text n emptyRoom emptyRoom ≡ accepted k
+    → Says (e ++ 10 ∷ unlistedOf text n) (entriesIn e) (take n (backImage text n emptyRoom emptyRoom))
 
 -- of a listing as the writer prints it, with or without arrivals, it is the image itself
 abbrev pub ListedUnlisted : Type 0

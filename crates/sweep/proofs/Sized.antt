@@ -18,12 +18,12 @@ use Rattle.marks.specs.Refusals.{sizeRefusals}
 use Rattle.marks.specs.Tracer.{tracerOf}
 use Rattle.marks.proofs.Sizing.{long-image, short-marks, right-sizes}
 use Rattle.trace.specs.Start.{startAnswer, startMarks}
-use Rattle.sweep.specs.Sweep.{Said, saidOf, tallyOf, sweepAnswer, sweepLeaves}
+use Rattle.sweep.specs.Sweep.{SweepResult, sweepResult, tallyOf, sweepAnswer, sweepLeaves}
 use Rattle.sweep.specs.declared.sweep.Tally.{Tally}
 use Rattle.sweep.proofs.Sweeping.{Ended}
 
 -- what the inner function answers and leaves is where the sweeps end
-pub told : (image m m′ : List ℕ) (sweeps steps : ℕ) (t : Tally) → (t .sweeps ≡ sweeps) × (t .steps ≡ steps) → Ended (tracerOf image) m m′ sweeps steps → (tallyOf t ≡ saidOf image m) × (m′ ≡ sweptMarks (tracerOf image) m)
+pub told : (image m m′ : List ℕ) (sweeps steps : ℕ) (t : Tally) → (t .sweeps ≡ sweeps) × (t .steps ≡ steps) → Ended (tracerOf image) m m′ sweeps steps → (tallyOf t ≡ sweepResult image m) × (m′ ≡ sweptMarks (tracerOf image) m)
 told image m m′ sweeps steps t h E =
     let a = h .0 ∙ E .sweeps-are in let b = h .1 ∙ E .steps-are in (rw (a, b), E .marks-are)
 
@@ -34,15 +34,15 @@ module _ (image marks entries : List ℕ) where
   abbrev set : ℕ
   set = length (fresh n entries (cleared n marks))
 
-  abbrev Is : Answer Said → List ℕ → Type 0
+  abbrev Is : Answer SweepResult → List ℕ → Type 0
   Is a m = (a ≡ sweepAnswer image marks entries) × (m ≡ sweepLeaves image marks entries)
 
   -- a refusal of start is one here, and changes nothing
   pub refused-too : (k : ℕ) (vs : List ℤ) (m : List ℕ) → refused k vs ≡ startAnswer image marks entries → m ≡ startMarks image marks entries → Is (refused k vs) m
   unfolding startAnswer startMarks sweepAnswer sweepLeaves
   refused-too k vs m e f =
-      let g = refuses-too (sizeRefusals image marks) set (saidOf image (startMarks image marks entries)) k vs (sym e) in
-      (sym g, f ∙ ap (λ (a : Answer ℕ). after a (note n entries (cleared n marks)) marks) (sym e) ∙ ap (λ (a : Answer Said). after a (sweptMarks (tracerOf image) (startMarks image marks entries)) marks) (sym g))
+      let g = refuses-too (sizeRefusals image marks) set (sweepResult image (startMarks image marks entries)) k vs (sym e) in
+      (sym g, f ∙ ap (λ (a : Answer ℕ). after a (note n entries (cleared n marks)) marks) (sym e) ∙ ap (λ (a : Answer SweepResult). after a (sweptMarks (tracerOf image) (startMarks image marks entries)) marks) (sym g))
 
   module _ (k : ℕ) (e : accepted k ≡ startAnswer image marks entries) where
     not-refused : (j : ℕ) (vs : List ℤ) → startAnswer image marks entries ≡ refused j vs → ⊥
@@ -74,9 +74,9 @@ module _ (image marks entries : List ℕ) where
     pub begun-count : count tracedMark (take n (startMarks image marks entries)) ≡ 0
     begun-count = rw begun (start-count (tracerOf image) entries (cleared n marks) (cleared-base (tracerOf image) marks room))
 
-    pub swept : (t : Tally) (m m′ : List ℕ) → m ≡ startMarks image marks entries → (tallyOf t ≡ saidOf image m) × (m′ ≡ sweptMarks (tracerOf image) m) → Is (accepted (tallyOf t)) m′
+    pub swept : (t : Tally) (m m′ : List ℕ) → m ≡ startMarks image marks entries → (tallyOf t ≡ sweepResult image m) × (m′ ≡ sweptMarks (tracerOf image) m) → Is (accepted (tallyOf t)) m′
     unfolding sweepAnswer sweepLeaves
     swept t m m′ f S =
         let s = startMarks image marks entries in
-        let g = right-sizes image marks [] (saidOf image s) small room ∙ done (saidOf image s) in
-        (ap accepted (S .0 ∙ ap (saidOf image) f) ∙ sym g, S .1 ∙ ap (sweptMarks (tracerOf image)) f ∙ ap (λ (a : Answer Said). after a (sweptMarks (tracerOf image) s) marks) (sym g))
+        let g = right-sizes image marks [] (sweepResult image s) small room ∙ done (sweepResult image s) in
+        (ap accepted (S .0 ∙ ap (sweepResult image) f) ∙ sym g, S .1 ∙ ap (sweptMarks (tracerOf image)) f ∙ ap (λ (a : Answer SweepResult). after a (sweptMarks (tracerOf image) s) marks) (sym g))

@@ -9,7 +9,7 @@ use lib.ListN.{length}
 use borrow.Author.Tests.{eq-eqb, ne-eqb}
 use Rattle.reach.specs.Mark.{tracedMark}
 use Rattle.reach.specs.Tracer.{Tracer}
-use Rattle.reach.specs.Sweep.{sweepOnce, caught, sweepMarks, sweepCount, sweptMarks, sweptSteps, tracedIn}
+use Rattle.reach.specs.Sweep.{sweepOnce, sweepTaken, sweepMarks, sweepCount, sweptMarks, sweptSteps, tracedIn}
 use Rattle.reach.proofs.Caught.{caught-done, none-caught}
 use Rattle.reach.specs.Sweep as spec
 use Rattle.reach.proofs.Count.{count-under}
@@ -54,7 +54,7 @@ module _ (G : Tracer) where
         let t : sweeps + sweepCount G 0 m ≡ spec.sweeps G m₀ = ap (λ (k : ℕ). sweeps + sweepCount G k m) z ∙ S .count-left in
         ended sweeps m refl (ap (λ (k : ℕ). sweepMarks G k m) z ∙ S .marks-left) (omega (arith, t))
 
-    module _ (room : sweeps ≤ G .size) (taken : ℕ) (m′ : List ℕ) (C : (taken ≡ caught G m) × (m′ ≡ sweepOnce G m)) where
+    module _ (room : sweeps ≤ G .size) (taken : ℕ) (m′ : List ℕ) (C : (taken ≡ sweepTaken G m) × (m′ ≡ sweepOnce G m)) where
       abbrev left : ℕ
       left = suc (G .size) - (sweeps + 1)
 
@@ -71,8 +71,8 @@ module _ (G : Tracer) where
       pub last-swept : taken ≡ 0 → Ended G m₀ m′ (sweeps + 1) steps
       unfolding sweepMarks sweepCount
       last-swept e =
-          let z : caught G m ≡ 0 = sym (C .0) ∙ e in
-          let b = eq-eqb (caught G m) 0 z in
+          let z : sweepTaken G m ≡ 0 = sym (C .0) ∙ e in
+          let b = eq-eqb (sweepTaken G m) 0 z in
           let f : m ≡ sweptMarks G m₀ = ap (λ (x : Bool). cond x m (sweepMarks G left (sweepOnce G m))) (sym b) ∙ marks-now in
           let g : sweeps + 1 ≡ spec.sweeps G m₀ = ap (λ (x : Bool). sweeps + suc (cond x 0 (sweepCount G left (sweepOnce G m)))) (sym b) ∙ count-now in
           ended (sweeps + 1) m′ (C .1 ∙ none-caught G m z) f g
@@ -87,7 +87,7 @@ module _ (G : Tracer) where
         pub sweeping-next : taken ≢ 0 → length m′ ≡ length m → Sweeping G m₀ m′ (sweeps + 1) (steps + taken)
         unfolding sweepMarks sweepCount
         sweeping-next h l =
-            let b = ne-eqb (caught G m) 0 (λ e. h (C .0 ∙ e)) in
+            let b = ne-eqb (sweepTaken G m) 0 (λ e. h (C .0 ∙ e)) in
             let f : sweepMarks G left (sweepOnce G m) ≡ sweptMarks G m₀ = ap (λ (x : Bool). cond x m (sweepMarks G left (sweepOnce G m))) (sym b) ∙ marks-now in
             let g : sweeps + suc (sweepCount G left (sweepOnce G m)) ≡ spec.sweeps G m₀ = ap (λ (x : Bool). sweeps + suc (cond x 0 (sweepCount G left (sweepOnce G m)))) (sym b) ∙ count-now in
             record {

@@ -13,25 +13,25 @@ use Rattle.sweep.specs.declared.sweep.Swept.{Swept}
 use Rattle.sweep.specs.declared.sweep.Swept.the-variants.{Ended, LongImage, ShortMarks}
 
 -- the sweeps, the last one counted, and the steps, which are the marks 2 and 3 afterwards
-pub record Said : Type 0 where
+pub record SweepResult : Type 0 where
   pub sweeps : ℕ
   pub steps : ℕ
 
 -- of sweeps over these marks
-abbrev pub saidOf : List ℕ → List ℕ → Said
-saidOf image m = record { sweeps = sweeps (tracerOf image) m; steps = sweptSteps (tracerOf image) m }
+abbrev pub sweepResult : List ℕ → List ℕ → SweepResult
+sweepResult image m = record { sweeps = sweeps (tracerOf image) m; steps = sweptSteps (tracerOf image) m }
 
-abbrev pub tallyOf : Tally → Said
+abbrev pub tallyOf : Tally → SweepResult
 tallyOf t = record { sweeps = t .sweeps; steps = t .steps }
 
-abbrev pub sweptOf : Swept → Answer Said
+abbrev pub sweptOf : Swept → Answer SweepResult
 sweptOf (Ended t) = accepted (tallyOf t)
 sweptOf (LongImage n) = refused 1 (pos n ∷ [])
 sweptOf (ShortMarks n) = refused 2 (pos n ∷ [])
 
 -- it starts as start does
-unfoldable pub sweepAnswer : List ℕ → List ℕ → List ℕ → Answer Said
-sweepAnswer image marks entries = judge (sizeRefusals image marks) (saidOf image (startMarks image marks entries))
+unfoldable pub sweepAnswer : List ℕ → List ℕ → List ℕ → Answer SweepResult
+sweepAnswer image marks entries = judge (sizeRefusals image marks) (sweepResult image (startMarks image marks entries))
 
 -- the marks where the sweeps end
 unfoldable pub sweepLeaves : List ℕ → List ℕ → List ℕ → List ℕ

@@ -4,9 +4,9 @@ ghost use mathlib.Core.Bool.{cond};
 ghost use Prim.Native.Nat.{_≤_, _<_};
 ghost use lib.ListN.{length, take};
 ghost use Rattle.reach.specs.Mark.{count, tracedMark};
-ghost use Rattle.reach.specs.Sweep.{ripe, sweptAt, sweepOnce, caught, sweptMarks};
+ghost use Rattle.reach.specs.Sweep.{canTake, sweptAt, sweepOnce, sweepTaken, sweptMarks};
 ghost use Rattle.marks.specs.Tracer.{tracerOf};
-ghost use Rattle.sweep.specs.Sweep.{sweptOf, saidOf, tallyOf, sweepAnswer, sweepLeaves};
+ghost use Rattle.sweep.specs.Sweep.{sweptOf, sweepResult, tallyOf, sweepAnswer, sweepLeaves};
 use marks::Mark;
 use targets::Ways;
 use trace::Started;
@@ -37,7 +37,8 @@ pub enum Swept {
 // A sweep meets p: how many it takes, 0 or 1.
 fn meet(image: &[u8], marks: &mut [u8], p: u32) -> u32
     requires { ⌜ (p < length (now image)) × (length (now image) ≤ 65536) × (length (now image) ≤ length (now marks)) ⌝ }
-    ensures { λ r. ⌜ (r ≡ cond (ripe (tracerOf (now (image .entry))) (now (marks .entry)) p) 1 0) × (now (marks .exit) ≡ sweptAt (tracerOf (now (image .entry))) (now (marks .entry)) p) ⌝ }
+    ensures { λ r. ⌜ r ≡ cond (canTake (tracerOf (now (image .entry))) (now (marks .entry)) p) 1 0 ⌝ }
+    ensures { λ _. ⌜ now (marks .exit) ≡ sweptAt (tracerOf (now (image .entry))) (now (marks .entry)) p ⌝ }
 {
     if marks[p as usize] != Mark::WAITING {
         return 0;
@@ -55,7 +56,8 @@ fn meet(image: &[u8], marks: &mut [u8], p: u32) -> u32
 // One sweep: how many it took.
 fn sweep_once(image: &[u8], marks: &mut [u8]) -> u32
     requires { ⌜ (length (now image) ≤ 65536) × (length (now image) ≤ length (now marks)) ⌝ }
-    ensures { λ r. ⌜ (r ≡ caught (tracerOf (now (image .entry))) (now (marks .entry))) × (now (marks .exit) ≡ sweepOnce (tracerOf (now (image .entry))) (now (marks .entry))) ⌝ }
+    ensures { λ r. ⌜ r ≡ sweepTaken (tracerOf (now (image .entry))) (now (marks .entry)) ⌝ }
+    ensures { λ _. ⌜ now (marks .exit) ≡ sweepOnce (tracerOf (now (image .entry))) (now (marks .entry)) ⌝ }
 {
     let n = image.len() as u32;
     let mut taken: u32 = 0;
@@ -70,7 +72,8 @@ fn sweep_once(image: &[u8], marks: &mut [u8]) -> u32
 // Sweeps until one takes none. One more than there are positions is never passed: each but the last takes one.
 fn sweep_on(image: &[u8], marks: &mut [u8]) -> Tally
     requires { ⌜ (length (now image) ≤ 65536) × (length (now image) ≤ length (now marks)) × (count tracedMark (take (length (now image)) (now marks)) ≡ 0) ⌝ }
-    ensures { λ r. ⌜ (tallyOf r ≡ saidOf (now (image .entry)) (now (marks .entry))) × (now (marks .exit) ≡ sweptMarks (tracerOf (now (image .entry))) (now (marks .entry))) ⌝ }
+    ensures { λ r. ⌜ tallyOf r ≡ sweepResult (now (image .entry)) (now (marks .entry)) ⌝ }
+    ensures { λ _. ⌜ now (marks .exit) ≡ sweptMarks (tracerOf (now (image .entry))) (now (marks .entry)) ⌝ }
 {
     let n = image.len();
     let mut sweeps: usize = 0;
@@ -88,7 +91,8 @@ fn sweep_on(image: &[u8], marks: &mut [u8]) -> Tally
 
 // Starts from the entries and sweeps until a sweep takes none.
 pub fn sweep(image: &[u8], marks: &mut [u8], entries: &[u32]) -> Swept
-    ensures { λ r. ⌜ (sweptOf r ≡ sweepAnswer (now (image .entry)) (now (marks .entry)) (now (entries .entry))) × (now (marks .exit) ≡ sweepLeaves (now (image .entry)) (now (marks .entry)) (now (entries .entry))) ⌝ }
+    ensures { λ r. ⌜ sweptOf r ≡ sweepAnswer (now (image .entry)) (now (marks .entry)) (now (entries .entry)) ⌝ }
+    ensures { λ _. ⌜ now (marks .exit) ≡ sweepLeaves (now (image .entry)) (now (marks .entry)) (now (entries .entry)) ⌝ }
 {
     match trace::start::start(image, marks, entries) {
         Started::Set(_) => Swept::Ended(sweep_on(image, marks)),

@@ -53,7 +53,7 @@ within image p b h f =
     let e : decodeAnswer s ≡ accepted (instrHere image p) = answer image p h true f in
     record {
       size = size-here image p b;
-      fit = encode-decoded s (λ n k. rw (getD-drop p image n 0) (b (p + n))) (instrHere image p) e .fit;
+      fit = encode-decoded s (λ n. rw (getD-drop p image n 0) (b (p + n))) (instrHere image p) e .fit;
       least = size-short image p b .0;
       most = leb-true (p + sizeHere image p) (length image) f;
     }

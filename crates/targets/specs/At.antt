@@ -7,7 +7,7 @@ use lib.Dec.{eqb, leb}
 use lib.IntN.{ℤ, pos, negsuc}
 use lib.ListN.{length, getD, drop}
 use Rattle.instruction.specs.Decode.{fieldsIn}
-use Rattle.instruction.specs.Forms.{formAt, formOf, numberOf, sizeOf}
+use Rattle.instruction.specs.Forms.{formAt, formOf, formNamed, sizeOf}
 use Rattle.instruction.specs.Flow.{flowOf}
 use Rattle.instruction.specs.Parts.{partsOf, madeOf}
 use Rattle.instruction.specs.declared.flow.Flow.{Flow}
@@ -53,4 +53,4 @@ nameHere image p = namedBy (flowOf (partsOf (instrHere image p) .form)) (placeOf
 -- a Jmpf at p with the bytes B8 0D at p - 2
 unfoldable pub flashHere : List ℕ → ℕ → Bool
 flashHere image p =
-    leb 2 p && (eqb (formHere image p) (numberOf "Jmpf") && (eqb (getD image (p - 2) 0) 0xB8 && eqb (getD image (p - 1) 0) 0x0D))
+    leb 2 p && (eqb (formHere image p) (formNamed "Jmpf") && (eqb (getD image (p - 2) 0) 0xB8 && eqb (getD image (p - 1) 0) 0x0D))

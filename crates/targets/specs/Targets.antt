@@ -11,7 +11,7 @@ use Rattle.instruction.specs.declared.kind.Kind.{Kind}
 use Rattle.instruction.specs.declared.kind.Kind.the-variants.{Absent, Immediate, Direct, Register, BitNumber, Page, Far, Short, Long}
 use Rattle.instruction.specs.declared.kind.Shape.{Shape}
 use Rattle.instruction.specs.Encode.{formIn, misfits}
-use Rattle.instruction.specs.Resolution.{misfitValues}
+use Rattle.instruction.specs.ResolveOperand.{misfitValues}
 use Rattle.instruction.specs.Flow.{flowOf}
 use Rattle.instruction.specs.Forms.{sizeOf}
 use Rattle.instruction.specs.Parts.{partsOf}

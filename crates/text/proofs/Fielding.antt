@@ -7,20 +7,20 @@ use native.Mathlib.Omega.{arith}
 use lib.ListN.{length, drop, drop-of-length-le}
 use lib.Seq.{drop-drop}
 use Rattle.text.specs.Cut.{upTo}
-use Rattle.text.specs.Fields.{fieldOf}
+use Rattle.text.specs.Fields.{fieldAt}
 
 -- nothing has only empty fields
-none : (k : ℕ) → fieldOf k [] ≡ []
-unfolding fieldOf upTo
+none : (k : ℕ) → fieldAt k [] ≡ []
+unfolding fieldAt upTo
 none zero = refl
 none (suc k) = none k
 
 module _ (line : List ℕ) (at : ℕ) where
-  pub field-past : (k : ℕ) → length line ≤ at → fieldOf k (drop at line) ≡ []
-  field-past k h = ap (fieldOf k) (drop-of-length-le line h) ∙ none k
+  pub field-past : (k : ℕ) → length line ≤ at → fieldAt k (drop at line) ≡ []
+  field-past k h = ap (fieldAt k) (drop-of-length-le line h) ∙ none k
 
-  pub field-on : (k : ℕ) → 0 < k → (e : ℕ) → e ≡ at + length (upTo 9 (drop at line)) → fieldOf k (drop at line) ≡ fieldOf (k - 1) (drop (e + 1) line)
-  unfolding fieldOf
+  pub field-on : (k : ℕ) → 0 < k → (e : ℕ) → e ≡ at + length (upTo 9 (drop at line)) → fieldAt k (drop at line) ≡ fieldAt (k - 1) (drop (e + 1) line)
+  unfolding fieldAt
   field-on zero h e p = absurd (omega arith)
   field-on (suc k) h e p =
       let q : at + suc (length (upTo 9 (drop at line))) ≡ e + 1 = omega arith in

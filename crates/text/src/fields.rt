@@ -1,11 +1,11 @@
 // The fields of a line, which tabs part.
 ghost use mathlib.Core.Path.{_≡_};
-ghost use Rattle.text.specs.Fields.{fieldOf};
+ghost use Rattle.text.specs.Fields.{fieldAt};
 use crate::cut;
 
 // Field k of a line, from 0: a part of it, empty where there are not so many.
 pub fn field(line: &[u8], k: usize) -> &[u8]
-    ensures { λ r. ⌜ now r ≡ fieldOf k (now (line .entry)) ⌝ }
+    ensures { λ r. ⌜ now r ≡ fieldAt k (now (line .entry)) ⌝ }
 {
     let mut at: usize = 0;
     let mut left = k;

@@ -21,7 +21,8 @@ fn put_head(number: usize, k: usize, room: &mut [u8])
 }
 
 pub fn put_number(number: usize, room: &mut [u8]) -> Viewed
-    ensures { λ r. ⌜ (viewedOf r ≡ roomAnswer [] (numberLine number) (now (room .entry))) × (now (room .exit) ≡ roomAfter [] (numberLine number) (now (room .entry))) ⌝ }
+    ensures { λ r. ⌜ viewedOf r ≡ roomAnswer [] (numberLine number) (now (room .entry)) ⌝ }
+    ensures { λ _. ⌜ now (room .exit) ≡ roomAfter [] (numberLine number) (now (room .entry)) ⌝ }
 {
     let k = decimal::width(number);
     if room.len() < k + 3 {
@@ -33,7 +34,8 @@ pub fn put_number(number: usize, room: &mut [u8]) -> Viewed
 }
 
 pub fn put_value(number: usize, value: usize, room: &mut [u8]) -> Viewed
-    ensures { λ r. ⌜ (viewedOf r ≡ roomAnswer [] (valueLine number value) (now (room .entry))) × (now (room .exit) ≡ roomAfter [] (valueLine number value) (now (room .entry))) ⌝ }
+    ensures { λ r. ⌜ viewedOf r ≡ roomAnswer [] (valueLine number value) (now (room .entry)) ⌝ }
+    ensures { λ _. ⌜ now (room .exit) ≡ roomAfter [] (valueLine number value) (now (room .entry)) ⌝ }
 {
     let k = decimal::width(number);
     let j = decimal::width(value);

@@ -20,25 +20,25 @@ use Rattle.marks.specs.Tracer.{tracerOf, exemptHere}
 use Rattle.targets.proofs.Ands.{both, not-first, not-second}
 use Rattle.targets.specs.At.{flashHere, waysHere}
 
-abbrev pub hurts : ℕ → List ℕ → ℕ → Bool
-hurts n m t = ltb t n && damaged (getD m t 0)
+abbrev pub damagedInside : ℕ → List ℕ → ℕ → Bool
+damagedInside n m t = ltb t n && damaged (getD m t 0)
 
 -- what is said of the positions ts
 abbrev pub judged : ℕ → List ℕ → List ℕ → Answer (Unit {0})
 judged n m ts = judge (damages n m ts) tt
 
 module _ (n : ℕ) (m : List ℕ) (t : ℕ) where
-  pub read-inside : t < n → damaged (getD m t 0) ≡ hurts n m t
+  pub read-inside : t < n → damaged (getD m t 0) ≡ damagedInside n m t
   read-inside h = rw (lt-ltb t n h)
 
-  pub read-outside : n ≤ t → false ≡ hurts n m t
+  pub read-outside : n ≤ t → false ≡ damagedInside n m t
   read-outside h = rw (le-ltb t n h)
 
-  pub hurt-first : (ts : List ℕ) → hurts n m t ≡ true → refused 6 (pos t ∷ []) ≡ judged n m (t ∷ ts)
+  pub damaged-first : (ts : List ℕ) → damagedInside n m t ≡ true → refused 6 (pos t ∷ []) ≡ judged n m (t ∷ ts)
   unfolding damages
-  hurt-first ts e = sym (stop _ _ _ e)
+  damaged-first ts e = sym (stop _ _ _ e)
 
-  pub sound-first : (ts : List ℕ) → hurts n m t ≡ false → judged n m ts ≡ judged n m (t ∷ ts)
+  pub sound-first : (ts : List ℕ) → damagedInside n m t ≡ false → judged n m ts ≡ judged n m (t ∷ ts)
   unfolding damages
   sound-first ts e = sym (pass _ _ _ e)
 
@@ -53,9 +53,9 @@ module _ (image m : List ℕ) (p : ℕ) where
   abbrev Is : Answer (Unit {0}) → Type 0
   Is a = a ≡ judge (damageRefusals image m p) tt
 
-  pub before-hurt : flashHere image p ≡ true → damaged before ≡ true → Is (refused 6 (pos (p - 2) ∷ []))
+  pub before-damaged : flashHere image p ≡ true → damaged before ≡ true → Is (refused 6 (pos (p - 2) ∷ []))
   unfolding damageRefusals
-  before-hurt f d = sym (stop _ _ _ (both (flashHere image p) (damaged before) f d))
+  before-damaged f d = sym (stop _ _ _ (both (flashHere image p) (damaged before) f d))
 
   -- where p - 2 has none, the targets decide
   rest : (flashHere image p && damaged before) ≡ false → (ts : List ℕ) → targets (tracerOf image) m p ≡ ts → Is (judged (length image) m ts)

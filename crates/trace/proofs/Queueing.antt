@@ -28,7 +28,7 @@ module _ (o : List ℕ) (t : ℕ) (o′ : List ℕ) (t′ : ℕ) (ps : List ℕ)
   pub noted-put : {n : ℕ} {ts m m′ : List ℕ} → (ps ≡ fresh n ts m) × (m′ ≡ note n ts m) → Noted n ts m o t m′ o′ t′
   noted-put {n} {ts} {m} a = record { marks-are = a .1; order-is = put-order (fresh n ts m) (a .0); tail-is = put-tail (fresh n ts m) (a .0) }
 
-pub taken-put : (image m : List ℕ) (p : ℕ) (r : Taken) (m′ o : List ℕ) (t : ℕ) (o′ : List ℕ) (t′ : ℕ) → TakenUp (tracerOf image) m p r m′ → Put o t (placesIn (r .noted)) o′ t′ → queue.TakenUp (tracerOf image) p m o t m′ o′ t′
+pub taken-put : (image m : List ℕ) (p : ℕ) (r : Taken) (m′ o : List ℕ) (t : ℕ) (o′ : List ℕ) (t′ : ℕ) → TakenUp (tracerOf image) m p r m′ → Put o t (placesIn (r .noted)) o′ t′ → queue.TakenInOrder (tracerOf image) p m o t m′ o′ t′
 taken-put image m p r m′ o t o′ t′ T P =
     record {
       marks-are = T .marks-are;

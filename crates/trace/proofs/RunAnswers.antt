@@ -9,7 +9,7 @@ use lib.ListN.{length}
 use borrow.Author.Tests.{lt-ltb, le-ltb}
 use Rattle.instruction.specs.Answer.{Answer, accepted, refused, Refusal, refuse}
 use Rattle.instruction.proofs.Judging.{pass, stop, done}
-use Rattle.trace.specs.Run.{Said, ranOf, runJudged, runAnswer, runMarks, runOrder, RanTo, StepsTied}
+use Rattle.trace.specs.Run.{RunResult, ranOf, runJudged, runAnswer, runMarks, runOrder, RanTo, StepsTied}
 use Rattle.trace.specs.declared.run.Ran.{Ran}
 use Rattle.marks.proofs.Sizing as sizing
 
@@ -21,7 +21,7 @@ module _ (image marks order entries : List ℕ) (limit : ℕ) where
   abbrev later : List Refusal
   later = refuse (ltb (length order) n) 3 (pos (length order) ∷ []) ∷ []
 
-  abbrev Is : Answer Said → List ℕ → List ℕ → Type 0
+  abbrev Is : Answer RunResult → List ℕ → List ℕ → Type 0
   Is a m o = (a ≡ runAnswer image marks order entries limit) × (m ≡ runMarks image marks order entries limit) × (o ≡ runOrder image marks order entries limit)
 
   -- a refusal changes nothing

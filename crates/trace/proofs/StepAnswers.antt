@@ -16,7 +16,7 @@ use Rattle.instruction.proofs.Judging.{pass, stop}
 use Rattle.instruction.specs.Decode.{cutAt}
 use Rattle.reach.specs.Tracer.{took}
 use Rattle.marks.specs.Refusals.{damaged}
-use Rattle.trace.specs.Step.{idle, damageRefusals, stepRefusals, Said, saidOf, stepAnswer, stepMarks}
+use Rattle.trace.specs.Step.{idle, damageRefusals, stepRefusals, StepResult, stepResult, stepAnswer, stepMarks}
 use Rattle.marks.specs.Tracer.{tracerOf}
 use Rattle.targets.specs.At.{fitsHere}
 use Rattle.marks.proofs.Sizing as sizing
@@ -45,7 +45,7 @@ module _ (image m : List ℕ) (p : ℕ) where
   abbrev v : ℕ
   v = getD m p 0
 
-  abbrev Is : Answer Said → List ℕ → Type 0
+  abbrev Is : Answer StepResult → List ℕ → Type 0
   Is r t = (r ≡ stepAnswer image m p) × (t ≡ stepMarks image m p)
 
   -- the refusals after 1 and 2
@@ -57,45 +57,45 @@ module _ (image m : List ℕ) (p : ℕ) where
       ∷ refuse (not (fitsHere image p)) 5 (cutValues (cutAt image p))
       ∷ damageRefusals image m p
 
-  held : (r : Answer Said) → stepAnswer image m p ≡ r → (t : List ℕ) → after r (took (tracerOf image) m p) m ≡ t → Is r t
+  held : (r : Answer StepResult) → stepAnswer image m p ≡ r → (t : List ℕ) → after r (took (tracerOf image) m p) m ≡ t → Is r t
   unfolding stepMarks
   held r e t f = (sym e, rw e (sym f))
 
   pub long : 65536 < n → Is (refused 1 (pos n ∷ [])) m
   unfolding stepAnswer stepRefusals
-  long h = held (refused 1 (pos n ∷ [])) (sizing.long-image image m later (saidOf image m p) h) m refl
+  long h = held (refused 1 (pos n ∷ [])) (sizing.long-image image m later (stepResult image m p) h) m refl
 
   module _ (fits : n ≤ 65536) where
     pub short : length m < n → Is (refused 2 (pos (length m) ∷ [])) m
     unfolding stepAnswer stepRefusals
-    short h = held (refused 2 (pos (length m) ∷ [])) (sizing.short-marks image m later (saidOf image m p) fits h) m refl
+    short h = held (refused 2 (pos (length m) ∷ [])) (sizing.short-marks image m later (stepResult image m p) fits h) m refl
 
     module _ (room : n ≤ length m) where
       pub outside : n ≤ p → Is (refused 4 (pos 0 ∷ [])) m
       unfolding stepAnswer stepRefusals
       outside h =
-          held (refused 4 (pos 0 ∷ [])) (sizing.right-sizes image m later (saidOf image m p) fits room ∙ stop _ _ _ (le-leb n p h)) m refl
+          held (refused 4 (pos 0 ∷ [])) (sizing.right-sizes image m later (stepResult image m p) fits room ∙ stop _ _ _ (le-leb n p h)) m refl
 
       module _ (inside : p < n) where
         -- what follows the tests of the sizes and of the position
-        begun : stepAnswer image m p ≡ judge (refuse (idle v) 4 (pos v ∷ []) ∷ refuse (damaged v) 6 (pos p ∷ []) ∷ refuse (not (fitsHere image p)) 5 (cutValues (cutAt image p)) ∷ damageRefusals image m p) (saidOf image m p)
+        begun : stepAnswer image m p ≡ judge (refuse (idle v) 4 (pos v ∷ []) ∷ refuse (damaged v) 6 (pos p ∷ []) ∷ refuse (not (fitsHere image p)) 5 (cutValues (cutAt image p)) ∷ damageRefusals image m p) (stepResult image m p)
         unfolding stepAnswer stepRefusals
-        begun = sizing.right-sizes image m later (saidOf image m p) fits room ∙ pass _ _ _ (lt-leb n p inside)
+        begun = sizing.right-sizes image m later (stepResult image m p) fits room ∙ pass _ _ _ (lt-leb n p inside)
 
-        pub hurt : 3 < v → Is (refused 6 (pos p ∷ [])) m
-        hurt h =
+        pub damaged-mark : 3 < v → Is (refused 6 (pos p ∷ [])) m
+        damaged-mark h =
             held (refused 6 (pos p ∷ [])) (begun ∙ pass _ _ _ (not-idle v (λ e. omega arith) (λ e. omega arith) (λ e. omega arith)) ∙ stop _ _ _ (lt-ltb 3 v h)) m refl
 
         pub not-waiting : v ≤ 3 → (v ≡ 1 → ⊥) → Is (refused 4 (pos v ∷ [])) m
         not-waiting h w = held (refused 4 (pos v ∷ [])) (begun ∙ stop _ _ _ (idle-marks v h w)) m refl
 
         module _ (waits : v ≡ 1) where
-          waiting : stepAnswer image m p ≡ judge (refuse (not (fitsHere image p)) 5 (cutValues (cutAt image p)) ∷ damageRefusals image m p) (saidOf image m p)
+          waiting : stepAnswer image m p ≡ judge (refuse (not (fitsHere image p)) 5 (cutValues (cutAt image p)) ∷ damageRefusals image m p) (stepResult image m p)
           waiting = begun ∙ pass _ _ _ (ap idle waits) ∙ pass _ _ _ (ap damaged waits)
 
           pub cut : (c : CutOff) → (fitsHere image p ≡ false) × (cutValues c ≡ cutValues (cutAt image p)) → Is (refused 5 (cutValues c)) m
           cut c h = held (refused 5 (cutValues c)) (waiting ∙ stop _ _ _ (rw (h .0)) ∙ ap (refused 5) (sym (h .1))) m refl
 
-          pub whole : fitsHere image p ≡ true → (r : Answer Said) (t : List ℕ) → Inner image m p r t → Is r t
+          pub whole : fitsHere image p ≡ true → (r : Answer StepResult) (t : List ℕ) → Inner image m p r t → Is r t
           unfolding stepMarks
-          whole f r t h = let e : stepAnswer image m p ≡ judge (damageRefusals image m p) (saidOf image m p) = waiting ∙ pass _ _ _ (rw f) in (h .0 ∙ sym e, rw e (h .1))
+          whole f r t h = let e : stepAnswer image m p ≡ judge (damageRefusals image m p) (stepResult image m p) = waiting ∙ pass _ _ _ (rw f) in (h .0 ∙ sym e, rw e (h .1))

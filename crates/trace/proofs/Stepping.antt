@@ -8,7 +8,7 @@ use lib.ListN.{length}
 use Rattle.instruction.specs.Answer.{Answer, accepted, refused, judge, after}
 use Rattle.instruction.proofs.Judging.{refuses-too, accepts-too}
 use Rattle.reach.specs.Tracer.{took}
-use Rattle.trace.specs.Step.{damageRefusals, Said, saidOf, steppedOf}
+use Rattle.trace.specs.Step.{damageRefusals, StepResult, stepResult, steppedOf}
 use Rattle.marks.specs.Taken.{TakenUp}
 use Rattle.targets.specs.Ways.{placesIn}
 use Rattle.marks.specs.Tracer.{tracerOf}
@@ -21,22 +21,22 @@ module _ (image m : List ℕ) (p : ℕ) where
   taken = took (tracerOf image) m p
 
   -- of a step at a waiting position where an instruction stands
-  abbrev inner : Answer Said
-  inner = judge (damageRefusals image m p) (saidOf image m p)
+  abbrev inner : Answer StepResult
+  inner = judge (damageRefusals image m p) (stepResult image m p)
 
-  abbrev pub Inner : Answer Said → List ℕ → Type 0
+  abbrev pub Inner : Answer StepResult → List ℕ → Type 0
   Inner r t = (r ≡ inner) × (t ≡ after inner taken m)
 
-  inner-held : (r : Answer Said) → inner ≡ r → (t : List ℕ) → after r taken m ≡ t → Inner r t
+  inner-held : (r : Answer StepResult) → inner ≡ r → (t : List ℕ) → after r taken m ≡ t → Inner r t
   inner-held r e t f = (sym e, rw e (sym f))
 
-  pub hurt-said : (q : ℕ) → refused 6 (pos q ∷ []) ≡ judge {A = Unit {0}} (damageRefusals image m p) tt → Inner (refused 6 (pos q ∷ [])) m
-  hurt-said q e = inner-held (refused 6 (pos q ∷ [])) (refuses-too (damageRefusals image m p) tt (saidOf image m p) 6 (pos q ∷ []) (sym e)) m refl
+  pub damaged-said : (q : ℕ) → refused 6 (pos q ∷ []) ≡ judge {A = Unit {0}} (damageRefusals image m p) tt → Inner (refused 6 (pos q ∷ [])) m
+  damaged-said q e = inner-held (refused 6 (pos q ∷ [])) (refuses-too (damageRefusals image m p) tt (stepResult image m p) 6 (pos q ∷ []) (sym e)) m refl
 
-  abbrev said : ℕ → ℕ → Said
+  abbrev said : ℕ → ℕ → StepResult
   said a b = record { mark = a; waiting = b }
 
   pub took-said : accepted tt ≡ judge {A = Unit {0}} (damageRefusals image m p) tt → (r : Taken) (m′ : List ℕ) → TakenUp (tracerOf image) m p r m′ → (k : ℕ) → k ≡ length (placesIn (r .noted)) → (s : Advance) → (s .mark ≡ r .mark) × (s .waiting ≡ k) → Inner (steppedOf (Traced s)) m′
   took-said e r m′ t k f s g =
-      let v : saidOf image m p ≡ said (s .mark) (s .waiting) = ap₂ said (sym (g .0 ∙ t .mark-is)) (sym (g .1 ∙ f ∙ ap length (t .noted-are))) in
-      inner-held (steppedOf (Traced s)) (accepts-too (damageRefusals image m p) tt (saidOf image m p) (sym e) ∙ ap accepted v) m′ (sym (t .marks-are))
+      let v : stepResult image m p ≡ said (s .mark) (s .waiting) = ap₂ said (sym (g .0 ∙ t .mark-is)) (sym (g .1 ∙ f ∙ ap length (t .noted-are))) in
+      inner-held (steppedOf (Traced s)) (accepts-too (damageRefusals image m p) tt (stepResult image m p) (sym e) ∙ ap accepted v) m′ (sym (t .marks-are))

@@ -12,13 +12,13 @@ use Rattle.instruction.specs.CutOff.{cutValues}
 use Rattle.instruction.specs.declared.answer.CutOff.{CutOff}
 use Rattle.instruction.specs.Decode.{cutAt}
 use Rattle.reach.specs.Mark.{cleared, tracedMark, count}
-use Rattle.reach.specs.Queue.{TakenUp}
+use Rattle.reach.specs.Queue.{TakenInOrder}
 use Rattle.reach.specs.Run.{End, finished, stopped, cutOff, Outcome, steps, noted, ordered, runOf}
 use Rattle.marks.specs.Refusals.{sizeRefusals}
 use Rattle.marks.specs.Tracer.{tracerOf}
 use Rattle.targets.specs.At.{fitsHere}
-use Rattle.trace.specs.declared.run.Turn.{Turn}
-use Rattle.trace.specs.declared.run.Turn.the-variants.{On, Off}
+use Rattle.trace.specs.declared.run.TookNext.{TookNext}
+use Rattle.trace.specs.declared.run.TookNext.the-variants.{On, Off}
 use Rattle.trace.specs.declared.run.Ran.{Ran}
 use Rattle.trace.specs.declared.run.Ran.the-variants.{Finished, Stopped, LongImage, ShortMarks, ShortOrder, Cut}
 
@@ -35,39 +35,39 @@ unfoldable pub outcomeOf : List ℕ → List ℕ → List ℕ → ℕ → Outcom
 outcomeOf image marks entries limit = runOf limit (tracerOf image) entries (cleared (length image) marks)
 
 -- whether it is finished, the steps and the positions noted
-pub record Said : Type 0 where
+pub record RunResult : Type 0 where
   pub finished : Bool
   pub steps : ℕ
   pub noted : ℕ
 
-abbrev pub said : Bool → ℕ → ℕ → Answer Said
-said b s n = accepted (record { finished = b; steps = s; noted = n })
+abbrev pub runAccepted : Bool → ℕ → ℕ → Answer RunResult
+runAccepted b s n = accepted (record { finished = b; steps = s; noted = n })
 
-abbrev pub ranOf : Ran → Answer Said
-ranOf (Finished c) = said true (c .steps) (c .noted)
-ranOf (Stopped c) = said false (c .steps) (c .noted)
+abbrev pub ranOf : Ran → Answer RunResult
+ranOf (Finished c) = runAccepted true (c .steps) (c .noted)
+ranOf (Stopped c) = runAccepted false (c .steps) (c .noted)
 ranOf (LongImage n) = refused 1 (pos n ∷ [])
 ranOf (ShortMarks n) = refused 2 (pos n ∷ [])
 ranOf (ShortOrder n) = refused 3 (pos n ∷ [])
 ranOf (Cut c) = refused 5 (cutValues c)
 
 -- how it ended: an instruction cut off is 5, with position and first byte
-abbrev pub endOf : List ℕ → End → ℕ → ℕ → Answer Said
-endOf image finished s n = said true s n
-endOf image stopped s n = said false s n
+abbrev pub endOf : List ℕ → End → ℕ → ℕ → Answer RunResult
+endOf image finished s n = runAccepted true s n
+endOf image stopped s n = runAccepted false s n
 endOf image (cutOff p) s n = refused 5 (cutValues (cutAt image p))
 
-abbrev pub ranAnswer : List ℕ → Outcome → Answer Said
+abbrev pub ranAnswer : List ℕ → Outcome → Answer RunResult
 ranAnswer image out = endOf image (out .end) (steps out) (length (noted out))
 
 -- a refusal where there is one, else what follows
-abbrev pub orElse : {A B : Type 0} → Answer A → Answer B → Answer B
-orElse (accepted a) b = b
-orElse (refused n vs) b = refused n vs
+abbrev pub andThen : {A B : Type 0} → Answer A → Answer B → Answer B
+andThen (accepted a) b = b
+andThen (refused n vs) b = refused n vs
 
-unfoldable pub runAnswer : List ℕ → List ℕ → List ℕ → List ℕ → ℕ → Answer Said
+unfoldable pub runAnswer : List ℕ → List ℕ → List ℕ → List ℕ → ℕ → Answer RunResult
 runAnswer image marks order entries limit =
-    orElse (runJudged image marks order) (ranAnswer image (outcomeOf image marks entries limit))
+    andThen (runJudged image marks order) (ranAnswer image (outcomeOf image marks entries limit))
 
 -- what its start and its steps wrote: also where it ended by 5
 unfoldable pub runMarks : List ℕ → List ℕ → List ℕ → List ℕ → ℕ → List ℕ
@@ -81,8 +81,8 @@ runOrder image marks order entries limit =
 
 -- of the inner function that takes the next position up: it is taken up and what it found is written at the list's end, or its
 -- instruction is cut off and nothing changes
-pub record Turned (image m o : List ℕ) (p tail : ℕ) (r : Turn) (m′ o′ : List ℕ) : Type 0 where
-  pub on : (t : ℕ) → r ≡ On t → (fitsHere image p ≡ true) × TakenUp (tracerOf image) p m o tail m′ o′ t
+pub record NextTaken (image m o : List ℕ) (p tail : ℕ) (r : TookNext) (m′ o′ : List ℕ) : Type 0 where
+  pub on : (t : ℕ) → r ≡ On t → (fitsHere image p ≡ true) × TakenInOrder (tracerOf image) p m o tail m′ o′ t
   pub off : (c : CutOff) → r ≡ Off c → (fitsHere image p ≡ false) × (cutValues c ≡ cutValues (cutAt image p)) × (m′ ≡ m) × (o′ ≡ o)
 
 -- the steps are the marks 2 and 3 afterwards

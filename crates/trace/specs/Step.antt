@@ -14,8 +14,8 @@ use Rattle.reach.specs.Tracer.{targets, mark, took, found}
 use Rattle.marks.specs.Refusals.{sizeRefusals, damaged}
 use Rattle.marks.specs.Tracer.{tracerOf}
 use Rattle.targets.specs.At.{fitsHere, flashHere}
-use Rattle.trace.specs.declared.damage.Hurt.{Hurt}
-use Rattle.trace.specs.declared.damage.Hurt.the-variants.{Sound, At}
+use Rattle.trace.specs.declared.damage.Damage.{Damage}
+use Rattle.trace.specs.declared.damage.Damage.the-variants.{Nowhere, At}
 use Rattle.trace.specs.declared.step.Stepped.{Stepped}
 use Rattle.trace.specs.declared.step.Stepped.the-variants.{Traced, LongImage, ShortMarks, NotWaiting, Cut, Damaged}
 
@@ -43,16 +43,16 @@ stepRefusals image m p =
     ∷ damageRefusals image m p)
 
 -- the new mark, and how many became 1
-pub record Said : Type 0 where
+pub record StepResult : Type 0 where
   pub mark : ℕ
   pub waiting : ℕ
 
 -- of the inner search for damage
-abbrev pub hurtOf : Hurt → Answer (Unit {0})
-hurtOf Sound = accepted tt
-hurtOf (At q) = refused 6 (pos q ∷ [])
+abbrev pub damageOf : Damage → Answer (Unit {0})
+damageOf Nowhere = accepted tt
+damageOf (At q) = refused 6 (pos q ∷ [])
 
-abbrev pub steppedOf : Stepped → Answer Said
+abbrev pub steppedOf : Stepped → Answer StepResult
 steppedOf (Traced s) = accepted (record { mark = s .mark; waiting = s .waiting })
 steppedOf (LongImage n) = refused 1 (pos n ∷ [])
 steppedOf (ShortMarks n) = refused 2 (pos n ∷ [])
@@ -60,12 +60,19 @@ steppedOf (NotWaiting v) = refused 4 (pos v ∷ [])
 steppedOf (Cut c) = refused 5 (cutValues c)
 steppedOf (Damaged q) = refused 6 (pos q ∷ [])
 
-abbrev pub saidOf : List ℕ → List ℕ → ℕ → Said
-saidOf image m p = record { mark = mark (tracerOf image) m p; waiting = length (found (tracerOf image) m p) }
+abbrev pub stepResult : List ℕ → List ℕ → ℕ → StepResult
+stepResult image m p = record { mark = mark (tracerOf image) m p; waiting = length (found (tracerOf image) m p) }
 
-unfoldable pub stepAnswer : List ℕ → List ℕ → ℕ → Answer Said
-stepAnswer image m p = judge (stepRefusals image m p) (saidOf image m p)
+unfoldable pub stepAnswer : List ℕ → List ℕ → ℕ → Answer StepResult
+stepAnswer image m p = judge (stepRefusals image m p) (stepResult image m p)
 
 -- the position taken up; a refused step changes nothing
 unfoldable pub stepMarks : List ℕ → List ℕ → ℕ → List ℕ
 stepMarks image m p = after (stepAnswer image m p) (took (tracerOf image) m p) m
+
+-- of the inner function that steps at a waiting position whose instruction is whole
+abbrev pub wholeAnswer : List ℕ → List ℕ → ℕ → Answer StepResult
+wholeAnswer image m p = judge (damageRefusals image m p) (stepResult image m p)
+
+abbrev pub wholeMarks : List ℕ → List ℕ → ℕ → List ℕ
+wholeMarks image m p = after (wholeAnswer image m p) (took (tracerOf image) m p) m

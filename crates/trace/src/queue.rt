@@ -10,7 +10,8 @@ use targets::Places;
 // Writes these positions at the list's end: its new end.
 pub fn put(order: &mut [u32], tail: usize, ps: Places) -> usize
     requires { ⌜ tail + length (placesIn ps) ≤ length (now order) ⌝ }
-    ensures { λ r. ⌜ (r ≡ tail + length (placesIn ps)) × (now (order .exit) ≡ sets (now (order .entry)) tail (placesIn ps)) ⌝ }
+    ensures { λ r. ⌜ r ≡ tail + length (placesIn ps) ⌝ }
+    ensures { λ _. ⌜ now (order .exit) ≡ sets (now (order .entry)) tail (placesIn ps) ⌝ }
 {
     match ps {
         Places::Nothing => tail,

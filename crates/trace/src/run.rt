@@ -5,7 +5,7 @@ ghost use mathlib.Core.Path.{_≡_};
 ghost use Prim.Native.Nat.{_+_, _≤_, _<_};
 ghost use lib.ListN.{length};
 ghost use Rattle.reach.specs.Tracer.{found};
-ghost use Rattle.trace.specs.Run.{ranOf, runAnswer, runMarks, runOrder, RanTo, StepsTied, Turned};
+ghost use Rattle.trace.specs.Run.{ranOf, runAnswer, runMarks, runOrder, RanTo, StepsTied, NextTaken};
 ghost use Rattle.marks.specs.Tracer.{tracerOf};
 use crate::queue;
 use instruction::CutOff;
@@ -42,32 +42,33 @@ pub enum Ran {
 }
 
 // The list's new end, or the instruction cut off.
-enum Turn {
+enum TookNext {
     On(usize),
     Off(CutOff),
 }
 
 // Takes up p, the next of the queue, and writes what it found at the list's end.
-fn take_next(image: &[u8], marks: &mut [u8], order: &mut [u32], p: u32, tail: usize) -> Turn
+fn take_next(image: &[u8], marks: &mut [u8], order: &mut [u32], p: u32, tail: usize) -> TookNext
     requires { ⌜ (p < length (now image)) × (length (now image) ≤ 65536) × (length (now image) ≤ length (now marks)) ⌝ }
     requires { ⌜ tail + length (found (tracerOf (now image)) (now marks) p) ≤ length (now order) ⌝ }
-    ensures { λ r. ⌜ Turned (now (image .entry)) (now (marks .entry)) (now (order .entry)) p tail r (now (marks .exit)) (now (order .exit)) ⌝ }
+    ensures { λ r. ⌜ NextTaken (now (image .entry)) (now (marks .entry)) (now (order .entry)) p tail r (now (marks .exit)) (now (order .exit)) ⌝ }
 {
     match targets::ways_at(image, p) {
         Ways::Goes(to) => {
             let taken = marks::take_up(image, marks, p, to);
             let noted = taken.noted;
-            Turn::On(queue::put(order, tail, noted))
+            TookNext::On(queue::put(order, tail, noted))
         }
-        Ways::Cut(c) => Turn::Off(c),
-        Ways::Outside => Turn::On(tail),
+        Ways::Cut(c) => TookNext::Off(c),
+        Ways::Outside => TookNext::On(tail),
     }
 }
 
 // A run where the sizes are right.
 fn run_on(image: &[u8], marks: &mut [u8], order: &mut [u32], entries: &[u32], limit: u32) -> Ran
     requires { ⌜ (length (now image) ≤ 65536) × (length (now image) ≤ length (now marks)) × (length (now image) ≤ length (now order)) ⌝ }
-    ensures { λ r. ⌜ RanTo (now (image .entry)) (now (marks .entry)) (now (order .entry)) (now (entries .entry)) limit r (now (marks .exit)) (now (order .exit)) ⌝ }
+    ensures { λ r.
+        ⌜ RanTo (now (image .entry)) (now (marks .entry)) (now (order .entry)) (now (entries .entry)) limit r (now (marks .exit)) (now (order .exit)) ⌝ }
 {
     let n = image.len();
     marks::clear(marks, n);
@@ -80,8 +81,8 @@ fn run_on(image: &[u8], marks: &mut [u8], order: &mut [u32], entries: &[u32], li
         }
         let p = order[head];
         match take_next(image, marks, order, p, tail) {
-            Turn::On(t) => tail = t,
-            Turn::Off(c) => return Ran::Cut(c),
+            TookNext::On(t) => tail = t,
+            TookNext::Off(c) => return Ran::Cut(c),
         }
         head += 1;
     }
@@ -90,7 +91,10 @@ fn run_on(image: &[u8], marks: &mut [u8], order: &mut [u32], entries: &[u32], li
 
 // A run from the entries, for at most limit steps.
 pub fn run(image: &[u8], marks: &mut [u8], order: &mut [u32], entries: &[u32], limit: u32) -> Ran
-    ensures { λ r. ⌜ (ranOf r ≡ runAnswer (now (image .entry)) (now (marks .entry)) (now (order .entry)) (now (entries .entry)) limit) × (now (marks .exit) ≡ runMarks (now (image .entry)) (now (marks .entry)) (now (order .entry)) (now (entries .entry)) limit) × (now (order .exit) ≡ runOrder (now (image .entry)) (now (marks .entry)) (now (order .entry)) (now (entries .entry)) limit) × StepsTied (now (image .entry)) r (now (marks .exit)) ⌝ }
+    ensures { λ r. ⌜ ranOf r ≡ runAnswer (now (image .entry)) (now (marks .entry)) (now (order .entry)) (now (entries .entry)) limit ⌝ }
+    ensures { λ _. ⌜ now (marks .exit) ≡ runMarks (now (image .entry)) (now (marks .entry)) (now (order .entry)) (now (entries .entry)) limit ⌝ }
+    ensures { λ _. ⌜ now (order .exit) ≡ runOrder (now (image .entry)) (now (marks .entry)) (now (order .entry)) (now (entries .entry)) limit ⌝ }
+    ensures { λ r. ⌜ StepsTied (now (image .entry)) r (now (marks .exit)) ⌝ }
 {
     let n = image.len();
     if Image::LIMIT < n {

@@ -18,7 +18,8 @@ pub enum Started {
 // Notes the entries in their order: how many became waiting.
 fn note_entries(marks: &mut [u8], n: usize, entries: &[u32]) -> usize
     requires { ⌜ n ≤ length (now marks) ⌝ }
-    ensures { λ r. ⌜ (r ≡ length (fresh n (now (entries .entry)) (now (marks .entry)))) × (now (marks .exit) ≡ note n (now (entries .entry)) (now (marks .entry))) ⌝ }
+    ensures { λ r. ⌜ r ≡ length (fresh n (now (entries .entry)) (now (marks .entry))) ⌝ }
+    ensures { λ _. ⌜ now (marks .exit) ≡ note n (now (entries .entry)) (now (marks .entry)) ⌝ }
 {
     let mut set: usize = 0;
     let mut i = 0;
@@ -31,7 +32,8 @@ fn note_entries(marks: &mut [u8], n: usize, entries: &[u32]) -> usize
 
 // Clears the marks and sets those of the entries inside the image.
 pub fn start(image: &[u8], marks: &mut [u8], entries: &[u32]) -> Started
-    ensures { λ r. ⌜ (startedOf r ≡ startAnswer (now (image .entry)) (now (marks .entry)) (now (entries .entry))) × (now (marks .exit) ≡ startMarks (now (image .entry)) (now (marks .entry)) (now (entries .entry))) ⌝ }
+    ensures { λ r. ⌜ startedOf r ≡ startAnswer (now (image .entry)) (now (marks .entry)) (now (entries .entry)) ⌝ }
+    ensures { λ _. ⌜ now (marks .exit) ≡ startMarks (now (image .entry)) (now (marks .entry)) (now (entries .entry)) ⌝ }
 {
     let n = image.len();
     if Image::LIMIT < n {

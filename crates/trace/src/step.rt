@@ -2,14 +2,11 @@
 ghost use mathlib.Core.Path.{_≡_};
 ghost use Prim.Native.Nat.{_≤_, _<_};
 ghost use lib.ListN.{length};
-ghost use Rattle.instruction.specs.Answer.{judge, after};
-ghost use Rattle.reach.specs.Tracer.{took};
-ghost use Rattle.trace.specs.Step.{damageRefusals, saidOf, steppedOf, stepAnswer, stepMarks};
+ghost use Rattle.trace.specs.Step.{steppedOf, stepAnswer, stepMarks, wholeAnswer, wholeMarks};
 ghost use Rattle.targets.specs.Ways.{placesIn};
-ghost use Rattle.marks.specs.Tracer.{tracerOf};
 ghost use Rattle.targets.specs.At.{waysHere};
 use crate::damage;
-use crate::damage::Hurt;
+use crate::damage::Damage;
 use instruction::CutOff;
 use marks::Mark;
 use targets::Image;
@@ -58,9 +55,10 @@ fn count(noted: Places) -> u32
 // A step at a waiting position with these targets.
 fn step_whole(image: &[u8], marks: &mut [u8], p: u32, to: Places) -> Stepped
     requires { ⌜ (p < length (now image)) × (length (now image) ≤ length (now marks)) × (placesIn to ≡ waysHere (now image) p) ⌝ }
-    ensures { λ r. ⌜ (steppedOf r ≡ judge (damageRefusals (now (image .entry)) (now (marks .entry)) p) (saidOf (now (image .entry)) (now (marks .entry)) p)) × (now (marks .exit) ≡ after (judge (damageRefusals (now (image .entry)) (now (marks .entry)) p) (saidOf (now (image .entry)) (now (marks .entry)) p)) (took (tracerOf (now (image .entry))) (now (marks .entry)) p) (now (marks .entry))) ⌝ }
+    ensures { λ r. ⌜ steppedOf r ≡ wholeAnswer (now (image .entry)) (now (marks .entry)) p ⌝ }
+    ensures { λ _. ⌜ now (marks .exit) ≡ wholeMarks (now (image .entry)) (now (marks .entry)) p ⌝ }
 {
-    if let Hurt::At(q) = damage::find_damage(image, marks, p, to) {
+    if let Damage::At(q) = damage::find_damage(image, marks, p, to) {
         return Stepped::Damaged(q);
     }
     let taken = marks::take_up(image, marks, p, to);
@@ -70,7 +68,8 @@ fn step_whole(image: &[u8], marks: &mut [u8], p: u32, to: Places) -> Stepped
 
 // Takes up one waiting position.
 pub fn step(image: &[u8], marks: &mut [u8], p: u32) -> Stepped
-    ensures { λ r. ⌜ (steppedOf r ≡ stepAnswer (now (image .entry)) (now (marks .entry)) p) × (now (marks .exit) ≡ stepMarks (now (image .entry)) (now (marks .entry)) p) ⌝ }
+    ensures { λ r. ⌜ steppedOf r ≡ stepAnswer (now (image .entry)) (now (marks .entry)) p ⌝ }
+    ensures { λ _. ⌜ now (marks .exit) ≡ stepMarks (now (image .entry)) (now (marks .entry)) p ⌝ }
 {
     let n = image.len();
     if Image::LIMIT < n {

@@ -15,7 +15,7 @@ use Rattle.instruction.proofs.Accepting.{passed}
 use Rattle.reach.specs.Takes.{Ready}
 use Rattle.reach.specs.Tracer.{targets, took}
 use Rattle.marks.specs.Refusals.{damaged}
-use Rattle.trace.specs.Step.{idle, damages, damageRefusals, stepRefusals, Said, saidOf, stepAnswer, stepMarks}
+use Rattle.trace.specs.Step.{idle, damages, damageRefusals, stepRefusals, StepResult, stepResult, stepAnswer, stepMarks}
 use Rattle.marks.specs.Tracer.{tracerOf}
 use Rattle.targets.specs.At.{fitsHere, flashHere}
 use Rattle.targets.proofs.Ands.{not-second}
@@ -39,7 +39,7 @@ fitted : (b : Bool) → not b ≡ false → b ≡ true
 fitted true e = refl
 fitted false e = absurd (never e)
 
-pub went : (image m : List ℕ) (p : ℕ) (s : Said) → stepAnswer image m p ≡ accepted s → Went image m p
+pub went : (image m : List ℕ) (p : ℕ) (s : StepResult) → stepAnswer image m p ≡ accepted s → Went image m p
 unfolding stepAnswer stepRefusals stepMarks
 went image m p s e =
     let a = passed _ _ _ e in
@@ -53,7 +53,7 @@ went image m p s e =
       small = ltb-false 65536 (length image) (a .0);
       room = ltb-false (length m) (length image) (b .0);
       ready = record { inside = inside; waits = waits (getD m p 0) (d .0) (ltb-false 3 (getD m p 0) (f .0)); whole = fitted (fitsHere image p) (g .0) };
-      marks = ap (λ (r : Answer Said). after r (took (tracerOf image) m p) m) e;
+      marks = ap (λ (r : Answer StepResult). after r (took (tracerOf image) m p) m) e;
     }
 
 -- no mark inside is over 3
@@ -70,12 +70,12 @@ module _ (image m : List ℕ) (S : Sound image m) where
       by true e = not-second (ltb t (length image)) (damaged (getD m t 0)) (le-ltb 3 (getD m t 0) (S t (ltb-true t (length image) e)))
       by false e = rw e
 
-  sound-said : (p : ℕ) → p < length image → judge (damageRefusals image m p) (saidOf image m p) ≡ accepted (saidOf image m p)
+  sound-said : (p : ℕ) → p < length image → judge (damageRefusals image m p) (stepResult image m p) ≡ accepted (stepResult image m p)
   unfolding damageRefusals
   sound-said p h =
       let k : p - 2 < length image = omega arith in
-      pass _ _ _ (not-second (flashHere image p) (damaged (getD m (p - 2) 0)) (le-ltb 3 (getD m (p - 2) 0) (S (p - 2) k))) ∙ no-damage (saidOf image m p) (targets (tracerOf image) m p)
+      pass _ _ _ (not-second (flashHere image p) (damaged (getD m (p - 2) 0)) (le-ltb 3 (getD m (p - 2) 0) (S (p - 2) k))) ∙ no-damage (stepResult image m p) (targets (tracerOf image) m p)
 
-  pub ready-accepted : length image ≤ 65536 → length image ≤ length m → (p : ℕ) → Ready (tracerOf image) m p → stepAnswer image m p ≡ accepted (saidOf image m p)
+  pub ready-accepted : length image ≤ 65536 → length image ≤ length m → (p : ℕ) → Ready (tracerOf image) m p → stepAnswer image m p ≡ accepted (stepResult image m p)
   ready-accepted s l p r =
-      sym (whole image m p s l (r .inside) (r .waits) (r .whole) (accepted (saidOf image m p)) _ (sym (sound-said p (r .inside)), refl) .0)
+      sym (whole image m p s l (r .inside) (r .waits) (r .whole) (accepted (stepResult image m p)) _ (sym (sound-said p (r .inside)), refl) .0)

@@ -13,7 +13,7 @@ use Rattle.instruction.specs.declared.kind.Kind.{Kind}
 use Rattle.instruction.specs.declared.kind.Kind.the-variants.{Absent, Immediate, Direct, Register, BitNumber, Page, Far, Short, Long}
 use Rattle.instruction.proofs.Sign.{natural}
 use Rattle.instruction.specs.Code.{codeOf}
-use Rattle.instruction.specs.Resolution.{noAddress, top, wrapped, operandRefusals, fieldOf}
+use Rattle.instruction.specs.ResolveOperand.{noAddress, top, wrapped, operandRefusals, fieldOf}
 use Rattle.instruction.proofs.Resolving.{address-is, wraps-is}
 use Rattle.instruction_laws.specs.PartsMade.{used}
 use Rattle.instruction.proofs.Accepting.{passed}

@@ -13,7 +13,7 @@ use Rattle.reach.specs.Mark.{tracedMark, count}
 use Rattle.reach.proofs.Count.{count-under}
 use Rattle.reach.proofs.Took.{count-took}
 use Rattle.trace_laws.specs.ClaimsImages.{Steps, stay, further, Still, ImageCanEnd}
-use Rattle.trace.specs.Step.{Said, stepAnswer, stepMarks}
+use Rattle.trace.specs.Step.{StepResult, stepAnswer, stepMarks}
 use Rattle.marks.specs.Tracer.{tracerOf}
 use Rattle.trace_laws.proofs.Accepted.{went}
 
@@ -22,15 +22,15 @@ module _ (image : List ℕ) where
   done m = count tracedMark (take (length image) m)
 
   abbrev Not : List ℕ → ℕ → Type 0
-  Not m p = (s : Said) → stepAnswer image m p ≡ accepted s → ⊥
+  Not m p = (s : StepResult) → stepAnswer image m p ≡ accepted s → ⊥
 
   abbrev Some : List ℕ → Type 0
-  Some m = (p : ℕ) × (s : Said) × (stepAnswer image m p ≡ accepted s)
+  Some m = (p : ℕ) × (s : StepResult) × (stepAnswer image m p ≡ accepted s)
 
   step-or-not : (m : List ℕ) (p : ℕ) → Some m ⊎ Not m p
   step-or-not m p = by (stepAnswer image m p) refl
     where
-      by : (r : Answer Said) → stepAnswer image m p ≡ r → Some m ⊎ Not m p
+      by : (r : Answer StepResult) → stepAnswer image m p ≡ r → Some m ⊎ Not m p
       by (accepted s) e = inl (p, s, e)
       by (refused n vs) e =
           inr (λ s f. let g : refused n vs ≡ accepted s = sym e ∙ f in let z : _≡_ {A = ℕ} 0 1 = cc in omega arith)

@@ -23,7 +23,7 @@ use Rattle.reach.proofs.Took.{Moved, itself, kept, called, moved, mark-traced, 
 use Rattle.trace_laws.specs.ClaimsImages as claims
 use Rattle.trace.specs.Run.{outcomeOf}
 use Rattle.trace.specs.Start.{startAnswer, startMarks}
-use Rattle.trace.specs.Step.{saidOf}
+use Rattle.trace.specs.Step.{stepResult}
 use Rattle.marks.specs.Tracer.{tracerOf}
 use Rattle.trace_laws.proofs.Accepted.{went, Sound, ready-accepted}
 use Rattle.trace_laws.proofs.Unflashed.{plain}
@@ -84,7 +84,7 @@ to-end image marks entries m T =
     let t : Takes (tracerOf image) (note (length image) entries (cleared (length image) marks)) (T .order) m = subst (λ (x : List ℕ). Takes (tracerOf image) x (T .order) m) (s .marks-are) (takes image (T .steps)) in
     let l : length image ≤ length (note (length image) entries (cleared (length image) marks)) = omega (arith, length-note (length image) entries (cleared (length image) marks), length-cleared (length image) marks (s .room), s .room) in
     let z = sound-along image t l (start-sound image marks entries (s .room)) in
-    record { order = T .order; takes = t; ended = λ p r. T .still p (saidOf image m p) (ready-accepted image m (z .1) (s .small) (z .0) p r) }
+    record { order = T .order; takes = t; ended = λ p r. T .still p (stepResult image m p) (ready-accepted image m (z .1) (s .small) (z .0) p r) }
 
 pub image-any-order : claims.ImageAnyOrder
 image-any-order image marks entries m B C T =

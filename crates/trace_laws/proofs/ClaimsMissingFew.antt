@@ -8,6 +8,7 @@ use mathlib.Core.List.{List, [], _∷_}
 use lib.IntN.{ℤ}
 use lib.ListN.{length}
 use borrow.Author.Tests.{leb-false, ltb-false}
+use Rattle.instruction.specs.Bytes.{Bytes}
 use Rattle.instruction.specs.Answer.{Answer, accepted, refused, judge}
 use Rattle.instruction.specs.CutOff.{cutValues}
 use Rattle.instruction.proofs.Judging.{other-passed, this-spoke, done}
@@ -21,11 +22,10 @@ use Rattle.reach.specs.Run.{End, finished, stopped, cutOff, steps, noted}
 use Rattle.reach.specs.Tracer.{targets}
 use Rattle.reach.proofs.Order.{cleared-base}
 use Rattle.reach.proofs.Run.{run-ending}
-use Rattle.trace.specs.Run.{runJudged, ranAnswer, endOf, outcomeOf, orElse, runAnswer}
+use Rattle.trace.specs.Run.{runJudged, ranAnswer, endOf, outcomeOf, andThen, runAnswer}
 use Rattle.trace.specs.Step.{damages, damageRefusals, stepRefusals, stepAnswer}
 use Rattle.marks.specs.Tracer.{tracerOf}
 use Rattle.targets.specs.At.{fitsHere}
-use Rattle.trace_laws.specs.ClaimsImages.{Bytes}
 use Rattle.trace_laws.specs.ClaimsMissing.{StepMissing, RunMissing}
 
 -- a position inside whose instruction does not fit
@@ -78,8 +78,8 @@ run-missing image marks order entries limit vs bytes e = by (runJudged image mar
         let a = passed _ _ _ f in
         let b = passed _ _ _ (a .1) in
         let out = outcomeOf image marks entries limit in
-        let g : ranAnswer image out ≡ refused 5 vs = ap (λ (j : Answer (Unit {0})). orElse j (ranAnswer image out)) (sym f) ∙ e in
+        let g : ranAnswer image out ≡ refused 5 vs = ap (λ (j : Answer (Unit {0})). andThen j (ranAnswer image out)) (sym f) ∙ e in
         ends (ltb-false (length marks) (length image) (b .0)) (out .end) refl (steps out) (length (noted out)) g
     by (refused n ws) f =
-        let g : refused n ws ≡ refused 5 vs = ap (λ (j : Answer (Unit {0})). orElse j (ranAnswer image (outcomeOf image marks entries limit))) (sym f) ∙ e in
+        let g : refused n ws ≡ refused 5 vs = ap (λ (j : Answer (Unit {0})). andThen j (ranAnswer image (outcomeOf image marks entries limit))) (sym f) ∙ e in
         let h : n ≡ 5 = cc in let k : ws ≡ vs = cc in absurd (judged image marks order vs (f ∙ (let l : _≡_ {A = Answer (Unit {0})} (refused n ws) (refused 5 vs) = cc in l)))

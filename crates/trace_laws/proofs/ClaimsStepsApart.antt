@@ -11,7 +11,7 @@ use Rattle.trace_laws.specs.ClaimsSteps.{StartedApart, SteppedApart, Ran
 use Rattle.trace.specs.Run.{ranOf}
 use Rattle.trace.specs.Run as running
 use Rattle.trace.specs.Start.{startedOf}
-use Rattle.trace.specs.Step.{Said, steppedOf}
+use Rattle.trace.specs.Step.{StepResult, steppedOf}
 use Rattle.trace.specs.declared.run.Counts.{Counts}
 use Rattle.trace.specs.declared.run.Ran.{Ran}
 use Rattle.trace.specs.declared.run.Ran.the-variants as ran
@@ -44,7 +44,7 @@ step-refused n vs =
     (cond (eqb n 4) (stepped.NotWaiting (numberAt vs 0))
     (cond (eqb n 5) (stepped.Cut (cut vs)) (stepped.Damaged (numberAt vs 0)))))
 
-abbrev step-answered : Answer Said → Stepped
+abbrev step-answered : Answer StepResult → Stepped
 step-answered (accepted s) = stepped.Traced (record { mark = s .mark; waiting = s .waiting })
 step-answered (refused n vs) = step-refused n vs
 
@@ -59,7 +59,7 @@ step-back (stepped.Damaged q) = refl
 pub stepped-apart : SteppedApart
 stepped-apart = undone steppedOf step-answered step-back
 
-abbrev run-answered : Answer running.Said → Ran
+abbrev run-answered : Answer running.RunResult → Ran
 run-answered (accepted s) =
     let c : Counts = record { steps = s .steps; noted = s .noted } in cond (s .finished) (ran.Finished c) (ran.Stopped c)
 run-answered (refused n vs) =
@@ -77,7 +77,7 @@ run-back (ran.Cut c) = refl
 pub ran-apart : RanApart
 ran-apart = undone ranOf run-answered run-back
 
-abbrev sweep-answered : Answer sweeping.Said → Swept
+abbrev sweep-answered : Answer sweeping.SweepResult → Swept
 sweep-answered (accepted s) = swept.Ended (record { sweeps = s .sweeps; steps = s .steps })
 sweep-answered (refused n vs) = cond (eqb n 1) (swept.LongImage (numberAt vs 0)) (swept.ShortMarks (numberAt vs 0))
 

@@ -13,7 +13,7 @@ use Rattle.instruction.specs.Encode.{formIn}
 use Rattle.instruction.specs.Forms.{sizeOf}
 use Rattle.instruction.specs.Parts.{partsOf}
 use Rattle.instruction.specs.Resolve.{resolveAnswer}
-use Rattle.instruction.specs.Resolution.{operandRefusals, fieldOf}
+use Rattle.instruction.specs.ResolveOperand.{operandRefusals, fieldOf}
 use Rattle.instruction.specs.declared.instr.Instr.{Instr}
 use Rattle.instruction.specs.declared.instr.Parts.{Parts}
 use Rattle.instruction.proofs.Known.{known}

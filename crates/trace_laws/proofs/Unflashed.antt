@@ -8,9 +8,10 @@ use mathlib.Core.List.{List}
 use lib.Dec.{eqb, leb, ltb}
 use lib.ListN.{length, getD, List·getD-eq-default}
 use borrow.Author.Tests.{eqb-true, ltb-true, ltb-false}
-use Rattle.instruction.specs.Forms.{numberOf}
+use Rattle.instruction.specs.Bytes.{Bytes}
+use Rattle.instruction.specs.Forms.{formNamed}
 use Rattle.reach.specs.ClaimsOrder.{Plain}
-use Rattle.trace_laws.specs.ClaimsImages.{Bytes, Clean}
+use Rattle.trace_laws.specs.ClaimsImages.{Clean}
 use Rattle.marks.specs.Tracer.{tracerOf, exemptHere}
 use Rattle.targets.specs.At.{formHere, flashHere}
 use Rattle.targets.proofs.Ands.{first-part, second-part}
@@ -22,8 +23,8 @@ module _ (image : List ℕ) (B : Bytes image) (C : Clean image) (p : ℕ) where
   unfolding flashHere
   found e =
       let r = second-part (leb 2 p) _ e in
-      let j = first-part (eqb (formHere image p) (numberOf "Jmpf")) _ r in
-      let s = second-part (eqb (formHere image p) (numberOf "Jmpf")) _ r in
+      let j = first-part (eqb (formHere image p) (formNamed "Jmpf")) _ r in
+      let s = second-part (eqb (formHere image p) (formNamed "Jmpf")) _ r in
       (eqb-true (getD image p 0) 0x21 (sym (jmpf-by-byte (getD image p 0) (B p)) ∙ j), eqb-true (getD image (p - 2) 0) 0xB8 (first-part _ _ s), eqb-true (getD image (p - 1) 0) 0x0D (second-part (eqb (getD image (p - 2) 0) 0xB8) _ s))
 
   inside : getD image p 0 ≡ 0x21 → p < length image

@@ -5,18 +5,15 @@ use Prim.Native.Nat.{ℕ, _+_, _<_, _≤_}
 use mathlib.Core.List.{List, [], _∷_}
 use mathlib.Core.Path.{_≡_}
 use lib.ListN.{length, getD}
+use Rattle.instruction.specs.Bytes.{Bytes}
 use Rattle.instruction.specs.Answer.{accepted}
 use Rattle.reach.specs.ClaimsOrder.{Final}
 use Rattle.reach.specs.Mark.{cleared}
 use Rattle.reach.specs.Run.{finished}
 use Rattle.trace.specs.Run.{outcomeOf}
 use Rattle.trace.specs.Start.{startAnswer, startMarks}
-use Rattle.trace.specs.Step.{Said, stepAnswer, stepMarks}
+use Rattle.trace.specs.Step.{StepResult, stepAnswer, stepMarks}
 use Rattle.marks.specs.Tracer.{tracerOf}
-
--- an image is a list of bytes
-abbrev pub Bytes : List ℕ → Type 0
-Bytes image = (p : ℕ) → getD image p 0 < 256
 
 -- no B8 0D 21 in succession
 abbrev pub Clean : List ℕ → Type 0
@@ -26,11 +23,11 @@ Clean image =
 -- steps at the positions ps, one after the other, each accepted, lead from the marks m to the marks m′
 pub data Steps (image : List ℕ) : List ℕ → List ℕ → List ℕ → Type 0 where
   stay : {m : List ℕ} → Steps image m [] m
-  further : {m m′ ps : List ℕ} {p : ℕ} {s : Said} → stepAnswer image m p ≡ accepted s → Steps image (stepMarks image m p) ps m′ → Steps image m (p ∷ ps) m′
+  further : {m m′ ps : List ℕ} {p : ℕ} {s : StepResult} → stepAnswer image m p ≡ accepted s → Steps image (stepMarks image m p) ps m′ → Steps image m (p ∷ ps) m′
 
 -- no step is accepted
 abbrev pub Still : List ℕ → List ℕ → Type 0
-Still image m = (p : ℕ) (s : Said) → stepAnswer image m p ≡ accepted s → ⊥
+Still image m = (p : ℕ) (s : StepResult) → stepAnswer image m p ≡ accepted s → ⊥
 
 -- m is where some order ends: started from these entries, and accepted steps until there was none
 pub record StepsToEnd (image marks entries m : List ℕ) : Type 0 where

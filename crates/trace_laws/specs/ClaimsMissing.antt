@@ -4,11 +4,11 @@ use Prim.Native.Nat.{ℕ}
 use mathlib.Core.List.{List}
 use mathlib.Core.Path.{_≡_}
 use lib.IntN.{ℤ}
+use Rattle.instruction.specs.Bytes.{Bytes}
 use Rattle.instruction.specs.Answer.{refused}
 use Rattle.instruction_laws.specs.Missing.{OneOrTwo}
 use Rattle.trace.specs.Run.{runAnswer}
 use Rattle.trace.specs.Step.{stepAnswer}
-use Rattle.trace_laws.specs.ClaimsImages.{Bytes}
 
 abbrev pub StepMissing : Type 0
 StepMissing = (image m : List ℕ) (p : ℕ) (vs : List ℤ) → Bytes image → stepAnswer image m p ≡ refused 5 vs → OneOrTwo vs

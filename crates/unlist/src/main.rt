@@ -5,7 +5,7 @@ ghost use lib.ListN.{length};
 use libc::STDERR_FILENO;
 use libc::STDIN_FILENO;
 use libc::STDOUT_FILENO;
-use unlist_text::Said;
+use unlist_text::Argument;
 use views::Viewed;
 
 // 77 bytes for each of 65,536 positions, as long as a listing with arrivals can be, and one byte more, by which a longer text is noticed.
@@ -48,8 +48,8 @@ fn main() {
     let mut word = io::buffer();
     let n = os::arg(1, &mut word);
     match unlist_text::number(&word[0..n]) {
-        Said::Told(length) => unlist(length),
-        Said::Untold => {
+        Argument::Number(length) => unlist(length),
+        Argument::NotNumber => {
             io::write_all(
                 STDERR_FILENO,
                 b"usage: unlist LENGTH < LISTING, LENGTH in 1 to 9 decimal digits\n",

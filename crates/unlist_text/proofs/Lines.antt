@@ -8,7 +8,7 @@ use native.Mathlib.Numerals.{add-one}
 use native.Mathlib.Omega.{arith}
 use lib.ListN.{length, set, take, drop, drop-of-length-le, length-append, length-drop, length-take}
 use lib.Seq.{take-all, drop-drop, append-snoc}
-use Rattle.listing.specs.Hex.{digit, hex2, hexes}
+use Rattle.listing.specs.Hex.{hex1, hex2, hexes}
 use Rattle.text.specs.Puts.{Puts}
 use Rattle.listing.proofs.Hexing.{hexes-length}
 use Rattle.unlist_text.specs.Unlisted.{linesOf, imageText}
@@ -95,6 +95,6 @@ module _ (l : List ℕ) (i e : ℕ) (from : i < e) (to : e ≤ length l) (most :
 pub byte-put : (b at : ℕ) (o : List ℕ) → Puts (b ∷ []) at o (set o at b) (at + 1)
 byte-put b at o = record { next = refl; wrote = refl }
 
-pub pair-put : (b at x y : ℕ) (o : List ℕ) → x ≡ digit (b / 16) → y ≡ digit b → Puts (hex2 b) at o (set (set o at x) (at + 1) y) (at + 2)
+pub pair-put : (b at x y : ℕ) (o : List ℕ) → x ≡ hex1 (b / 16) → y ≡ hex1 b → Puts (hex2 b) at o (set (set o at x) (at + 1) y) (at + 2)
 unfolding hex2
 pair-put b at x y o e f = record { next = refl; wrote = rw (add-one, e, f) }

@@ -12,8 +12,8 @@ use lib.ListN.{length, getD, drop, drop-of-length-le}
 use lib.Seq.{drop-cons}
 use borrow.Author.Tests.{leb-true, le-leb, lt-leb}
 use Rattle.instruction.proofs.Sign.{never}
-use Rattle.unlist_text.specs.Number.{isDecimal, numberFrom, numberOf}
-use Rattle.unlist_text.specs.declared.word.Said.the-variants.{Told, Untold}
+use Rattle.unlist_text.specs.Number.{isDecimal, argumentFrom, argumentOf}
+use Rattle.unlist_text.specs.declared.word.Argument.the-variants.{Number, NotNumber}
 
 pub in-range : (b : ℕ) → 48 ≤ b → leb b 57 ≡ isDecimal b
 in-range b h = rw (le-leb 48 b h)
@@ -31,33 +31,33 @@ digit-range b e = by (leb 48 b) refl (leb b 57) refl e
 
 module _ (word : List ℕ) where
   -- too short or too long
-  pub empty-word : length word ≡ 0 → Untold ≡ numberOf word
-  unfolding numberOf
+  pub empty-word : length word ≡ 0 → NotNumber ≡ argumentOf word
+  unfolding argumentOf
   empty-word e = rw e
 
-  pub long-word : 9 < length word → Untold ≡ numberOf word
-  unfolding numberOf
+  pub long-word : 9 < length word → NotNumber ≡ argumentOf word
+  unfolding argumentOf
   long-word h = rw (le-leb 1 (length word) (omega arith), lt-leb (length word) 9 h)
 
-  pub good-length : (length word ≡ 0 → ⊥) → length word ≤ 9 → numberFrom 0 word ≡ numberOf word
-  unfolding numberOf
+  pub good-length : (length word ≡ 0 → ⊥) → length word ≤ 9 → argumentFrom 0 word ≡ argumentOf word
+  unfolding argumentOf
   good-length f h = by (length word) refl
     where
-      by : (k : ℕ) → length word ≡ k → numberFrom 0 word ≡ numberOf word
+      by : (k : ℕ) → length word ≡ k → argumentFrom 0 word ≡ argumentOf word
       by zero e = absurd (f e)
       by (suc k) e = rw (le-leb 1 (length word) (omega arith), le-leb (length word) 9 h)
 
   module _ (i n : ℕ) where
-    pub word-stop : i < length word → isDecimal (getD word i 0) ≡ false → numberFrom n (drop i word) ≡ Untold
-    unfolding numberFrom
+    pub word-stop : i < length word → isDecimal (getD word i 0) ≡ false → argumentFrom n (drop i word) ≡ NotNumber
+    unfolding argumentFrom
     word-stop h e = rw (drop-cons word i 0, e)
 
-    pub word-more : i < length word → isDecimal (getD word i 0) ≡ true → numberFrom n (drop i word) ≡ numberFrom (n * 10 + (getD word i 0 - 48)) (drop (i + 1) word)
-    unfolding numberFrom
+    pub word-more : i < length word → isDecimal (getD word i 0) ≡ true → argumentFrom n (drop i word) ≡ argumentFrom (n * 10 + (getD word i 0 - 48)) (drop (i + 1) word)
+    unfolding argumentFrom
     word-more h e = rw (add-one, drop-cons word i 0, e)
 
-    pub word-end : length word ≤ i → numberFrom n (drop i word) ≡ Told n
-    unfolding numberFrom
+    pub word-end : length word ≤ i → argumentFrom n (drop i word) ≡ Number n
+    unfolding argumentFrom
     word-end h = rw (drop-of-length-le word h)
 
 -- so many digits say less than that power of ten

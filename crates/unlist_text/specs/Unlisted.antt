@@ -26,8 +26,8 @@ valueOf [] = 0
 valueOf (v ∷ vs) = natAbs v
 
 -- the image and the marks that a listing is read into: as many places as an image may have
-unfoldable pub zeros : List ℕ
-zeros = replicate 65536 0
+unfoldable pub emptyRoom : List ℕ
+emptyRoom = replicate 65536 0
 
 -- of an image of n bytes, or of the refusal
 abbrev pub printed : ℕ → List ℕ → Answer ℕ → List ℕ
@@ -35,4 +35,4 @@ printed n image (accepted k) = imageText (take n image)
 printed n image (refused r vs) = valueLine r (valueOf vs)
 
 unfoldable pub unlistedOf : List ℕ → ℕ → List ℕ
-unlistedOf text n = printed n (backImage text n zeros zeros) (backAnswer text n zeros zeros)
+unlistedOf text n = printed n (backImage text n emptyRoom emptyRoom) (backAnswer text n emptyRoom emptyRoom)

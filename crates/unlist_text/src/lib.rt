@@ -5,5 +5,5 @@ mod rooms;
 pub mod word;
 
 pub use print::unlist_text;
-pub use word::Said;
+pub use word::Argument;
 pub use word::number;

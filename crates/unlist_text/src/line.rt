@@ -17,8 +17,8 @@ fn put_pair(b: u8, room: &mut [u8], at: usize) -> usize
     requires { ⌜ at + 2 ≤ length (now room) ⌝ }
     ensures { λ r. ⌜ Puts (hex2 b) at (now (room .entry)) (now (room .exit)) r ⌝ }
 {
-    room[at] = listing::digit(b as u32 / 16);
-    room[at + 1] = listing::digit(b as u32);
+    room[at] = listing::hex1(b as u32 / 16);
+    room[at + 1] = listing::hex1(b as u32);
     at + 2
 }
 
@@ -66,7 +66,8 @@ fn put_lines(image: &[u8], room: &mut [u8])
 // An image of at most 65,536 bytes as image lines: how many bytes were written, or 11 with how many are needed.
 pub fn put_image(image: &[u8], room: &mut [u8]) -> Viewed
     requires { ⌜ length (now image) ≤ 65536 ⌝ }
-    ensures { λ r. ⌜ (viewedOf r ≡ roomAnswer [] (imageText (now (image .entry))) (now (room .entry))) × (now (room .exit) ≡ roomAfter [] (imageText (now (image .entry))) (now (room .entry))) ⌝ }
+    ensures { λ r. ⌜ viewedOf r ≡ roomAnswer [] (imageText (now (image .entry))) (now (room .entry)) ⌝ }
+    ensures { λ _. ⌜ now (room .exit) ≡ roomAfter [] (imageText (now (image .entry))) (now (room .entry)) ⌝ }
 {
     let n = image.len();
     let need = n * 2 + (n + MOST_IN_LINE - 1) / MOST_IN_LINE;

@@ -12,7 +12,8 @@ use views::Viewed;
 // Turns a listing of an image of so many bytes into image lines, or into the line of a refusal: how many bytes were written, or 11 with how
 // many are needed.
 pub fn unlist_text(text: &[u8], length: usize, room: &mut [u8]) -> Viewed
-    ensures { λ r. ⌜ (viewedOf r ≡ roomAnswer [] (unlistedOf (now (text .entry)) length) (now (room .entry))) × (now (room .exit) ≡ roomAfter [] (unlistedOf (now (text .entry)) length) (now (room .entry))) ⌝ }
+    ensures { λ r. ⌜ viewedOf r ≡ roomAnswer [] (unlistedOf (now (text .entry)) length) (now (room .entry)) ⌝ }
+    ensures { λ _. ⌜ now (room .exit) ≡ roomAfter [] (unlistedOf (now (text .entry)) length) (now (room .entry)) ⌝ }
 {
     let mut image = rooms::bytes();
     let mut marks = rooms::bytes();

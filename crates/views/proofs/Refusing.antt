@@ -58,9 +58,9 @@ module _ (image m : List ℕ) where
       unfolding viewRefusals
       sized = right-sizes image m (damageIn image m (positions image)) 0 fits room
 
-      pub hurt : (p : ℕ) → p < n → damagedHere image m p ≡ true → Left p → Is (refused 6 (pos p ∷ []))
+      pub damaged-mark : (p : ℕ) → p < n → damagedHere image m p ≡ true → Left p → Is (refused 6 (pos p ∷ []))
       unfolding Left
-      hurt p h d l =
+      damaged-mark p h d l =
           sym (sized ∙ sym l ∙ ap said (up-next n p h) ∙ stop _ _ _ d)
 
       pub sound : (p : ℕ) → n ≤ p → Left p → Is (accepted 0)

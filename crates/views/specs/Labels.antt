@@ -6,6 +6,8 @@ use mathlib.Core.Bool.{Bool, cond}
 use mathlib.Core.List.{List, map}
 use lib.Dec.{eqb, ltb}
 use lib.ListN.{getD, set}
+use Rattle.instruction.specs.Answer.{Answer}
+use Rattle.views.specs.View.{viewAnswer, viewRoom}
 use Rattle.targets.specs.Ways.{nameOf}
 use Rattle.reach.specs.Mark.{tracedMark}
 use Rattle.marks.specs.Tracer.{exemptHere}
@@ -24,6 +26,13 @@ labelled image m t = some (names image m t) (positions image)
 
 unfoldable pub labelsOf : List ℕ → List ℕ → List ℕ
 labelsOf image m = map (λ (t : ℕ). bit (labelled image m t)) (positions image)
+
+-- what the view answers, and what it leaves in the room
+abbrev pub labelsAnswer : List ℕ → List ℕ → List ℕ → Answer ℕ
+labelsAnswer image m room = viewAnswer image m (labelsOf image m) room
+
+abbrev pub labelsRoom : List ℕ → List ℕ → List ℕ → List ℕ
+labelsRoom image m room = viewRoom image m (labelsOf image m) room
 
 -- of an inner function: 1 at t where it is inside
 abbrev pub labelAt : ℕ → ℕ → List ℕ → List ℕ

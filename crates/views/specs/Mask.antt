@@ -5,6 +5,8 @@ use mathlib.Core.Bool.{Bool, cond, _&&_}
 use mathlib.Core.List.{List, map}
 use lib.Dec.{ltb, leb}
 use lib.ListN.{getD}
+use Rattle.instruction.specs.Answer.{Answer}
+use Rattle.views.specs.View.{viewAnswer, viewRoom}
 use Rattle.targets.specs.At.{sizeHere}
 use Rattle.reach.specs.Mark.{tracedMark}
 use Rattle.views.specs.Positions.{positions, some, bit, tracedAt}
@@ -26,3 +28,10 @@ masked image m b = some (covers image m b) (positions image)
 
 unfoldable pub maskOf : List ℕ → List ℕ → List ℕ
 maskOf image m = map (λ (b : ℕ). bit (masked image m b)) (positions image)
+
+-- what building it answers, and what it leaves in the room
+abbrev pub maskAnswer : List ℕ → List ℕ → List ℕ → Answer ℕ
+maskAnswer image m room = viewAnswer image m (maskOf image m) room
+
+abbrev pub maskRoom : List ℕ → List ℕ → List ℕ → List ℕ
+maskRoom image m room = viewRoom image m (maskOf image m) room

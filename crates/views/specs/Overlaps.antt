@@ -6,6 +6,8 @@ use mathlib.Core.Bool.{Bool, cond, _&&_}
 use mathlib.Core.List.{List, [], _∷_, _++_}
 use lib.Dec.{leb}
 use lib.ListN.{length}
+use Rattle.instruction.specs.Answer.{Answer}
+use Rattle.views.specs.View.{viewAnswer, viewRoom}
 use Rattle.targets.specs.At.{sizeHere}
 use Rattle.views.specs.Positions.{upFrom, kept, tracedAt}
 use Rattle.views.specs.declared.overlaps.Overlaps.{Overlaps}
@@ -20,6 +22,13 @@ unfoldable pub overlapsOf : List ℕ → List ℕ → ℕ → List ℕ
 overlapsOf image m p =
     cond (leb (length image) 65536 && tracedAt image m p)
     (cond (fromBefore image m p) ((p - 1) ∷ []) [] ++ kept (tracedAt image m) (upFrom (sizeHere image p - 1) (p + 1))) []
+
+-- what the view answers, and what it leaves in the room
+abbrev pub overlapsAnswer : List ℕ → List ℕ → ℕ → List ℕ → Answer ℕ
+overlapsAnswer image m p room = viewAnswer image m (overlapsOf image m p) room
+
+abbrev pub overlapsRoom : List ℕ → List ℕ → ℕ → List ℕ → List ℕ
+overlapsRoom image m p room = viewRoom image m (overlapsOf image m p) room
 
 -- at most three positions, in their order
 abbrev pub overlapsIn : Overlaps → List ℕ

@@ -8,7 +8,7 @@ use lib.Dec.{ltb, eqb}
 use lib.IntN.{pos}
 use lib.ListN.{length, getD, drop}
 use Rattle.instruction.specs.Answer.{Answer, accepted, refused, Refusal, refuse, judge, after}
-use Rattle.instruction.specs.Forms.{numberOf}
+use Rattle.instruction.specs.Forms.{formNamed}
 use Rattle.targets.specs.At.{formHere, fitsHere}
 use Rattle.reach.specs.Mark.{flash, tracedMark}
 use Rattle.marks.specs.Refusals.{sizeRefusals}
@@ -19,7 +19,7 @@ use Rattle.views.specs.declared.view.Viewed.the-variants.{Written, LongI
 
 -- of a mark v at p: a 3 off a Jmpf
 unfoldable pub offJmpf : List ℕ → ℕ → ℕ → Bool
-offJmpf image v p = eqb v flash && not (eqb (formHere image p) (numberOf "Jmpf"))
+offJmpf image v p = eqb v flash && not (eqb (formHere image p) (formNamed "Jmpf"))
 
 -- a 2 or 3 on a cut-off instruction, a 3 off a Jmpf
 unfoldable pub misplaced : List ℕ → ℕ → ℕ → Bool

@@ -4,8 +4,8 @@ ghost use mathlib.Core.Path.{_≡_};
 ghost use mathlib.Core.List.{_++_};
 ghost use Prim.Native.Nat.{_≤_, _<_};
 ghost use lib.ListN.{length, drop};
-ghost use Rattle.views.specs.View.{viewedOf, viewAnswer, viewRoom};
-ghost use Rattle.views.specs.Labels.{labelsOf, namedFrom, labelAt};
+ghost use Rattle.views.specs.View.{viewedOf};
+ghost use Rattle.views.specs.Labels.{labelsOf, namedFrom, labelAt, labelsAnswer, labelsRoom};
 use crate::view;
 use crate::view::Viewed;
 use marks::Mark;
@@ -52,7 +52,8 @@ fn write_labels(image: &[u8], marks: &[u8], room: &mut [u8])
 
 // 1 at each position inside the image that a traced jump, branch or call names, else 0.
 pub fn target_marks(image: &[u8], marks: &[u8], room: &mut [u8]) -> Viewed
-    ensures { λ r. ⌜ (viewedOf r ≡ viewAnswer (now (image .entry)) (now (marks .entry)) (labelsOf (now (image .entry)) (now (marks .entry))) (now (room .entry))) × (now (room .exit) ≡ viewRoom (now (image .entry)) (now (marks .entry)) (labelsOf (now (image .entry)) (now (marks .entry))) (now (room .entry))) ⌝ }
+    ensures { λ r. ⌜ viewedOf r ≡ labelsAnswer (now (image .entry)) (now (marks .entry)) (now (room .entry)) ⌝ }
+    ensures { λ _. ⌜ now (room .exit) ≡ labelsRoom (now (image .entry)) (now (marks .entry)) (now (room .entry)) ⌝ }
 {
     let v = view::check(image, marks);
     if !v.is_written() {

@@ -4,8 +4,8 @@ ghost use mathlib.Core.Path.{_≡_};
 ghost use mathlib.Core.List.{_++_};
 ghost use Prim.Native.Nat.{_≤_, _<_};
 ghost use lib.ListN.{length, drop};
-ghost use Rattle.views.specs.View.{viewedOf, viewAnswer, viewRoom};
-ghost use Rattle.views.specs.Mask.{maskOf, endWith};
+ghost use Rattle.views.specs.View.{viewedOf};
+ghost use Rattle.views.specs.Mask.{maskOf, endWith, maskAnswer, maskRoom};
 use crate::view;
 use crate::view::Viewed;
 use marks::Mark;
@@ -40,7 +40,8 @@ fn write_mask(image: &[u8], marks: &[u8], mask: &mut [u8])
 
 // 1 on each byte of a traced instruction, else 0.
 pub fn build_byte_mask(image: &[u8], marks: &[u8], mask: &mut [u8]) -> Viewed
-    ensures { λ r. ⌜ (viewedOf r ≡ viewAnswer (now (image .entry)) (now (marks .entry)) (maskOf (now (image .entry)) (now (marks .entry))) (now (mask .entry))) × (now (mask .exit) ≡ viewRoom (now (image .entry)) (now (marks .entry)) (maskOf (now (image .entry)) (now (marks .entry))) (now (mask .entry))) ⌝ }
+    ensures { λ r. ⌜ viewedOf r ≡ maskAnswer (now (image .entry)) (now (marks .entry)) (now (mask .entry)) ⌝ }
+    ensures { λ _. ⌜ now (mask .exit) ≡ maskRoom (now (image .entry)) (now (marks .entry)) (now (mask .entry)) ⌝ }
 {
     let v = view::check(image, marks);
     if !v.is_written() {

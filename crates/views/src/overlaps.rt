@@ -5,8 +5,8 @@ ghost use mathlib.Core.Bool.{cond};
 ghost use mathlib.Core.List.{[], _∷_, _++_};
 ghost use Prim.Native.Nat.{_-_, _≤_, _<_};
 ghost use lib.ListN.{length, drop};
-ghost use Rattle.views.specs.View.{viewedOf, viewAnswer, viewRoom};
-ghost use Rattle.views.specs.Overlaps.{overlapsOf, overlapsIn, fromBefore};
+ghost use Rattle.views.specs.View.{viewedOf};
+ghost use Rattle.views.specs.Overlaps.{overlapsOf, overlapsIn, fromBefore, overlapsAnswer, overlapsRoom};
 use crate::traced;
 use crate::view;
 use crate::view::Viewed;
@@ -92,7 +92,8 @@ pub fn overlaps_at(image: &[u8], marks: &[u8], p: u32) -> Overlaps
 // Writes these positions at the beginning of the room: how many they are.
 fn put(o: Overlaps, room: &mut [u32]) -> usize
     requires { ⌜ length (overlapsIn o) ≤ length (now room) ⌝ }
-    ensures { λ r. ⌜ (r ≡ length (overlapsIn o)) × (now (room .exit) ≡ overlapsIn o ++ drop (length (overlapsIn o)) (now (room .entry))) ⌝ }
+    ensures { λ r. ⌜ r ≡ length (overlapsIn o) ⌝ }
+    ensures { λ _. ⌜ now (room .exit) ≡ overlapsIn o ++ drop (length (overlapsIn o)) (now (room .entry)) ⌝ }
 {
     match o {
         Overlaps::Nothing => 0,
@@ -116,7 +117,8 @@ fn put(o: Overlaps, room: &mut [u32]) -> usize
 
 // The overlaps at p, in their order.
 pub fn find_overlaps(image: &[u8], marks: &[u8], p: u32, room: &mut [u32]) -> Viewed
-    ensures { λ r. ⌜ (viewedOf r ≡ viewAnswer (now (image .entry)) (now (marks .entry)) (overlapsOf (now (image .entry)) (now (marks .entry)) p) (now (room .entry))) × (now (room .exit) ≡ viewRoom (now (image .entry)) (now (marks .entry)) (overlapsOf (now (image .entry)) (now (marks .entry)) p) (now (room .entry))) ⌝ }
+    ensures { λ r. ⌜ viewedOf r ≡ overlapsAnswer (now (image .entry)) (now (marks .entry)) p (now (room .entry)) ⌝ }
+    ensures { λ _. ⌜ now (room .exit) ≡ overlapsRoom (now (image .entry)) (now (marks .entry)) p (now (room .entry)) ⌝ }
 {
     let v = view::check(image, marks);
     if !v.is_written() {

@@ -7,7 +7,7 @@ use Prim.Native.Nat.{ℕ, _<_, _≤_}
 use native.Mathlib.Omega.{arith}
 use lib.Dec.{eqb, leb}
 use lib.ListN.{length, getD}
-use Rattle.instruction.specs.Forms.{numberOf}
+use Rattle.instruction.specs.Forms.{formNamed}
 use Rattle.targets.specs.At.{formHere, fitsHere, flashHere}
 use Rattle.targets.proofs.Ands.{first-part, second-part}
 use Rattle.reach.specs.Mark.{flash, traced, tracedMark, cleared}
@@ -46,14 +46,14 @@ module _ (image : List ℕ) where
   unfolding misplaced offJmpf tracedMark
   traced-fine q f = rw f
 
-  flash-fine : (q : ℕ) → fitsHere image q ≡ true → eqb (formHere image q) (numberOf "Jmpf") ≡ true → Fine q 3
+  flash-fine : (q : ℕ) → fitsHere image q ≡ true → eqb (formHere image q) (formNamed "Jmpf") ≡ true → Fine q 3
   unfolding misplaced offJmpf tracedMark
   flash-fine q f j = rw (f, j)
 
-  is-jmpf : (m : List ℕ) (q : ℕ) → exemptHere image m q ≡ true → eqb (formHere image q) (numberOf "Jmpf") ≡ true
+  is-jmpf : (m : List ℕ) (q : ℕ) → exemptHere image m q ≡ true → eqb (formHere image q) (formNamed "Jmpf") ≡ true
   unfolding exemptHere flashHere
   is-jmpf m q e =
-      first-part (eqb (formHere image q) (numberOf "Jmpf")) _ (second-part (leb 2 q) _ (first-part (flashHere image q) _ e))
+      first-part (eqb (formHere image q) (formNamed "Jmpf")) _ (second-part (leb 2 q) _ (first-part (flashHere image q) _ e))
 
   marked-fine : (m : List ℕ) (q : ℕ) → fitsHere image q ≡ true → Fine q (mark (tracerOf image) m q)
   unfolding mark

@@ -3,13 +3,13 @@
 use mathlib.Core.Path.{refl}
 use Rattle.instruction.specs.Answer.{judge}
 use Rattle.instruction.specs.Decode.{cutAt, decodeAnswer, fieldsIn}
-use Rattle.instruction.specs.Encode.{bytesIn}
-use Rattle.instruction.specs.Forms.{forms, formAt, formOf, numberOf}
+use Rattle.instruction.specs.Encode.{instrBytes}
+use Rattle.instruction.specs.Forms.{forms, formAt, formOf, formNamed}
 use Rattle.instruction.specs.Kinds.{kindsOf}
 use Rattle.instruction.specs.Parts.{partsOf, madeOf}
-use Rattle.instruction.specs.Pattern.{pattern, bytesOf, onto, given, next}
+use Rattle.instruction.specs.Pattern.{pattern, patternBytes, onto, bitsGiven, nextBracket}
 use Rattle.instruction.specs.Resolve.{resolveAnswer}
-use Rattle.instruction.specs.Resolution.{operandRefusals, fieldOf}
+use Rattle.instruction.specs.ResolveOperand.{operandRefusals, fieldOf}
 use Rattle.instruction.specs.Range.{unfit}
 use Rattle.instruction.specs.Flow.{stops, jumps, branches, flowOf}
 use Rattle.targets.specs.At.{fitsHere, instrHere, waysHere, flashHere, nameHere}
@@ -26,6 +26,6 @@ use Rattle.views.specs.Labels.{labelled, labelsOf}
 use Rattle.views_laws.specs.Edges.{Edges}
 
 pub edges : Edges
-unfolding judge cutAt decodeAnswer fieldsIn resolveAnswer operandRefusals fieldOf bytesIn forms formAt formOf numberOf kindsOf partsOf madeOf pattern bytesOf onto given next targetsAnswer targetsIn addressIn addressOf fitsHere instrHere waysHere flashHere nameHere nameOf exemptHere runMarks runOrder outcomeOf runOf runFrom took found targets mark note fresh isOpen tracedMark cleared labelsOf labelled some upFrom unfit flowOf stops jumps branches
+unfolding judge cutAt decodeAnswer fieldsIn resolveAnswer operandRefusals fieldOf instrBytes forms formAt formOf formNamed kindsOf partsOf madeOf pattern patternBytes onto bitsGiven nextBracket targetsAnswer targetsIn addressIn addressOf fitsHere instrHere waysHere flashHere nameHere nameOf exemptHere runMarks runOrder outcomeOf runOf runFrom took found targets mark note fresh isOpen tracedMark cleared labelsOf labelled some upFrom unfit flowOf stops jumps branches
 edges =
     (refl, refl, refl, refl, refl, refl, refl, refl, refl, refl, refl, refl, refl, refl, refl, refl, refl, refl, refl, refl, refl, refl, refl, refl)

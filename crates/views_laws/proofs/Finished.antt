@@ -13,7 +13,7 @@ use Rattle.instruction.specs.Answer.{Answer, accepted, refused, after}
 use Rattle.instruction.proofs.Judging.{pass, stop}
 use Rattle.instruction.proofs.Sign.{never}
 use Rattle.reach.specs.Run.{End, finished, stopped, cutOff, Outcome, steps, noted}
-use Rattle.trace.specs.Run.{Said, runJudged, runAnswer, runMarks, ranAnswer, endOf, outcomeOf, orElse}
+use Rattle.trace.specs.Run.{RunResult, runJudged, runAnswer, runMarks, ranAnswer, endOf, outcomeOf, andThen}
 
 differ : {A : Type 0} {a : A} {n : ℕ} {vs : List ℤ} → _≡_ {A = Answer A} (refused n vs) (accepted a) → ⊥
 differ e = let z : _≡_ {A = ℕ} 1 0 = cc in omega arith
@@ -25,12 +25,12 @@ module _ (image marks order entries : List ℕ) (limit : ℕ) where
   abbrev out : Outcome
   out = outcomeOf image marks entries limit
 
-  module _ (s : Said) (a : runAnswer image marks order entries limit ≡ accepted s) where
+  module _ (s : RunResult) (a : runAnswer image marks order entries limit ≡ accepted s) where
     passed : (r : Answer (Unit {0})) → judged ≡ r → (r ≡ accepted tt) × (ranAnswer image out ≡ accepted s)
     unfolding runAnswer
-    passed (accepted tt) e = (refl, ap (λ (q : Answer (Unit {0})). orElse q (ranAnswer image out)) (sym e) ∙ a)
+    passed (accepted tt) e = (refl, ap (λ (q : Answer (Unit {0})). andThen q (ranAnswer image out)) (sym e) ∙ a)
     passed (refused n vs) e =
-        absurd (differ (ap (λ (q : Answer (Unit {0})). orElse q (ranAnswer image out)) (sym e) ∙ a))
+        absurd (differ (ap (λ (q : Answer (Unit {0})). andThen q (ranAnswer image out)) (sym e) ∙ a))
 
     pub sized : judged ≡ accepted tt
     sized = passed judged refl .0

@@ -6,12 +6,13 @@ use mathlib.Core.List.{List, []}
 use mathlib.Core.Logic.{_⊎_}
 use mathlib.Core.Path.{_≡_}
 use lib.ListN.{length, getD}
+use Rattle.instruction.specs.Bytes.{Bytes}
 use Rattle.instruction.specs.Answer.{accepted}
 use Rattle.targets.specs.At.{sizeHere, fitsHere, waysHere}
 use Rattle.reach.specs.Reach.{Reach}
-use Rattle.trace.specs.Run.{Said, runAnswer, runMarks}
+use Rattle.trace.specs.Run.{RunResult, runAnswer, runMarks}
 use Rattle.marks.specs.Tracer.{tracerOf}
-use Rattle.trace_laws.specs.ClaimsImages.{Bytes, Clean}
+use Rattle.trace_laws.specs.ClaimsImages.{Clean}
 use Rattle.views.specs.Mask.{maskOf}
 
 -- p is reachable from these entries: an entry inside the image, or a target inside the image of a reachable position whose instruction fits
@@ -30,7 +31,7 @@ pub record Code (image entries : List ℕ) (b : ℕ) : Type 0 where
 -- other byte
 abbrev pub CodeBytes : Type 0
 CodeBytes =
-    (image marks order entries : List ℕ) (limit : ℕ) (s : Said) → Bytes image → Clean image → runAnswer image marks order entries limit ≡ accepted s → s .finished ≡ true
+    (image marks order entries : List ℕ) (limit : ℕ) (s : RunResult) → Bytes image → Clean image → runAnswer image marks order entries limit ≡ accepted s → s .finished ≡ true
     → (b : ℕ) → b < length image
     → ((getD (maskOf image (runMarks image marks order entries limit)) b 0 ≡ 1) × Code image entries b)
     ⊎ ((getD (maskOf image (runMarks image marks order entries limit)) b 0 ≡ 0) × (Code image entries b → ⊥))

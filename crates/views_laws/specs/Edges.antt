@@ -8,7 +8,7 @@ use lib.ListN.{getD, replicate, take}
 use lib.IntN.{pos, negsuc}
 use Rattle.instruction.specs.Answer.{accepted, refused}
 use Rattle.instruction.specs.Decode.{decodeAnswer}
-use Rattle.instruction.specs.Encode.{bytesIn}
+use Rattle.instruction.specs.Encode.{instrBytes}
 use Rattle.instruction.specs.Resolve.{resolveAnswer}
 use Rattle.targets.specs.Targets.{targetsAnswer}
 use Rattle.trace.specs.Run.{runMarks, runOrder}
@@ -20,15 +20,15 @@ abbrev pub flashCall : List ℕ
 flashCall = 0xB8 ∷ 0x0D ∷ 0x21 ∷ 0x00 ∷ 0x00 ∷ []
 
 -- five elements that are not looked at
-abbrev pub lent : List ℕ
-lent = replicate 5 9
+abbrev pub unread : List ℕ
+unread = replicate 5 9
 
 -- a run in it from one entry: the marks it leaves, and the positions that it notes, in their order
 abbrev pub marksFrom : ℕ → List ℕ
-marksFrom entry = runMarks flashCall lent lent (entry ∷ []) 5
+marksFrom entry = runMarks flashCall unread unread (entry ∷ []) 5
 
 abbrev pub orderFrom : ℕ → List ℕ
-orderFrom entry = take 2 (runOrder flashCall lent lent (entry ∷ []) 5)
+orderFrom entry = take 2 (runOrder flashCall unread unread (entry ∷ []) 5)
 
 abbrev pub Edges : Type 0
 Edges =
@@ -41,11 +41,11 @@ Edges =
     × (decodeAnswer (0x11 ∷ 0x00 ∷ 0x80 ∷ []) ≡ accepted (Brf (pos 0x8000)))
     × (targetsAnswer 0 (Brf (pos 0x8000)) ≡ accepted (pos 0x8002 ∷ []))
     × (resolveAnswer (Brf (pos 0)) 3 ≡ accepted (Brf (pos 0xFFFE)))
-    × (bytesIn (Brf (pos 0xFFFE)) ≡ 0x11 ∷ 0xFE ∷ 0xFF ∷ [])
+    × (instrBytes (Brf (pos 0xFFFE)) ≡ 0x11 ∷ 0xFE ∷ 0xFF ∷ [])
     × (resolveAnswer (Br (pos 129)) 2 ≡ accepted (Br (pos 127)))
     × (resolveAnswer (Br (pos 130)) 2 ≡ refused 9 (pos 128 ∷ []))
     × (resolveAnswer (Jmp (pos 0x0FFF)) 2 ≡ accepted (Jmp (pos 0xFFF)))
-    × (bytesIn (Jmp (pos 0xFFF)) ≡ 0x3F ∷ 0xFF ∷ [])
+    × (instrBytes (Jmp (pos 0xFFF)) ≡ 0x3F ∷ 0xFF ∷ [])
     × (resolveAnswer (Jmp (pos 0x1000)) 2 ≡ refused 10 (pos 0 ∷ pos 1 ∷ []))
     × (resolveAnswer (Jmp (pos 65536)) 2 ≡ refused 7 (pos 1 ∷ pos 65536 ∷ []))
     × (resolveAnswer (Br (pos 65536)) 2 ≡ refused 8 (pos 65536 ∷ []))

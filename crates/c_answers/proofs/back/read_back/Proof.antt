@@ -23,7 +23,7 @@ restored-requires c κs =
 returns : tie.Need-returns
 returns c =
     let t = c .before .before .before .before .before in
-    let e = t .read-back .ensures in (c .restored .ensures ∙ ap (replyOf countValues) (e .0), e .1, e .2)
+    let e = t .read-back .ensures in (c .restored .ensures ∙ ap (replyOf countValues) (e .0), e .1)
 
 pub read-back-spec : {M : Type 1} → statement M
 read-back-spec = tie.close (tie.spec (λ c κs. search needs) restored-requires (λ c. search needs) (λ c. search needs) returns)

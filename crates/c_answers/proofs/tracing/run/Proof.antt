@@ -23,7 +23,7 @@ ran-requires c κs =
 returns : tie.Need-returns
 returns c =
     let t = c .before .before .before .before .before in
-    (c .ran .ensures ∙ ap (replyOf runValues) (t .run .ensures .0), t .run .ensures .1, t .run .ensures .2)
+    (c .ran .ensures ∙ ap (replyOf runValues) (t .run .ensures .0), (t .run .ensures .1 .0, t .run .ensures .1 .1 .0))
 
 pub run-spec : {M : Type 1} → statement M
 run-spec =

@@ -2,7 +2,7 @@
 -- Assumes nothing.
 use mathlib.Core.Path.{_≡_, refl}
 use Prim.Native.Nat.{ℕ}
-use Rattle.instruction.specs.Pattern.{pattern, bytesOf, onto, given, next}
+use Rattle.instruction.specs.Pattern.{pattern, patternBytes, onto, bitsGiven, nextBracket}
 use Rattle.instruction.specs.Flow.{flowOf, stops, jumps, branches}
 use Rattle.instruction.specs.Forms.{forms, formAt, formOf}
 use Rattle.instruction.proofs.Rest.{only}
@@ -14,7 +14,7 @@ arm : {n : ℕ} (k x : ℕ) → x ≡ k → n ≡ wordAt k → n ≡ wordAt x
 arm k x e f = rw e f
 
 pub word-spec : {M : Type 1} → statement M
-unfolding wordAt saidBy flowOf stops jumps branches formOf formAt forms pattern bytesOf onto given next
+unfolding wordAt saidBy flowOf stops jumps branches formOf formAt forms pattern patternBytes onto bitsGiven nextBracket
 word-spec =
     tie.close
     (tie.spec

@@ -5,8 +5,8 @@ use Prim.Native.Nat.{ℕ, _+_, _*_, _/_, _%_, _^_, _<_}
 use native.Mathlib.Omega.{arith}
 use lib.Dec.{ltb, ltb→lt}
 use borrow.Author.Needs.{needs}
-use Rattle.instruction.specs.Eights.{eight, byColumn}
-use Rattle.instruction.specs.Forms.{forms, numberOf}
+use Rattle.instruction.specs.Tables.{tableWord, byColumn}
+use Rattle.instruction.specs.Forms.{forms, formNamed}
 use Rattle.instruction.specs.Grid.{grid, entry, column, ruleOf}
 use Rattle.instruction.proofs.Bytes.{read}
 use Rattle.instruction.proofs.Every.{holds}
@@ -18,11 +18,11 @@ five : (l : ℕ) → l < 16 → column l < 5
 five l h = ltb→lt (column l) 5 (holds (λ k. ltb (column k) 5) 16 tt l h)
 
 small : (x : ℕ) → x < 256 → ruleOf x < 70
-unfolding ruleOf grid numberOf forms
+unfolding ruleOf grid formNamed forms
 small x h = ltb→lt (ruleOf x) 70 (holds (λ k. ltb (ruleOf k) 70) 256 tt x h)
 
-there : (k w r : ℕ) → k < 80 → w ≡ eight byColumn (k / 8) → r ≡ w / 2 ^ (8 * (k % 8)) % 256 → r ≡ byColumn k
-unfolding byColumn grid numberOf forms
+there : (k w r : ℕ) → k < 80 → w ≡ tableWord byColumn (k / 8) → r ≡ w / 2 ^ (8 * (k % 8)) % 256 → r ≡ byColumn k
+unfolding byColumn grid formNamed forms
 there k w r h = read byColumn 10 tt k h w r
 
 -- the place of a first byte in the columns

@@ -9,7 +9,7 @@ use lib.ListN.{getD}
 use borrow.Author.Needs.{needs}
 use Rattle.instruction.specs.declared.kind.Shape.{Shape}
 use Rattle.instruction.specs.declared.kind.Shape.the-variants.{Bare, Imm, D9, Ri, ImmD9, ImmRi, D9B3, A12, A16, R16, R8, D9B3R8, D9R8, RiR8, ImmR8, RiImmR8}
-use Rattle.instruction.specs.Eights.{eight, place, placeAt}
+use Rattle.instruction.specs.Tables.{tableWord, shapeNumber, shapeAt}
 use Rattle.instruction.specs.Forms.{forms, formAt}
 use Rattle.instruction.proofs.Bytes.{read}
 use Rattle.instruction.proofs.form.shape_of.Statement.{statement}
@@ -20,7 +20,7 @@ back : ℕ → Shape
 back n =
     getD (Bare ∷ Imm ∷ D9 ∷ Ri ∷ ImmD9 ∷ ImmRi ∷ D9B3 ∷ A12 ∷ A16 ∷ R16 ∷ R8 ∷ D9B3R8 ∷ D9R8 ∷ RiR8 ∷ ImmR8 ∷ RiImmR8 ∷ []) n Bare
 
-shown : (s : Shape) → (place s < 16) × (back (place s) ≡ s)
+shown : (s : Shape) → (shapeNumber s < 16) × (back (shapeNumber s) ≡ s)
 unfolding back
 shown Bare = (lit< tt, refl)
 shown Imm = (lit< tt, refl)
@@ -39,15 +39,15 @@ shown RiR8 = (lit< tt, refl)
 shown ImmR8 = (lit< tt, refl)
 shown RiImmR8 = (lit< tt, refl)
 
-same : (s t : Shape) → place s ≡ place t → s ≡ t
+same : (s t : Shape) → shapeNumber s ≡ shapeNumber t → s ≡ t
 same s t e = sym (shown s .1) ∙ ap back e ∙ shown t .1
 
-there : (k w r : ℕ) → k < 70 → w ≡ eight placeAt (k / 8) → r ≡ w / 2 ^ (8 * (k % 8)) % 256 → r ≡ placeAt k
-unfolding placeAt formAt forms
-there k w r h = read placeAt 9 tt k (omega arith) w r
+there : (k w r : ℕ) → k < 70 → w ≡ tableWord shapeAt (k / 8) → r ≡ w / 2 ^ (8 * (k % 8)) % 256 → r ≡ shapeAt k
+unfolding shapeAt formAt forms
+there k w r h = read shapeAt 9 tt k (omega arith) w r
 
-read-place : (c : tie.After-byte-of) → c .byte-of .result ≡ place (formAt (c .before .before .args .form) .shape)
-unfolding placeAt
+read-place : (c : tie.After-byte-of) → c .byte-of .result ≡ shapeNumber (formAt (c .before .before .args .form) .shape)
+unfolding shapeAt
 read-place c =
     let s = c .before in there (s .before .args .form) _ _ (s .before .pre) (s .shapes .ensures) (c .byte-of .ensures)
 

@@ -3,16 +3,16 @@
 use mathlib.Core.Path.{_≡_, refl}
 use Prim.Native.Nat.{ℕ}
 use Rattle.instruction.specs.Forms.{forms, formAt}
-use Rattle.instruction.specs.Mnemonic.{mnemonicOf, lettersOf, wordOf}
+use Rattle.instruction.specs.Mnemonic.{mnemonicOf, lettersOf, packedLetters}
 use Rattle.instruction.proofs.Rest.{only}
 use Rattle.instruction.proofs.mnemonic.letters.Statement.{statement}
 use Rattle.instruction.proofs.mnemonic.letters.Tie as tie
 
-arm : {n : ℕ} (k x : ℕ) → x ≡ k → n ≡ wordOf (mnemonicOf k) → n ≡ wordOf (mnemonicOf x)
+arm : {n : ℕ} (k x : ℕ) → x ≡ k → n ≡ packedLetters (mnemonicOf k) → n ≡ packedLetters (mnemonicOf x)
 arm k x e f = rw e f
 
 pub letters-spec : {M : Type 1} → statement M
-unfolding mnemonicOf lettersOf wordOf formAt forms
+unfolding mnemonicOf lettersOf packedLetters formAt forms
 letters-spec =
     tie.close
     (tie.spec

@@ -23,7 +23,7 @@ told c t e =
     let d = c .before .before .before in
     let s : List ℕ = d .before .args .bytes .now in
     rw (c .before .before .byte-at .ensures, c .before .byte-at2 .ensures, c .byte-at3 .ensures, e)
-    (read t s (record { small = λ i. d .shared-slice-known .given i .fits }))
+    (read t s (λ i. d .shared-slice-known .given i .fits))
 
 pub read-spec : {M : Type 1} → statement M
 unfolding closed

@@ -21,10 +21,10 @@ abbrev order : tie.After-run → List ℕ
 order c = c .before .before .before .positions .result
 
 -- both rooms are as the definition says
-bytes-are : (c : tie.After-run) → lent c ≡ output.lent
+bytes-are : (c : tie.After-run) → lent c ≡ output.lentRoom
 bytes-are c = c .before .before .before .before .bytes .ensures ∙ lent-is
 
-order-is : (c : tie.After-run) → order c ≡ output.lent
+order-is : (c : tie.After-run) → order c ≡ output.lentRoom
 order-is c = c .before .before .before .positions .ensures ∙ lent-is
 
 returns : tie.Need-returns
@@ -33,7 +33,7 @@ returns c =
     let e = w .before .before .before in
     let r = e .before .before .before .before in
     let a = start r .args in
-    listed-run (a .image .now) (a .entries .now) (start r .pre) (lent r) (order r) (bytes-are r) (order-is r) _ (ap ranOf (sym (e .enum-told .given .1)) ∙ r .run .ensures .0) (r .run .last .1 .0) (r .run .ensures .1) (r .run .kept .1 .0) _ _ (a .room .now) (w .listing-with .ensures)
+    listed-run (a .image .now) (a .entries .now) (start r .pre) (lent r) (order r) (bytes-are r) (order-is r) _ (ap ranOf (sym (e .enum-told .given .1)) ∙ r .run .ensures .0) (r .run .last .1 .0) (r .run .ensures .1 .0) (r .run .kept .1 .0) _ _ (a .room .now) (w .listing-with .ensures)
 
 returns-2 : tie.Need-returns-2
 returns-2 c =
@@ -41,7 +41,7 @@ returns-2 c =
     let e = w .before .before .before in
     let r = e .before .before .before .before in
     let a = start r .args in
-    listed-run (a .image .now) (a .entries .now) (start r .pre) (lent r) (order r) (bytes-are r) (order-is r) _ (ap ranOf (sym (e .enum-told2 .given .1)) ∙ r .run .ensures .0) (r .run .last .1 .0) (r .run .ensures .1) (r .run .kept .1 .0) _ _ (a .room .now) (w .listing-with2 .ensures)
+    listed-run (a .image .now) (a .entries .now) (start r .pre) (lent r) (order r) (bytes-are r) (order-is r) _ (ap ranOf (sym (e .enum-told2 .given .1)) ∙ r .run .ensures .0) (r .run .last .1 .0) (r .run .ensures .1 .0) (r .run .kept .1 .0) _ _ (a .room .now) (w .listing-with2 .ensures)
 
 returns-3 : tie.Need-returns-3
 returns-3 c =

@@ -11,7 +11,7 @@ use Rattle.list_text.specs.Text.{countsOf, entriesOf, imageOf, parsedOf,
 use Rattle.list_text.specs.declared.parsed.Input.{Input}
 use Rattle.list_text.proofs.Longest.{most-held}
 use Rattle.text.specs.Refusal.{numberLine}
-use Rattle.list_text.specs.Output.{shown, tracedText}
+use Rattle.list_text.specs.Output.{outputText, tracedText}
 use Rattle.list_text.proofs.Images.{said}
 use Rattle.list_text.proofs.Texts.{accepted-valid, refused-output, valid-output, read-entries, read-image}
 use Rattle.list_text.proofs.print.list_text.Statement.{statement}
@@ -70,13 +70,13 @@ image-is : (c : tie.After-c) → take (c .c .given .0 .0 .bytes - 0) (drop 0 (re
 unfolding countsOf
 image-is c =
     let r = read c in
-    read-image (text r) (valid c .0) (r .parse .last .1 .1 .0) (r .parse .ensures .2 ∙ ap₂ (λ (x y : List ℕ). parseImage (text r) x y) (entries-are r) (bytes-are r)) (c .c .given .0 .0 .bytes) (ap (λ (d : Input). d .bytes) (valid c .1))
+    read-image (text r) (valid c .0) (r .parse .last .1 .1 .0) (r .parse .ensures .1 .1 ∙ ap₂ (λ (x y : List ℕ). parseImage (text r) x y) (entries-are r) (bytes-are r)) (c .c .given .0 .0 .bytes) (ap (λ (d : Input). d .bytes) (valid c .1))
 
 entries-read : (c : tie.After-c) → take (c .c .given .0 .0 .entries - 0) (drop 0 (read c .parse .last .1 .0)) ≡ entriesOf (text (read c))
 unfolding countsOf
 entries-read c =
     let r = read c in
-    read-entries (text r) (valid c .0) (r .parse .last .1 .0) (r .parse .ensures .1 ∙ ap₂ (λ (x y : List ℕ). parseEntries (text r) x y) (entries-are r) (bytes-are r)) (c .c .given .0 .0 .entries) (ap (λ (d : Input). d .entries) (valid c .1))
+    read-entries (text r) (valid c .0) (r .parse .last .1 .0) (r .parse .ensures .1 .0 ∙ ap₂ (λ (x y : List ℕ). parseEntries (text r) x y) (entries-are r) (bytes-are r)) (c .c .given .0 .0 .entries) (ap (λ (d : Input). d .entries) (valid c .1))
 
 requires : tie.Need-list-image-requires
 requires c κs =
@@ -89,7 +89,7 @@ returns c =
     let w = c .before .before in
     let k = w .before .before .before .before .before .before .before in
     let r = read k in
-    said _ _ (ap₂ (λ (x y : List ℕ). shown (tracedText x y)) (image-is k) (entries-read k) ∙ valid-output (text r) (valid k .0)) _ _ (start r .args .room .now) (w .list-image .ensures)
+    said _ _ (ap₂ (λ (x y : List ℕ). outputText (tracedText x y)) (image-is k) (entries-read k) ∙ valid-output (text r) (valid k .0)) _ _ (start r .args .room .now) (w .list-image .ensures)
 
 returns-2 : tie.Need-returns-2
 returns-2 c =

@@ -1,6 +1,7 @@
 -- `read::parse` meets its contract.
 -- Assumes nothing.
 use borrow.Author.Needs.{needs}
+use Rattle.instruction.proofs.Parted.{parted}
 use Rattle.text.proofs.Cases.{neither}
 use Rattle.list_text.proofs.Whole.{other, few-entries, few-bytes, room-for, shown}
 use Rattle.list_text.proofs.read.parse.Statement.{statement}
@@ -13,21 +14,21 @@ returns : tie.Need-returns
 returns c =
     let j = c .before in
     let a = start j .args in
-    other (a .text .now) (a .entries .now) (a .image .now) (j .judge-text .result) (λ x f. neither (rw f at (c .match .keys2))) (j .judge-text .ensures)
+    parted (other (a .text .now) (a .entries .now) (a .image .now) (j .judge-text .result) (λ x f. neither (rw f at (c .match .keys2))) (j .judge-text .ensures))
 
 returns-2 : tie.Need-returns-2
 returns-2 c =
     let w = c .before .before .before in
     let j = w .before .before in
     let a = start j .args in
-    few-entries (a .text .now) (a .entries .now) (a .image .now) (j .judge-text .result) _ (w .judged .given .1) (j .judge-text .ensures) (c .if1 .taken)
+    parted (few-entries (a .text .now) (a .entries .now) (a .image .now) (j .judge-text .result) _ (w .judged .given .1) (j .judge-text .ensures) (c .if1 .taken))
 
 returns-3 : tie.Need-returns-3
 returns-3 c =
     let w = c .before .before .before .before .before in
     let j = w .before .before in
     let a = start j .args in
-    few-bytes (a .text .now) (a .entries .now) (a .image .now) (j .judge-text .result) _ (w .judged .given .1) (j .judge-text .ensures) (c .if2 .taken)
+    parted (few-bytes (a .text .now) (a .entries .now) (a .image .now) (j .judge-text .result) _ (w .judged .given .1) (j .judge-text .ensures) (c .if2 .taken))
 
 write-text-requires : tie.Need-write-text-requires
 write-text-requires c κs =
@@ -46,7 +47,7 @@ returns-4 c =
     let w = x .before .before .before in
     let j = w .before .before in
     let a = start j .args in
-    shown (a .text .now) (a .entries .now) (a .image .now) (j .judge-text .result) _ (w .judged .given .1) (j .judge-text .ensures) (x .if1 .left) (y .if2 .left) (z .write-text .last .1 .0) (z .write-text .last .1 .1 .0) (z .write-text .ensures .0) (z .write-text .ensures .1)
+    parted (shown (a .text .now) (a .entries .now) (a .image .now) (j .judge-text .result) _ (w .judged .given .1) (j .judge-text .ensures) (x .if1 .left) (y .if2 .left) (z .write-text .last .1 .0) (z .write-text .last .1 .1 .0) (z .write-text .ensures .0) (z .write-text .ensures .1))
 
 pub parse-spec : {M : Type 1} → statement M
 parse-spec =

@@ -6,13 +6,13 @@ use mathlib.Core.List.{List}
 use native.Mathlib.Omega.{arith}
 use borrow.Author.Needs.{needs}
 use lib.ListN.{length, drop}
-use Rattle.listing.specs.Lines.{zeros}
+use Rattle.listing.specs.Lines.{allZero}
 use Rattle.listing.proofs.Lining.{zeros-on, zeros-off, zeros-end}
 use Rattle.listing.proofs.lines.all_zero.Statement.{statement}
 use Rattle.listing.proofs.lines.all_zero.Tie as tie
 
 abbrev Inv-loop : tie.InvT-loop
-Inv-loop bytes i₀ i = (i ≤ length bytes) × (zeros (drop i bytes) ≡ zeros bytes)
+Inv-loop bytes i₀ i = (i ≤ length bytes) × (allZero (drop i bytes) ≡ allZero bytes)
 
 abbrev μ-loop : tie.MeasureT-loop
 μ-loop bytes i₀ i = length bytes - i

@@ -10,7 +10,7 @@ use borrow.Author.Tests.{lt-ltb, le-ltb}
 use lib.ListN.{length}
 use Rattle.arrivals.specs.Arrivals.{arrivalsOf, nextArrival}
 use Rattle.arrivals.proofs.Arriving.{leftFrom, all-left, none-left, Next, next-is}
-use Rattle.arrivals.specs.Index.{firstIn}
+use Rattle.arrivals.specs.Index.{lowestIn}
 use Rattle.arrivals.proofs.ClaimsIndexed.{first-indexed}
 use Rattle.listing.specs.Lent.{isLent}
 use Rattle.listing.proofs.Lining.{puts-begin, not-chosen, no-arrivals, arrivals}
@@ -46,7 +46,7 @@ lent e = let n : length (index e) ≡ 0 → ⊥ = e .if1 .left in lt-ltb 0 (leng
 lowest : (n : tie.After-first) → n .first .result ≡ nextArrival (image (n .before)) (marks (n .before)) (p (n .before)) 0
 lowest n =
     let e = n .before in
-    n .first .ensures ∙ ap (λ (l : List ℕ). firstIn l (p e)) (start e .pre .3 (lent e)) ∙ first-indexed (image e) (marks e) (p e) (start e .pre .2)
+    n .first .ensures ∙ ap (λ (l : List ℕ). lowestIn l (p e)) (start e .pre .3 (lent e)) ∙ first-indexed (image e) (marks e) (p e) (start e .pre .2)
 
 first : (n : tie.After-first) → Next (image (n .before)) (marks (n .before)) (p (n .before)) 0 (n .first .result)
 first n = let e = n .before in next-is (image e) (marks e) (p e) (start e .pre .1) 0 (n .first .result) (lowest n)

@@ -12,7 +12,7 @@ use Rattle.arrivals.specs.Index.{nextIn}
 use Rattle.arrivals.proofs.ClaimsIndexed.{next-indexed}
 use Rattle.arrivals.proofs.Nexts.{left-arrives}
 use Rattle.listing.specs.Hex.{hex4}
-use Rattle.listing.specs.Line.{fields}
+use Rattle.listing.specs.Line.{fieldsText}
 use Rattle.listing.proofs.Lining.{puts-place}
 use Rattle.text.proofs.Putting.{Going, going-from, going-next, going-over, puts-length, puts-most}
 use Rattle.listing.proofs.lines.put_arrived.Statement.{statement}
@@ -20,7 +20,7 @@ use Rattle.listing.proofs.lines.put_arrived.Tie as tie
 
 -- the fields of these positions, and the end of the line
 abbrev text : List ℕ → List ℕ
-text qs = fields (map hex4 qs)
+text qs = fieldsText (map hex4 qs)
 
 abbrev Inv-loop : tie.InvT-loop
 Inv-loop image marks index out₀ at p first n a₀ q₀ out a q =
@@ -74,7 +74,7 @@ turn c =
     passed (image s) (marks s) (p s) (start s .pre .1) (l .loop .q) (c .next .result) (t .loop-test .taken) (l .loop .inv .3) (next c)
 
 loop-again : tie.Need-loop-again Inv-loop μ-loop
-unfolding fields
+unfolding fieldsText
 loop-again c =
     let k = c .before .before .before in
     let l = k .before .before .before in
@@ -87,7 +87,7 @@ place : (l : tie.At-loop Inv-loop μ-loop) → l .loop .a ≤ start (l .before) 
 place l = omega (arith, l .loop .inv .1)
 
 returns : tie.Need-returns Inv-loop μ-loop
-unfolding fields
+unfolding fieldsText
 returns c =
     let k = c .before .before in
     let e = k .before .before in

@@ -7,16 +7,16 @@ use borrow.Author.Needs.{needs}
 use Rattle.views.specs.Overlaps.{overlapsIn}
 use Rattle.views.specs.declared.overlaps.Overlaps.{Overlaps}
 use Rattle.listing.specs.Hex.{hex4}
-use Rattle.listing.specs.Line.{fields}
+use Rattle.listing.specs.Line.{fieldsText}
 use Rattle.text.proofs.Putting.{puts-as}
 use Rattle.listing.proofs.lines.put_found.Statement.{statement}
 use Rattle.listing.proofs.lines.put_found.Tie as tie
 
 abbrev text : Overlaps → List ℕ
-text o = fields (map hex4 (overlapsIn o))
+text o = fieldsText (map hex4 (overlapsIn o))
 
 returns : tie.Need-returns
-unfolding fields
+unfolding fieldsText
 returns c = let k = c .before .before in puts-as (ap text (sym (k .before .before .enum-told .given .1))) (k .put-byte .ensures)
 
 returns-2 : tie.Need-returns-2

@@ -9,7 +9,7 @@ use lib.Dec.{eqb, leb}
 use lib.ListN.{getD, List·getD-eq-default}
 use borrow.Author.Needs.{needs}
 use borrow.Author.Tests.{eq-eqb, ne-eqb, le-leb, lt-leb}
-use Rattle.instruction.specs.Forms.{formOf, numberOf}
+use Rattle.instruction.specs.Forms.{formOf, formNamed}
 use Rattle.targets.specs.At.{flashHere}
 use Rattle.marks.proofs.Jmpf.{jmpf-is, jmpf-not}
 use Rattle.marks.proofs.flash.is_flash.Statement.{statement}
@@ -32,7 +32,7 @@ returns-2 c =
     rw (le-leb 2 (s .args .p) (e .if1 .left), z, jmpf-not 0 (omega arith) (λ e. omega arith))
 
 -- the first tests are passed
-begun : (c : tie.Else3) → (leb 2 (c .before .before .before .before .args .p) ≡ true) × (eqb (formOf (getD (image (c .before .before .before .before)) (c .before .before .before .before .args .p) 0)) (numberOf "Jmpf") ≡ true)
+begun : (c : tie.Else3) → (leb 2 (c .before .before .before .before .args .p) ≡ true) × (eqb (formOf (getD (image (c .before .before .before .before)) (c .before .before .before .before .args .p) 0)) (formNamed "Jmpf") ≡ true)
 begun c =
     let k = c .before in
     let e = k .before .before in

@@ -16,7 +16,7 @@ returns c =
     let s = t .before .before .before in
     let e = named-is (s .args .first) (s .fits .a) (s .fits .b) (s .fits .c) in
     let g = given (t .encode .ensures .0 ∙ ap (λ (j : Instr). replyOf countValues (encodeAnswer j (s .args .out .now))) e) (c .give .ensures) in
-    (g .0, g .1, t .encode .ensures .1 ∙ ap (λ (j : Instr). encodeRoom j (s .args .out .now)) e)
+    (g .0, (g .1, t .encode .ensures .1 ∙ ap (λ (j : Instr). encodeRoom j (s .args .out .now)) e))
 
 pub pw-encode-spec : {M : Type 1} → statement M
 pw-encode-spec = tie.close (tie.spec (λ c κs. search needs) (λ c κs. search needs) (λ c. search needs) returns)

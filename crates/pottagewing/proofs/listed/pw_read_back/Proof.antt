@@ -9,7 +9,7 @@ returns : tie.Need-returns
 returns c =
     let t = c .before .before .before .before .before .before in
     let g = given (t .read-back .ensures .0) (c .give .ensures) in
-    (g .0, g .1, t .read-back .ensures .1, t .read-back .ensures .2)
+    (g .0, (g .1, t .read-back .ensures .1))
 
 pub pw-read-back-spec : {M : Type 1} → statement M
 pw-read-back-spec =

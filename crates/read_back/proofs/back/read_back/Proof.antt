@@ -7,13 +7,14 @@ use native.Mathlib.Omega.{arith}
 use borrow.Author.Needs.{needs}
 use lib.ListN.{length, take, drop, replicate, length-append, length-replicate}
 use lib.Seq.{take-at}
+use Rattle.instruction.proofs.Parted.{parted}
 use Rattle.text.proofs.Cases.{none-other}
 use Rattle.read_back.proofs.Backs.{bytesIn, take-replicate, too-long, short-marks, no-room, is-bad, bounded, is-done}
 use Rattle.read_back.proofs.back.read_back.Statement.{statement}
 use Rattle.read_back.proofs.back.read_back.Tie as tie
 
 returns : tie.Need-returns
-returns c = let a = c .before .before .before .before .args in too-long (a .text .now) (a .length) (a .image .now) (a .marks .now) (c .if1 .taken)
+returns c = let a = c .before .before .before .before .args in parted (too-long (a .text .now) (a .length) (a .image .now) (a .marks .now) (c .if1 .taken))
 
 abbrev start : tie.Else1 → tie.Start
 start e = e .before .before .before .before
@@ -22,14 +23,14 @@ returns-2 : tie.Need-returns-2
 returns-2 c =
     let e = c .before in
     let a = start e .args in
-    short-marks (a .text .now) (a .length) (a .image .now) (a .marks .now) (e .if1 .left) (c .if2 .taken)
+    parted (short-marks (a .text .now) (a .length) (a .image .now) (a .marks .now) (e .if1 .left) (c .if2 .taken))
 
 returns-3 : tie.Need-returns-3
 returns-3 c =
     let f = c .before in
     let e = f .before in
     let a = start e .args in
-    no-room (a .text .now) (a .length) (a .image .now) (a .marks .now) (e .if1 .left) (f .if2 .left) (c .if3 .taken)
+    parted (no-room (a .text .now) (a .length) (a .image .now) (a .marks .now) (e .if1 .left) (f .if2 .left) (c .if3 .taken))
 
 abbrev else3 : tie.After-no-marks → tie.Else3
 else3 m = m .before .before
@@ -87,8 +88,9 @@ returns-4 c =
     let m = made l in
     let f = else3 m .before in
     let a = start (from m) .args in
-    is-bad (a .text .now) (a .length) (a .image .now) (a .marks .now) (from m .if1 .left) (f .if2 .left) (else3 m .if3 .left) _ _ (new l) (told l) (blank-cells m) (blank-marks m) (l .read-lines .result) (l .read-lines .ensures)
-    (λ j e. none-other (rw e at (c .match .keys2)))
+    parted
+    (is-bad (a .text .now) (a .length) (a .image .now) (a .marks .now) (from m .if1 .left) (f .if2 .left) (else3 m .if3 .left) _ _ (new l) (told l) (blank-cells m) (blank-marks m) (l .read-lines .result) (l .read-lines .ensures)
+    (λ j e. none-other (rw e at (c .match .keys2))))
 
 abbrev lined : tie.After-enum-told → tie.After-read-lines
 lined e = e .before .before .before .before
@@ -133,9 +135,10 @@ returns-5 c =
     let m = made l in
     let f = else3 m .before in
     let a = start (from m) .args in
-    is-done (a .text .now) (a .length) (a .image .now) (a .marks .now) (from m .if1 .left) (f .if2 .left) (else3 m .if3 .left) _ _ (new l) (told l) (blank-cells m) (blank-marks m) (l .read-lines .result) (l .read-lines .ensures) _ (e .enum-told .given .1) _ _
+    parted
+    (is-done (a .text .now) (a .length) (a .image .now) (a .marks .now) (from m .if1 .left) (f .if2 .left) (else3 m .if3 .left) _ _ (new l) (told l) (blank-cells m) (blank-marks m) (l .read-lines .result) (l .read-lines .ensures) _ (e .enum-told .given .1) _ _
     (i .put-image .ensures ∙ ap (λ (x : List ℕ). bytesIn x ++ drop (length x) (a .image .now)) (again l))
-    (p .put-marks .ensures ∙ ap (λ (x : List ℕ). x ++ drop (length x) (a .marks .now)) (seen-again l))
+    (p .put-marks .ensures ∙ ap (λ (x : List ℕ). x ++ drop (length x) (a .marks .now)) (seen-again l)))
 
 pub read-back-spec : {M : Type 1} → statement M
 read-back-spec =

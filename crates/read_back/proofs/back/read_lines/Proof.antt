@@ -52,7 +52,7 @@ loop-again c =
     let l = loop k in
     let a = start l .args in
     going-on (text l) (a .cells .now) (a .marks .now) (l .loop .place) (l .loop .cells) (l .loop .marks) (l .loop .inv) (taken k .if1 .taken) _ (sym (ap (turnedOf (l .loop .place)) (n .next .given .1)) ∙ k .read-on .ensures .0)
-    (omega (arith, start l .good .0 .1)) _ _ (k .read-on .ensures .1) (k .read-on .ensures .2)
+    (omega (arith, start l .good .0 .1)) _ _ (k .read-on .ensures .1 .0) (k .read-on .ensures .1 .1)
 
 returns : tie.Need-returns Inv-loop μ-loop
 returns c =

@@ -9,7 +9,7 @@ use borrow.Author.Needs.{needs}
 use borrow.Author.Tests.{not-true, not-false}
 use lib.ListN.{getD}
 use Rattle.targets.proofs.HereIs.{to-end}
-use Rattle.read_back.specs.Line.{isFound, isData, byLetter, isLine}
+use Rattle.read_back.specs.Line.{isFoundRest, isDataRest, byLetter, isLine}
 use Rattle.read_back.proofs.NoLetters.{no-line}
 use Rattle.read_back.proofs.Lines.{start-short, start-tab, start-hex, started, ended}
 use Rattle.read_back.proofs.line.is_line.Statement.{statement}
@@ -53,13 +53,13 @@ returns-5 : tie.Need-returns-5
 returns-5 c =
     let m = c .before .before in
     let k = m .before in
-    lettered k (code "O") (m .match .keys2) _ (c .is-found .ensures ∙ ap isFound (to-end (line (there k)) 6))
+    lettered k (code "O") (m .match .keys2) _ (c .is-found .ensures ∙ ap isFoundRest (to-end (line (there k)) 6))
 
 returns-6 : tie.Need-returns-6
 returns-6 c =
     let m = c .before .before in
     let k = m .before in
-    lettered k (code "A") (m .match .keys3) _ (c .is-found2 .ensures ∙ ap isFound (to-end (line (there k)) 6))
+    lettered k (code "A") (m .match .keys3) _ (c .is-found2 .ensures ∙ ap isFoundRest (to-end (line (there k)) 6))
 
 returns-7 : tie.Need-returns-7
 returns-7 c = let m = c .before in lettered (m .before) (code "I") (m .match .keys4) _ (c .is-code .ensures)
@@ -68,7 +68,7 @@ returns-8 : tie.Need-returns-8
 returns-8 c =
     let m = c .before .before in
     let k = m .before in
-    lettered k (code "D") (m .match .keys5) _ (c .is-data .ensures ∙ ap isData (to-end (line (there k)) 6))
+    lettered k (code "D") (m .match .keys5) _ (c .is-data .ensures ∙ ap isDataRest (to-end (line (there k)) 6))
 
 returns-9 : tie.Need-returns-9
 returns-9 c = let k = c .before in sym (no-line _ (line (there k)) (c .match .rest)) ∙ rest k

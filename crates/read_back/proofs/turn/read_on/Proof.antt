@@ -8,6 +8,7 @@ use borrow.Author.Needs.{needs}
 use borrow.Author.Tests.{not-true, not-false}
 use lib.ListN.{length, take, drop}
 use lib.Seq.{sets}
+use Rattle.instruction.proofs.Parted.{parted}
 use Rattle.text.proofs.Cases.{neither}
 use Rattle.read_back.specs.Line.{positionOn, recordOf}
 use Rattle.read_back.specs.Read.{isGood}
@@ -35,9 +36,10 @@ returns : tie.Need-returns
 returns c =
     let k = c .before in
     let a = start k .args in
-    left-bad (place k) (a .cells .now) (a .marks .now) (it k)
+    parted
+    (left-bad (place k) (a .cells .now) (a .marks .now) (it k)
     (ap (λ (b : Bool). b && agree (a .cells .now) (positionOn (it k)) (listedOn (it k)))
-    (untaken (text k) (place k) (start k .pre) (k .read-line .result) (k .read-line .ensures) (λ r n f. neither (rw f at (c .match .keys2)))))
+    (untaken (text k) (place k) (start k .pre) (k .read-line .result) (k .read-line .ensures) (λ r n f. neither (rw f at (c .match .keys2))))))
 
 abbrev before : tie.After-struct-known → tie.After-read-line
 before s = s .before .before .before .before
@@ -79,7 +81,7 @@ returns-2 c =
     let g = c .before in
     let k = before (known g) in
     let a = start k .args in
-    left-bad (place k) (a .cells .now) (a .marks .now) (it k) (fits g false (not-true _ (c .if1 .taken)))
+    parted (left-bad (place k) (a .cells .now) (a .marks .now) (it k) (fits g false (not-true _ (c .if1 .taken))))
 
 abbrev agreeing : tie.After-reaches → tie.Else1
 agreeing h = h .before .before
@@ -95,7 +97,7 @@ returns-3 c =
     let e = agreeing h in
     let k = before (known (e .before)) in
     let a = start k .args in
-    left-past (place k) (a .cells .now) (a .marks .now) (it k) (fits (e .before) true (not-false _ (e .if1 .left))) (sym (reached h) ∙ c .if2 .taken)
+    parted (left-past (place k) (a .cells .now) (a .marks .now) (it k) (fits (e .before) true (not-false _ (e .if1 .left))) (sym (reached h) ∙ c .if2 .taken))
 
 abbrev there : tie.Else2 → tie.After-struct-known
 there e = known (agreeing (e .before) .before)
@@ -110,9 +112,10 @@ returns-4 c =
     let s = known (e .before) in
     let k = before s in
     let a = start k .args in
-    left-on (place k) (a .cells .now) (a .marks .now) (it k) (fits (e .before) true (not-false _ (e .if1 .left))) (sym (reached h) ∙ f .if2 .left) (next s) (got s .goes) _ _
+    parted
+    (left-on (place k) (a .cells .now) (a .marks .now) (it k) (fits (e .before) true (not-false _ (e .if1 .left))) (sym (reached h) ∙ f .if2 .left) (next s) (got s .goes) _ _
     (l .list .ensures ∙ ap (λ (t : List ℕ). sets (a .cells .now) (positionOn t) (map suc (listedOn t))) (is s))
-    (m .mark .ensures ∙ ap (λ (r : Record). markedBy r (a .marks .now)) (got s .is))
+    (m .mark .ensures ∙ ap (λ (r : Record). markedBy r (a .marks .now)) (got s .is)))
 
 pub read-on-spec : {M : Type 1} → statement M
 read-on-spec =

@@ -3,7 +3,7 @@
 use Prim.Native.Nat.{_-_, _≤_, _<_}
 use native.Mathlib.Omega.{arith}
 use lib.ListN.{length}
-use Rattle.reach.specs.Sweep.{ripe}
+use Rattle.reach.specs.Sweep.{canTake}
 use Rattle.marks.specs.Tracer.{tracerOf}
 use Rattle.sweep.proofs.Passing.{Passing, passing-start, passing-next, passing-done, one-at-most}
 use Rattle.sweep.proofs.sweep.sweep_once.Statement.{statement}
@@ -36,7 +36,7 @@ add-taken : tie.Need-add-taken Inv-loop μ-loop
 add-taken c =
     let l = turn c .before in
     let a = start l .args in
-    omega (arith, small l, l .loop .inv .few, l .loop .inv .inside, c .before .before .meet .ensures .0, one-at-most (ripe (tracerOf (a .image .now)) (l .loop .marks) (l .loop .p)))
+    omega (arith, small l, l .loop .inv .few, l .loop .inv .inside, c .before .before .meet .ensures .0, one-at-most (canTake (tracerOf (a .image .now)) (l .loop .marks) (l .loop .p)))
 
 add-p : tie.Need-add-p Inv-loop μ-loop
 add-p c = let l = turn c .before in omega (arith, small l, l .loop .inv .inside)

@@ -5,13 +5,13 @@ use Prim.Native.Nat.{ℕ}
 use borrow.Author.Needs.{needs}
 use lib.ListN.{List·getD-eq-default}
 use Rattle.instruction.specs.Forms.{forms, formAt, formOf, sizeOf}
-use Rattle.instruction.specs.Pattern.{pattern, bytesOf, onto, given, next}
+use Rattle.instruction.specs.Pattern.{pattern, patternBytes, onto, bitsGiven, nextBracket}
 use Rattle.targets.proofs.here.size_at.Statement.{statement}
 use Rattle.targets.proofs.here.size_at.Tie as tie
 
 -- past the end stands a byte 0
 past : 1 ≡ sizeOf (formAt (formOf 0))
-unfolding forms formAt formOf pattern bytesOf onto given next
+unfolding forms formAt formOf pattern patternBytes onto bitsGiven nextBracket
 past = refl
 
 returns : tie.Need-returns

@@ -6,14 +6,14 @@ use native.Mathlib.Nat.{le-of-lt}
 use native.Mathlib.Omega.{arith}
 use borrow.Author.Needs.{needs}
 use lib.ListN.{length, drop}
-use Rattle.text.specs.Fields.{fieldOf}
+use Rattle.text.specs.Fields.{fieldAt}
 use Rattle.text.proofs.Cuts.{the-piece, piece-inside}
 use Rattle.text.proofs.Fielding.{field-past, field-on}
 use Rattle.text.proofs.fields.field.Statement.{statement}
 use Rattle.text.proofs.fields.field.Tie as tie
 
 abbrev Inv-loop : tie.InvT-loop
-Inv-loop line k at₀ left₀ at left = fieldOf k line ≡ fieldOf left (drop at line)
+Inv-loop line k at₀ left₀ at left = fieldAt k line ≡ fieldAt left (drop at line)
 
 abbrev μ-loop : tie.MeasureT-loop
 μ-loop line k at₀ left₀ at left = left
@@ -52,13 +52,13 @@ inside c =
     piece-inside 9 (start l .args .line .now) (l .loop .at) (c .end2 .result) (c .end2 .ensures) (le-of-lt (e .if2 .left))
 
 returns-3 : tie.Need-returns-3 Inv-loop μ-loop
-unfolding fieldOf
+unfolding fieldAt
 returns-3 c =
     let e = c .before in
     let a = e .before .before in
     let l = a .before in
     let z : l .loop .left ≡ 0 = omega (arith, a .loop-test .left) in
-    the-piece 9 (start l .args .line .now) (l .loop .at) (e .end2 .result) (e .end2 .ensures) ∙ sym (l .loop .inv ∙ ap (λ (k : ℕ). fieldOf k (drop (l .loop .at) (start l .args .line .now))) z)
+    the-piece 9 (start l .args .line .now) (l .loop .at) (e .end2 .result) (e .end2 .ensures) ∙ sym (l .loop .inv ∙ ap (λ (k : ℕ). fieldAt k (drop (l .loop .at) (start l .args .line .now))) z)
 
 pub field-spec : {M : Type 1} → statement M
 field-spec =

@@ -10,7 +10,7 @@ use borrow.Author.Needs.{needs}
 use borrow.Author.Tests.{lt-ltb, le-ltb}
 use lib.ListN.{length}
 use Rattle.targets.specs.At.{flashHere}
-use Rattle.trace.proofs.Damages.{before-hurt, exempted, by-ways, judged}
+use Rattle.trace.proofs.Damages.{before-damaged, exempted, by-ways, judged}
 use Rattle.marks.proofs.Jmpf.{two-before}
 use Rattle.trace.proofs.damage.find_damage.Statement.{statement}
 use Rattle.trace.proofs.damage.find_damage.Tie as tie
@@ -45,7 +45,7 @@ returns : tie.Need-returns
 returns c =
     let t = c .before .before in
     let f = t .before in
-    before-hurt (image f) (marks f) (p f) (flash t) (lt-ltb 3 _ (c .if2 .taken))
+    before-damaged (image f) (marks f) (p f) (flash t) (lt-ltb 3 _ (c .if2 .taken))
 
 returns-2 : tie.Need-returns-2
 returns-2 c =
@@ -60,7 +60,7 @@ returns-3 c =
     let j = c .before in
     let f = j .before in
     let e = f .is-flash .ensures in
-    c .hurt-all .ensures ∙ ap (judged (length (image f)) (marks f)) (start f .pre .2) ∙ by-ways (image f) (marks f) (p f)
+    c .damage-all .ensures ∙ ap (judged (length (image f)) (marks f)) (start f .pre .2) ∙ by-ways (image f) (marks f) (p f)
     (⊎-elim (λ w. inr (sym e ∙ w .0 .taken, le-ltb 3 _ (w .2 .left), sym (w .3 .ensures) ∙ w .4 .left)) (λ w. inl (sym e ∙ w .left)) (j .if1 .came))
 
 pub find-damage-spec : {M : Type 1} → statement M

@@ -1,6 +1,7 @@
 -- `run::run` meets its contract.
 -- Assumes nothing.
 use borrow.Author.Needs.{needs}
+use Rattle.instruction.proofs.Parted.{parted-four}
 use Rattle.trace.proofs.RunAnswers.{long, short-marks, short-order, ran}
 use Rattle.trace.proofs.run.run.Statement.{statement}
 use Rattle.trace.proofs.run.run.Tie as tie
@@ -12,14 +13,14 @@ returns : tie.Need-returns
 returns c =
     let a = c .before .before .before .before .before .args in
     let w = long (a .image .now) (a .marks .now) (a .order .now) (a .entries .now) (a .limit) (c .if1 .taken) in
-    (w .0, w .1, w .2, tt)
+    (w .0, (w .1, (w .2, tt)))
 
 returns-2 : tie.Need-returns-2
 returns-2 c =
     let e = c .before in
     let a = start e .args in
     let w = short-marks (a .image .now) (a .marks .now) (a .order .now) (a .entries .now) (a .limit) (e .if1 .left) (c .if2 .taken) in
-    (w .0, w .1, w .2, tt)
+    (w .0, (w .1, (w .2, tt)))
 
 returns-3 : tie.Need-returns-3
 returns-3 c =
@@ -27,7 +28,7 @@ returns-3 c =
     let e = f .before in
     let a = start e .args in
     let w = short-order (a .image .now) (a .marks .now) (a .order .now) (a .entries .now) (a .limit) (e .if1 .left) (f .if2 .left) (c .if3 .taken) in
-    (w .0, w .1, w .2, tt)
+    (w .0, (w .1, (w .2, tt)))
 
 returns-4 : tie.Need-returns-4
 returns-4 c =
@@ -36,7 +37,8 @@ returns-4 c =
     let f = g .before in
     let e = f .before in
     let a = start e .args in
-    ran (a .image .now) (a .marks .now) (a .order .now) (a .entries .now) (a .limit) (e .if1 .left) (f .if2 .left) (g .if3 .left) _ _ _ (r .run-on .ensures)
+    parted-four
+    (ran (a .image .now) (a .marks .now) (a .order .now) (a .entries .now) (a .limit) (e .if1 .left) (f .if2 .left) (g .if3 .left) _ _ _ (r .run-on .ensures))
 
 pub run-spec : {M : Type 1} → statement M
 run-spec =

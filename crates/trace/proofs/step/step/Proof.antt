@@ -9,7 +9,7 @@ use lib.ListN.{length}
 use Rattle.targets.specs.Ways.{placesIn}
 use Rattle.targets.specs.At.{fitsHere, waysHere}
 use Rattle.targets.proofs.WaysAre.{goes-whole, goes-cut, never-outside}
-use Rattle.trace.proofs.StepAnswers.{long, short, outside, hurt, not-waiting, cut, whole}
+use Rattle.trace.proofs.StepAnswers.{long, short, outside, damaged-mark, not-waiting, cut, whole}
 use Rattle.trace.proofs.step.step.Statement.{statement}
 use Rattle.trace.proofs.step.step.Tie as tie
 
@@ -42,7 +42,7 @@ returns-4 c =
     let g = c .before .before in
     let e = g .before in
     let f = e .before in
-    hurt (image f) (marks f) (p f) (f .if1 .left) (e .if2 .left) (g .if3 .left) (c .if4 .taken)
+    damaged-mark (image f) (marks f) (p f) (f .if1 .left) (e .if2 .left) (g .if3 .left) (c .if4 .taken)
 
 returns-5 : tie.Need-returns-5
 returns-5 c =

@@ -3,8 +3,8 @@
 use mathlib.Core.Path.{sym, ap, _∙_}
 use borrow.Author.Needs.{needs}
 use Rattle.marks.proofs.TakeUp.{by-ways}
-use Rattle.trace.specs.Step.{hurtOf}
-use Rattle.trace.proofs.Stepping.{hurt-said, took-said}
+use Rattle.trace.specs.Step.{damageOf}
+use Rattle.trace.proofs.Stepping.{damaged-said, took-said}
 use Rattle.trace.proofs.step.step_whole.Statement.{statement}
 use Rattle.trace.proofs.step.step_whole.Tie as tie
 
@@ -16,7 +16,7 @@ returns c =
     let w = c .before in
     let f = w .before .before in
     let a = start f .args in
-    hurt-said (a .image .now) (a .marks .now) (a .p) _ (sym (ap hurtOf (w .q .given .1)) ∙ f .find-damage .ensures)
+    damaged-said (a .image .now) (a .marks .now) (a .p) _ (sym (ap damageOf (w .q .given .1)) ∙ f .find-damage .ensures)
 
 returns-2 : tie.Need-returns-2
 returns-2 c =
@@ -25,7 +25,7 @@ returns-2 c =
     let w = t .before .before in
     let f = w .before .before in
     let a = start f .args in
-    took-said (a .image .now) (a .marks .now) (a .p) (sym (ap hurtOf (w .enum-told .given .1)) ∙ f .find-damage .ensures) (t .take-up .result) _ (by-ways (a .image .now) _ (a .marks .now) (a .p) _ _ (start f .pre .2) (t .take-up .ensures)) (k .count .result) (k .count .ensures) (c .new .result) (c .new .ensures)
+    took-said (a .image .now) (a .marks .now) (a .p) (sym (ap damageOf (w .enum-told .given .1)) ∙ f .find-damage .ensures) (t .take-up .result) _ (by-ways (a .image .now) _ (a .marks .now) (a .p) _ _ (start f .pre .2) (t .take-up .ensures)) (k .count .result) (k .count .ensures) (c .new .result) (c .new .ensures)
 
 pub step-whole-spec : {M : Type 1} → statement M
 step-whole-spec =

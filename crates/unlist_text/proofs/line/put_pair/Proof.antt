@@ -10,7 +10,7 @@ returns : tie.Need-returns
 returns c =
     let d = c .before in
     let a = d .before .before .args in
-    pair-put (a .b) (a .at) (d .digit .result) (c .digit2 .result) (a .room .now) (d .digit .ensures) (c .digit2 .ensures)
+    pair-put (a .b) (a .at) (d .hex1 .result) (c .hex12 .result) (a .room .now) (d .hex1 .ensures) (c .hex12 .ensures)
 
 pub put-pair-spec : {M : Type 1} → statement M
 put-pair-spec =

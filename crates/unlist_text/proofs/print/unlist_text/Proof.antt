@@ -6,7 +6,7 @@ use native.Mathlib.Omega.{arith}
 use borrow.Author.Needs.{needs}
 use lib.ListN.{length, length-replicate}
 use Rattle.read_back.specs.Back.{restoredOf}
-use Rattle.unlist_text.specs.Unlisted.{zeros}
+use Rattle.unlist_text.specs.Unlisted.{emptyRoom}
 use Rattle.unlist_text.proofs.Prints.{zeros-is, said, refused-print, accepted-print, first-few}
 use Rattle.unlist_text.proofs.print.unlist_text.Statement.{statement}
 use Rattle.unlist_text.proofs.print.unlist_text.Tie as tie
@@ -15,10 +15,10 @@ abbrev start : tie.After-read-back → tie.Start
 start r = r .before .before .before .before .before .before .before
 
 -- both rooms are as the definition says
-image-is : (r : tie.After-read-back) → r .before .before .before .before .bytes .result ≡ zeros
+image-is : (r : tie.After-read-back) → r .before .before .before .before .bytes .result ≡ emptyRoom
 image-is r = r .before .before .before .before .bytes .ensures ∙ zeros-is
 
-marks-are : (r : tie.After-read-back) → r .before .before .before .bytes2 .result ≡ zeros
+marks-are : (r : tie.After-read-back) → r .before .before .before .bytes2 .result ≡ emptyRoom
 marks-are r = r .before .before .before .bytes2 .ensures ∙ zeros-is
 
 image-long : (r : tie.After-read-back) → length (r .read-back .last .1 .1 .0) ≡ 65536
@@ -40,7 +40,7 @@ returns c =
     let r = read f in
     let a = start r .args in
     let t = f .before .before in
-    said _ _ (accepted-print (a .text .now) (a .length) _ _ (image-is r) (marks-are r) _ (ap restoredOf (sym (t .enum-told .given .1)) ∙ r .read-back .ensures .0) (r .read-back .last .1 .1 .0) _ (r .read-back .ensures .1) (f .first .ensures)) _ _ (a .room .now) (w .put-image .ensures)
+    said _ _ (accepted-print (a .text .now) (a .length) _ _ (image-is r) (marks-are r) _ (ap restoredOf (sym (t .enum-told .given .1)) ∙ r .read-back .ensures .0) (r .read-back .last .1 .1 .0) _ (r .read-back .ensures .1 .0) (f .first .ensures)) _ _ (a .room .now) (w .put-image .ensures)
 
 returns-2 : tie.Need-returns-2
 returns-2 c =

@@ -8,13 +8,13 @@ use native.Mathlib.Omega.{arith}
 use borrow.Author.Needs.{needs}
 use borrow.Author.Tests.{not-true, not-false}
 use lib.ListN.{length, getD, drop}
-use Rattle.unlist_text.specs.Number.{isDecimal, numberFrom, numberOf}
+use Rattle.unlist_text.specs.Number.{isDecimal, argumentFrom, argumentOf}
 use Rattle.unlist_text.proofs.Words.{empty-word, long-word, good-length, digit-range, word-stop, word-more, word-end, more-digits, few-digits}
 use Rattle.unlist_text.proofs.word.number.Statement.{statement}
 use Rattle.unlist_text.proofs.word.number.Tie as tie
 
 abbrev Inv-loop : tie.InvT-loop
-Inv-loop word n₀ i₀ n i = (i ≤ length word) × (n < 10 ^ i) × (numberFrom n (drop i word) ≡ numberFrom 0 word)
+Inv-loop word n₀ i₀ n i = (i ≤ length word) × (n < 10 ^ i) × (argumentFrom n (drop i word) ≡ argumentFrom 0 word)
 
 abbrev μ-loop : tie.MeasureT-loop
 μ-loop word n₀ i₀ n i = length word - i
@@ -29,7 +29,7 @@ word l = start l .args .word .now
 long : (l : tie.At-loop Inv-loop μ-loop) → length (word l) ≤ 9
 long l = l .before .if2 .left
 
-all : (l : tie.At-loop Inv-loop μ-loop) → numberFrom (l .loop .n) (drop (l .loop .i) (word l)) ≡ numberOf (word l)
+all : (l : tie.At-loop Inv-loop μ-loop) → argumentFrom (l .loop .n) (drop (l .loop .i) (word l)) ≡ argumentOf (word l)
 all l = l .loop .inv .2 ∙ good-length (word l) (l .before .before .if1 .left) (long l)
 
 -- a digit was found

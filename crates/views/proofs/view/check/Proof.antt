@@ -5,7 +5,7 @@ use mathlib.Core.List.{List}
 use Prim.Native.Nat.{ℕ, _≤_, _-_}
 use native.Mathlib.Omega.{arith}
 use borrow.Author.Needs.{needs}
-use Rattle.views.proofs.Refusing.{long, short, Left, left-from, left-next, hurt, sound}
+use Rattle.views.proofs.Refusing.{long, short, Left, left-from, left-next, damaged-mark, sound}
 use Rattle.views.proofs.view.check.Statement.{statement}
 use Rattle.views.proofs.view.check.Tie as tie
 
@@ -41,7 +41,7 @@ returns-3 c =
     let i = d .before in
     let l = i .before in
     let e = l .before .before .before in
-    hurt (image e) (marks e) (e .if1 .left) (l .before .before .if2 .left) (l .loop .p) (i .loop-test .taken) (sym (d .is-damaged .ensures) ∙ c .if3 .taken) (l .loop .inv .1)
+    damaged-mark (image e) (marks e) (e .if1 .left) (l .before .before .if2 .left) (l .loop .p) (i .loop-test .taken) (sym (d .is-damaged .ensures) ∙ c .if3 .taken) (l .loop .inv .1)
 
 loop-again : tie.Need-loop-again Inv-loop μ-loop
 loop-again c =

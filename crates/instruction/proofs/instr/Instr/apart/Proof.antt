@@ -6,7 +6,7 @@ use lib.IntN.{ℤ}
 use borrow.Author.Needs.{needs}
 use mir.Syntax.{w32}
 use mir.Val.{toZ, ofZ}
-use Rattle.instruction.specs.Forms.{forms, numberOf}
+use Rattle.instruction.specs.Forms.{forms, formNamed}
 use Rattle.instruction.specs.Parts.{partsOf}
 use Rattle.instruction.specs.declared.instr.Parts.{Parts}
 use Rattle.instruction.proofs.instr.Instr.apart.Statement.{statement}
@@ -20,7 +20,7 @@ read : {k : ℕ} {a a′ b b′ c c′ : ℤ} {v : Parts} → a′ ≡ a → b�
 read p q r e = cc
 
 pub apart-spec : {M : Type 1} → statement M
-unfolding partsOf numberOf forms
+unfolding partsOf formNamed forms
 apart-spec =
     tie.close
     (tie.spec

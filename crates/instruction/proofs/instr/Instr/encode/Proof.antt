@@ -8,7 +8,7 @@ use lib.IntN.{ℤ}
 use mir.Syntax.{w32}
 use mir.Val.{toZ, ofZ}
 use Rattle.instruction.specs.Answer.{accepted}
-use Rattle.instruction.specs.Layout.{roomAfter}
+use Rattle.instruction.specs.Layout.{writtenRoom}
 use Rattle.instruction.specs.Encode.{fitAnswer, fitOf}
 use Rattle.instruction.specs.declared.instr.Instr.{Instr}
 use Rattle.instruction.proofs.Encoding.{refuses, short, wrote}
@@ -46,7 +46,7 @@ abbrev fit : tie.After-write → tie.After-fit
 fit w = parts w .before .before .before
 
 -- the room afterwards, with the operands as they were taken apart
-left : (w : tie.After-write) (s : List ℕ) → s ≡ roomAfter (fixed w .fixed-of .result) (fixed w .before .before .before .shape-of .result) (toZ w32 (ofZ w32 (parts w .apart .result .a))) (toZ w32 (ofZ w32 (parts w .apart .result .b))) (toZ w32 (ofZ w32 (parts w .apart .result .c))) (room (fit w)) → s ≡ roomAfter (fixed w .fixed-of .result) (fixed w .before .before .before .shape-of .result) (parts w .apart .result .a) (parts w .apart .result .b) (parts w .apart .result .c) (room (fit w))
+left : (w : tie.After-write) (s : List ℕ) → s ≡ writtenRoom (fixed w .fixed-of .result) (fixed w .before .before .before .shape-of .result) (toZ w32 (ofZ w32 (parts w .apart .result .a))) (toZ w32 (ofZ w32 (parts w .apart .result .b))) (toZ w32 (ofZ w32 (parts w .apart .result .c))) (room (fit w)) → s ≡ writtenRoom (fixed w .fixed-of .result) (fixed w .before .before .before .shape-of .result) (parts w .apart .result .a) (parts w .apart .result .b) (parts w .apart .result .c) (room (fit w))
 left w s e =
     let a : Read (parts w .apart .result .a) = search needs in
     let b : Read (parts w .apart .result .b) = search needs in

@@ -2,7 +2,7 @@
 -- Assumes nothing.
 use mathlib.Core.Path.{ap, _∙_}
 use borrow.Author.Needs.{needs}
-use Rattle.instruction.specs.Mnemonic.{mnemonicOf, wordOf}
+use Rattle.instruction.specs.Mnemonic.{mnemonicOf, packedLetters}
 use Rattle.instruction.specs.declared.instr.Parts.{Parts}
 use Rattle.instruction.proofs.Known.{form-small}
 use Rattle.instruction.proofs.instr.Instr.mnemonic.Statement.{statement}
@@ -12,7 +12,7 @@ letters-requires : tie.Need-letters-requires
 letters-requires c κs = form-small (c .before .args .self) (c .apart .ensures)
 
 returns : tie.Need-returns
-returns c = c .letters .ensures ∙ ap (λ (v : Parts). wordOf (mnemonicOf (v .form))) (c .before .apart .ensures)
+returns c = c .letters .ensures ∙ ap (λ (v : Parts). packedLetters (mnemonicOf (v .form))) (c .before .apart .ensures)
 
 pub mnemonic-spec : {M : Type 1} → statement M
 mnemonic-spec = tie.close (tie.spec (λ c κs. search needs) letters-requires returns)

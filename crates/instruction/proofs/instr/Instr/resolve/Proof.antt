@@ -9,7 +9,7 @@ use mir.Val.{toZ, ofZ}
 use Rattle.instruction.specs.Answer.{Answer}
 use Rattle.instruction.specs.Kinds.{threeOf}
 use Rattle.instruction.specs.declared.kind.Kinds.{Kinds}
-use Rattle.instruction.specs.Resolution.{resolutionOf, fieldsAnswer}
+use Rattle.instruction.specs.ResolveOperand.{resolutionOf, fieldsAnswer}
 use Rattle.instruction.specs.declared.layout.Fields.{Fields}
 use Rattle.instruction.specs.Encode.{formIn}
 use Rattle.instruction.specs.Parts.{partsOf, madeOf}

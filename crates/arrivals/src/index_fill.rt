@@ -1,0 +1,36 @@
+// An index of all arrivals.
+ghost use mathlib.Core.Path.{_≡_};
+ghost use lib.ListN.{length, replicate};
+ghost use Rattle.arrivals.specs.Index.{roomOf};
+use crate::index_entry;
+use targets::Image;
+
+// Nothing arrives anywhere.
+fn blank(index: &mut [u32])
+    ensures { λ _. ⌜ now (index .exit) ≡ replicate (length (now (index .entry))) 65536 ⌝ }
+{
+    let mut i: usize = 0;
+    while i < index.len() {
+        index[i] = Image::NOWHERE;
+        i += 1;
+    }
+}
+
+// Three cells for each position of the image are filled; a room of another length stays as it was, and so does any for an image past its
+// limit. From the last position down, so that what is noted so far is what comes after.
+pub fn index_into(image: &[u8], marks: &[u8], index: &mut [u32])
+    ensures { λ _. ⌜ now (index .exit) ≡ roomOf (now (image .entry)) (now (marks .entry)) (now (index .entry)) ⌝ }
+{
+    if Image::LIMIT < image.len() {
+        return;
+    }
+    if index.len() != 3 * image.len() {
+        return;
+    }
+    blank(index);
+    let mut q = image.len();
+    while 0 < q {
+        q -= 1;
+        index_entry::enter(image, marks, index, q as u32);
+    }
+}
