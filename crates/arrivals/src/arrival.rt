@@ -42,7 +42,7 @@ fn arrives(image: &[u8], marks: &[u8], p: u32, q: u32) -> bool
 }
 
 // The lowest arrival at p that is not below this position; where there is none, a position outside every image.
-pub fn next_arrival(image: &[u8], marks: &[u8], p: u32, from: u32) -> u32
+fn next_arrival(image: &[u8], marks: &[u8], p: u32, from: u32) -> u32
     ensures { λ r. ⌜ r ≡ nextArrival (now (image .entry)) (now (marks .entry)) p from ⌝ }
 {
     if Image::LIMIT < image.len() {

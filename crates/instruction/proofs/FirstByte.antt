@@ -7,11 +7,13 @@ use lib.Dec.{ltb, ltb→lt}
 use Rattle.instruction.specs.Pattern.{pattern, patternBytes, onto, bitsGiven, nextBracket}
 use Rattle.instruction.specs.Flow.{flowOf}
 use Rattle.instruction.specs.Forms.{forms, formAt, formOf, sizeOf}
+use Rattle.instruction.specs.First.{firstSays}
+use Rattle.instruction.specs.declared.first.FirstByte.{FirstByte}
 use Rattle.instruction.specs.declared.flow.Flow.{Flow}
 use Rattle.instruction.specs.declared.flow.Flow.the-variants.{Stop, Next, Jump, Branch}
 use Rattle.instruction.proofs.Digits.{digit}
 use Rattle.instruction.proofs.Every.{holds}
-use Rattle.instruction.specs.First.{bitsOf, flowAt, saidBy, wordAt}
+use Rattle.instruction.specs.FirstBits.{bitsOf, flowAt, saidBy, wordAt}
 
 flow-at : (f : Flow) → flowAt (bitsOf f) ≡ f
 unfolding flowAt
@@ -54,3 +56,11 @@ read x w r h e g =
     g ∙ ap (λ (n : ℕ). n / 2 ^ (4 * (x / 16)) % 16) e
     ∙ digit 4 row 16 0 (x / 16) (λ j l. said-small (16 * j + x % 16) (omega arith)) (omega arith)
     ∙ ap saidBy same
+
+-- the two together
+pub both : (x : ℕ) → x < 256 → (s : ℕ) → s ≡ saidBy x → (f : Flow) → f ≡ flowAt (s / 4) → _≡_ {A = FirstByte} (record { size = s % 4; flow = f }) (firstSays x)
+unfolding firstSays
+both x h s e f g =
+    let size : s % 4 ≡ sizeOf (formAt (formOf x)) = ap (λ (k : ℕ). k % 4) e ∙ sized x h in
+    let flow : f ≡ flowOf (formOf x) = g ∙ ap (λ (k : ℕ). flowAt (k / 4)) e ∙ flowed x h in
+    rw (size, flow)

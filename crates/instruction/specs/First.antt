@@ -1,29 +1,9 @@
--- What a first byte alone says. Document 01, 'Forms' and 'Targets'.
+-- What a first byte alone says of its instruction: how long it is, and where control goes from it. Document 01, 'Forms' and 'Targets'.
 -- Assumes nothing.
-use Prim.Native.Nat.{ℕ, _+_, _*_}
-use mathlib.Core.List.{[], _∷_}
-use lib.ListN.{getD}
-use Rattle.instruction.specs.Tables.{digitsFrom}
+use Prim.Native.Nat.{ℕ}
 use Rattle.instruction.specs.Flow.{flowOf}
 use Rattle.instruction.specs.Forms.{formAt, formOf, sizeOf}
-use Rattle.instruction.specs.declared.flow.Flow.{Flow}
-use Rattle.instruction.specs.declared.flow.Flow.the-variants.{Stop, Next, Jump, Branch}
+use Rattle.instruction.specs.declared.first.FirstByte.{FirstByte}
 
--- a flow's two bits
-abbrev pub bitsOf : Flow → ℕ
-bitsOf Stop = 0
-bitsOf Next = 1
-bitsOf Jump = 2
-bitsOf Branch = 3
-
--- the flow of two bits
-unfoldable pub flowAt : ℕ → Flow
-flowAt n = getD (Stop ∷ Next ∷ Jump ∷ Branch ∷ []) n Stop
-
--- the size of the byte's form in the lower two bits, and where control goes from it in the upper two
-unfoldable pub saidBy : ℕ → ℕ
-saidBy x = sizeOf (formAt (formOf x)) + 4 * bitsOf (flowOf (formOf x))
-
--- that of the sixteen first bytes that have these low four bits, row by row
-unfoldable pub wordAt : ℕ → ℕ
-wordAt low = digitsFrom 16 (λ (row : ℕ). saidBy (16 * row + low)) 16 0
+unfoldable pub firstSays : ℕ → FirstByte
+firstSays x = record { size = sizeOf (formAt (formOf x)); flow = flowOf (formOf x) }

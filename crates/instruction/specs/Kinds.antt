@@ -2,6 +2,7 @@
 -- document 000, where it writes an instruction out.
 -- Assumes nothing.
 use Prim.Native.Nat.{ℕ}
+use mathlib.Core.Bool.{Bool, true, false}
 use mathlib.Core.List.{List, [], _∷_}
 use lib.ListN.{getD}
 use Rattle.instruction.specs.declared.kind.Kind.{Kind}
@@ -34,3 +35,15 @@ kindAt s i = getD (kindsOf s) i Absent
 
 abbrev pub threeOf : Shape → Kinds
 threeOf s = record { a = kindAt s 0; b = kindAt s 1; c = kindAt s 2 }
+
+-- there is an operand
+abbrev pub isGiven : Kind → Bool
+isGiven Absent = false
+isGiven Immediate = true
+isGiven Direct = true
+isGiven Register = true
+isGiven BitNumber = true
+isGiven Short = true
+isGiven Long = true
+isGiven Page = true
+isGiven Far = true

@@ -17,3 +17,4 @@ pub mod Resolve
 pub mod Flow
 pub mod Mnemonic
 pub mod First
+pub mod FirstBits

@@ -5,7 +5,8 @@
 ghost use mathlib.Core.Path.{_≡_};
 ghost use Prim.Native.Nat.{_<_};
 ghost use Rattle.instruction.specs.Forms.{formAt, formOf, sizeOf};
-ghost use Rattle.instruction.specs.First.{wordAt, saidBy, flowAt};
+ghost use Rattle.instruction.specs.First.{firstSays};
+ghost use Rattle.instruction.specs.FirstBits.{wordAt, saidBy, flowAt};
 use crate::flow::Flow;
 
 // The word of the column of a byte's low four bits. All sixteen are written out, so that the compiler makes a load of it.
@@ -34,10 +35,22 @@ fn word(low: u8) -> u64
 }
 
 // The four bits of a first byte.
-pub fn bits(first: u8) -> u32
+fn bits(first: u8) -> u32
     ensures { λ r. ⌜ r ≡ saidBy first ⌝ }
 {
     ((word(first % 16) >> (4 * (first / 16))) % 16) as u32
+}
+
+// Where control goes, by the upper two bits.
+fn flow_by(upper: u32) -> Flow
+    ensures { λ r. ⌜ r ≡ flowAt upper ⌝ }
+{
+    match upper {
+        1 => Flow::Next,
+        2 => Flow::Jump,
+        3 => Flow::Branch,
+        _ => Flow::Stop,
+    }
 }
 
 pub fn size_by(first: u8) -> u32
@@ -46,14 +59,23 @@ pub fn size_by(first: u8) -> u32
     bits(first) % 4
 }
 
-// Where control goes, by the upper two bits.
-pub fn flow_of(upper: u32) -> Flow
-    ensures { λ r. ⌜ r ≡ flowAt upper ⌝ }
-{
-    match upper {
-        1 => Flow::Next,
-        2 => Flow::Jump,
-        3 => Flow::Branch,
-        _ => Flow::Stop,
+pub struct FirstByte {
+    pub size: u32,
+    pub flow: Flow,
+}
+
+impl FirstByte {
+    pub fn new(size: u32, flow: Flow) -> Self
+        ensures { λ r. ⌜ r ≡ record { size = size; flow = flow } ⌝ }
+    {
+        Self { size, flow }
+    }
+
+    // What this first byte says.
+    pub fn read(first: u8) -> Self
+        ensures { λ r. ⌜ r ≡ firstSays first ⌝ }
+    {
+        let said = bits(first);
+        Self::new(said % 4, flow_by(said / 4))
     }
 }

@@ -10,7 +10,6 @@ use crate::build;
 use crate::form;
 use crate::kind::Kinds;
 use crate::layout;
-use crate::resolve_operand::Resolution;
 
 pub enum Instr {
     Add_i8(i32),
@@ -103,9 +102,9 @@ impl Parts {
 
 impl Instr {
     // A base is the address after an instruction, and may be the end of memory.
-    pub const HIGHEST_BASE: u32 = Resolution::HIGHEST_BASE;
+    pub const HIGHEST_BASE: u32 = 65_536;
 
-    pub const HIGHEST_ADDRESS: i32 = Resolution::HIGHEST_ADDRESS;
+    pub const HIGHEST_ADDRESS: i32 = 65_535;
 
     // One of the two functions that go through all forms: the instruction taken apart.
     pub fn apart(self) -> Parts

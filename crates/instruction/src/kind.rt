@@ -1,6 +1,6 @@
 // Operands: the kind of each, and the 16 combinations of kinds that the forms have.
 ghost use mathlib.Core.Path.{_≡_};
-ghost use Rattle.instruction.specs.Kinds.{threeOf};
+ghost use Rattle.instruction.specs.Kinds.{isGiven, threeOf};
 
 // What an operand is, and so which numbers fit it and how it is resolved.
 pub enum Kind {
@@ -22,10 +22,37 @@ pub enum Kind {
     Long,
 }
 
+impl Kind {
+    // Whether there is an operand.
+    pub fn is_given(self) -> bool
+        ensures { λ r. ⌜ r ≡ isGiven self ⌝ }
+    {
+        match self {
+            Kind::Absent => false,
+            Kind::Immediate => true,
+            Kind::Direct => true,
+            Kind::Register => true,
+            Kind::BitNumber => true,
+            Kind::Page => true,
+            Kind::Far => true,
+            Kind::Short => true,
+            Kind::Long => true,
+        }
+    }
+}
+
 pub struct Kinds {
     pub a: Kind,
     pub b: Kind,
     pub c: Kind,
+}
+
+impl Kinds {
+    pub fn new(a: Kind, b: Kind, c: Kind) -> Self
+        ensures { λ r. ⌜ r ≡ record { a = a; b = b; c = c } ⌝ }
+    {
+        Self { a, b, c }
+    }
 }
 
 // The operands of a form, in the order shown, by the names that the Rust gives them: `D9B3R8` for `(d9, b3, r8)`.
@@ -51,21 +78,13 @@ pub enum Shape {
 fn one(a: Kind) -> Kinds
     ensures { λ r. ⌜ r ≡ record { a = a; b = Kind.Absent; c = Kind.Absent } ⌝ }
 {
-    Kinds {
-        a,
-        b: Kind::Absent,
-        c: Kind::Absent,
-    }
+    Kinds::new(a, Kind::Absent, Kind::Absent)
 }
 
 fn two(a: Kind, b: Kind) -> Kinds
     ensures { λ r. ⌜ r ≡ record { a = a; b = b; c = Kind.Absent } ⌝ }
 {
-    Kinds {
-        a,
-        b,
-        c: Kind::Absent,
-    }
+    Kinds::new(a, b, Kind::Absent)
 }
 
 impl Shape {
@@ -84,19 +103,11 @@ impl Shape {
             Shape::A16 => one(Kind::Far),
             Shape::R16 => one(Kind::Long),
             Shape::R8 => one(Kind::Short),
-            Shape::D9B3R8 => Kinds {
-                a: Kind::Direct,
-                b: Kind::BitNumber,
-                c: Kind::Short,
-            },
+            Shape::D9B3R8 => Kinds::new(Kind::Direct, Kind::BitNumber, Kind::Short),
             Shape::D9R8 => two(Kind::Direct, Kind::Short),
             Shape::RiR8 => two(Kind::Register, Kind::Short),
             Shape::ImmR8 => two(Kind::Immediate, Kind::Short),
-            Shape::RiImmR8 => Kinds {
-                a: Kind::Register,
-                b: Kind::Immediate,
-                c: Kind::Short,
-            },
+            Shape::RiImmR8 => Kinds::new(Kind::Register, Kind::Immediate, Kind::Short),
         }
     }
 }

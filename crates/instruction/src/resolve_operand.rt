@@ -10,6 +10,7 @@ ghost use Rattle.instruction.specs.declared.kind.Kind.the-variants.{Page
 ghost use Rattle.instruction.specs.ResolveOperand.{operandRefusals, fieldOf, operandAnswer, resolutionOf, fieldsAnswer};
 use crate::answer::Misfit;
 use crate::answer::Tops;
+use crate::instr::Instr;
 use crate::kind::Kind;
 use crate::kind::Kinds;
 use crate::layout::Fields;
@@ -35,13 +36,6 @@ pub enum Resolution {
     Refused(Why),
 }
 
-impl Resolution {
-    // A base is the address after an instruction, and may be the end of memory.
-    pub const HIGHEST_BASE: u32 = 65_536;
-
-    pub const HIGHEST_ADDRESS: i32 = 65_535;
-}
-
 // The field of one operand, or why there is none.
 enum Field {
     Is(i32),
@@ -62,7 +56,7 @@ fn plain(n: u8, kind: Kind, z: i32) -> Field
 fn page(n: u8, z: i32, base: u32) -> Field
     ensures { λ r. ⌜ operandAnswer r ≡ judge (operandRefusals base n Page z) (fieldOf base Page z) ⌝ }
 {
-    if range::is_outside(0, Resolution::HIGHEST_ADDRESS, z) {
+    if range::is_outside(0, Instr::HIGHEST_ADDRESS, z) {
         return Field::Not(Why::Unfit(Misfit::new(n, z)));
     }
     let address = signed::code(z);
@@ -79,7 +73,7 @@ fn short(address: i32, base: u32) -> Field
     requires { ⌜ base ≤ 65536 ⌝ }
     ensures { λ r. ⌜ operandAnswer r ≡ judge (operandRefusals base 0 Short address) (fieldOf base Short address) ⌝ }
 {
-    if range::is_outside(0, Resolution::HIGHEST_ADDRESS, address) {
+    if range::is_outside(0, Instr::HIGHEST_ADDRESS, address) {
         return Field::Not(Why::NoAddress(address));
     }
     let offset = signed::minus(address, base);
@@ -94,7 +88,7 @@ fn long(z: i32, base: u32) -> Field
     requires { ⌜ base ≤ 65536 ⌝ }
     ensures { λ r. ⌜ operandAnswer r ≡ judge (operandRefusals base 0 Long z) (fieldOf base Long z) ⌝ }
 {
-    if range::is_outside(0, Resolution::HIGHEST_ADDRESS, z) {
+    if range::is_outside(0, Instr::HIGHEST_ADDRESS, z) {
         return Field::Not(Why::NoAddress(z));
     }
     let address = (signed::code(z) % 65536) as u16;
@@ -125,7 +119,7 @@ fn operand(n: u8, kind: Kind, z: i32, base: u32) -> Field
 pub fn resolve(kinds: Kinds, a: i32, b: i32, c: i32, base: u32) -> Resolution
     ensures { λ r. ⌜ resolutionOf r ≡ fieldsAnswer kinds a b c base ⌝ }
 {
-    if Resolution::HIGHEST_BASE < base {
+    if Instr::HIGHEST_BASE < base {
         return Resolution::FarBase(base);
     }
     let ka = kinds.a;

@@ -20,7 +20,7 @@ use Rattle.instruction.specs.Parts.{partsOf}
 use Rattle.instruction.specs.declared.instr.Instr.{Instr}
 use Rattle.instruction.specs.declared.instr.Parts.{Parts}
 use Rattle.targets.specs.At.{placeOf}
-use Rattle.targets.specs.Targets.{isGiven}
+use Rattle.instruction.specs.Kinds.{isGiven}
 use Rattle.listing.specs.Hex.{hex1, hex2, hex3, hex4}
 use Rattle.listing.specs.Line.{fieldsText}
 use Rattle.listing.specs.Operand.{target, shown, shownAll, shownField, operandsBy}

@@ -8,14 +8,14 @@ use mathlib.Core.List.{List, [], _∷_}
 use lib.Dec.{ltb}
 use lib.IntN.{ℤ}
 use Rattle.instruction.specs.Answer.{Answer, accepted, refused}
-use Rattle.instruction.specs.Kinds.{kindsOf}
+use Rattle.instruction.specs.Kinds.{kindsOf, isGiven}
 use Rattle.instruction.specs.declared.kind.Kind.{Kind}
 use Rattle.instruction.specs.declared.kind.Kind.the-variants.{Absent, Immediate, Direct, Register, BitNumber, Page, Far, Short, Long}
 use Rattle.instruction.specs.Encode.{formIn}
 use Rattle.instruction.specs.Parts.{partsOf}
 use Rattle.instruction.specs.declared.instr.Instr.{Instr}
 use Rattle.targets.specs.At.{placeOf}
-use Rattle.targets.specs.Targets.{isGiven, targetsAnswer}
+use Rattle.targets.specs.Targets.{targetsAnswer}
 use Rattle.listing.specs.Hex.{hex1, hex2, hex3, hex4}
 
 -- a target by its position: 65,536 and more are outside memory, and so is what lies below 0

@@ -2,7 +2,7 @@
 ghost use mathlib.Core.Path.{_≡_};
 ghost use mathlib.Core.List.{[], _∷_};
 ghost use Prim.Native.Nat.{_^_, _<_};
-ghost use Rattle.targets.specs.Targets.{isGiven, targetsOf};
+ghost use Rattle.targets.specs.Targets.{targetsOf};
 ghost use Rattle.listing.specs.Hex.{hex1, hex2};
 ghost use Rattle.listing.specs.Line.{fieldsText};
 ghost use Rattle.listing.specs.Operand.{target, shown, shownField, firstOf, operandsBy};
@@ -31,27 +31,10 @@ fn put_target(out: &mut [u8], at: usize, t: u32) -> usize
     requires { ⌜ at < 2 ^ 59 ⌝ }
     ensures { λ r. ⌜ Puts (target t) at (now (out .entry)) (now (out .exit)) r ⌝ }
 {
-    if 65_535 < t {
+    if Image::NOWHERE <= t {
         return put::put_byte(out, at, b'?');
     }
     put::put_hex4(out, at, t)
-}
-
-// Whether there is an operand.
-fn is_given(kind: Kind) -> bool
-    ensures { λ r. ⌜ r ≡ isGiven kind ⌝ }
-{
-    match kind {
-        Kind::Absent => false,
-        Kind::Immediate => true,
-        Kind::Direct => true,
-        Kind::Register => true,
-        Kind::BitNumber => true,
-        Kind::Page => true,
-        Kind::Far => true,
-        Kind::Short => true,
-        Kind::Long => true,
-    }
 }
 
 fn put_immediate(out: &mut [u8], at: usize, n: u32) -> usize
@@ -94,7 +77,7 @@ fn put_field(out: &mut [u8], at: usize, kind: Kind, n: u32, t: u32) -> usize
     requires { ⌜ at < 2 ^ 58 ⌝ }
     ensures { λ r. ⌜ Puts (shownField t kind n) at (now (out .entry)) (now (out .exit)) r ⌝ }
 {
-    if !is_given(kind) {
+    if !kind.is_given() {
         return at;
     }
     let a = put::put_byte(out, at, b'\t');

@@ -1,6 +1,6 @@
 // The packed map, one bit for each image byte: a word and its bits, building the map, keeping it up, and asking it.
 pub mod ask;
-pub mod bits;
+mod bits;
 pub mod build;
 mod cover;
 mod find;
@@ -11,10 +11,6 @@ pub use ask::Asked;
 pub use ask::count;
 pub use ask::first_data;
 pub use ask::test;
-pub use bits::first_zero;
-pub use bits::is_one;
-pub use bits::ones_between;
-pub use bits::with_ones;
 pub use build::build_map;
 pub use update::Updated;
 pub use update::as_updated;

@@ -2,9 +2,7 @@
 ghost use mathlib.Core.Path.{_≡_};
 ghost use Rattle.reach.specs.Mark.{tracedMark};
 
-pub struct Mark {
-    pub value: u8,
-}
+pub struct Mark;
 
 impl Mark {
     pub const UNTOUCHED: u8 = 0;
@@ -16,12 +14,6 @@ impl Mark {
     pub const FLASH: u8 = 3;
 
     pub const HIGHEST: u8 = 3;
-
-    pub fn new(value: u8) -> Self
-        ensures { λ r. ⌜ r .value ≡ value ⌝ }
-    {
-        Self { value }
-    }
 
     // Whether a mark says traced.
     pub fn is_traced(mark: u8) -> bool

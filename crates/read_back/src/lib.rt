@@ -2,18 +2,13 @@
 pub mod back;
 mod laying;
 mod line;
-pub mod order;
+mod order;
 pub mod place;
 pub mod read;
 mod turn;
 
 pub use back::Restored;
 pub use back::read_back;
-pub use line::digits;
-pub use line::has_bytes;
-pub use order::follows;
-pub use order::line_after;
-pub use order::rank;
 pub use place::Place;
 pub use place::Record;
 pub use read::Read;

@@ -3,12 +3,12 @@
 use mathlib.Core.Path.{_≡_}
 use mathlib.Core.Bool.{true, false}
 use Prim.Native.Nat.{ℕ}
-use Rattle.instruction.specs.Kinds.{kindAt}
+use Rattle.instruction.specs.Kinds.{kindAt, isGiven}
 use Rattle.instruction.specs.declared.kind.Kind.{Kind}
 use Rattle.instruction.specs.Encode.{formIn}
 use Rattle.instruction.specs.Parts.{partsOf}
 use Rattle.instruction.specs.declared.instr.Instr.{Instr}
-use Rattle.targets.specs.Targets.{addressOf, addressIn, isGiven}
+use Rattle.targets.specs.Targets.{addressOf, addressIn}
 
 module _ (next : ℕ) (i : Instr) where
   abbrev k : ℕ → Kind

@@ -6,7 +6,7 @@ use mathlib.Core.List.{List, [], _∷_}
 use lib.Dec.{ltb}
 use lib.IntN.{ℤ, pos, natAbs, _+ℤ_}
 use Rattle.instruction.specs.Answer.{Answer, accepted, refused, refuse, judge}
-use Rattle.instruction.specs.Kinds.{kindAt}
+use Rattle.instruction.specs.Kinds.{kindAt, isGiven}
 use Rattle.instruction.specs.declared.kind.Kind.{Kind}
 use Rattle.instruction.specs.declared.kind.Kind.the-variants.{Absent, Immediate, Direct, Register, BitNumber, Page, Far, Short, Long}
 use Rattle.instruction.specs.declared.kind.Shape.{Shape}
@@ -37,17 +37,6 @@ addressOf next Short z = pos next +ℤ z
 addressOf next Long z = pos ((next - 1 + natAbs z) % 65536)
 addressOf next Page z = pos (next / 4096 % 16 * 4096 + natAbs z)
 addressOf next Far z = z
-
-abbrev pub isGiven : Kind → Bool
-isGiven Absent = false
-isGiven Immediate = true
-isGiven Direct = true
-isGiven Register = true
-isGiven BitNumber = true
-isGiven Short = true
-isGiven Long = true
-isGiven Page = true
-isGiven Far = true
 
 -- of what is told of three operands, that of the last which a shape has
 abbrev pub lastOf : {A : Type 0} → Shape → A → A → A → A

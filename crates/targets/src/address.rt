@@ -12,7 +12,7 @@ ghost use Rattle.instruction.specs.declared.kind.Kind.the-variants.{Page, Short
 ghost use Rattle.instruction.specs.Encode.{fitAnswer};
 ghost use lib.ListN.{length};
 ghost use Rattle.targets.specs.At.{sizeHere, fitsHere, instrHere, placeOf};
-ghost use Rattle.targets.specs.Targets.{addressOf, addressIn, isGiven, targetsIn, targetsOf};
+ghost use Rattle.targets.specs.Targets.{addressOf, addressIn, targetsIn, targetsOf};
 use crate::here;
 use crate::here::Here;
 use crate::image::Image;
@@ -62,22 +62,6 @@ fn page(next: u32, z: i32) -> i32
     signed(next / 4096 % 16 * 4096 + unsigned(z))
 }
 
-fn is_given(kind: Kind) -> bool
-    ensures { λ r. ⌜ r ≡ isGiven kind ⌝ }
-{
-    match kind {
-        Kind::Absent => false,
-        Kind::Immediate => true,
-        Kind::Direct => true,
-        Kind::Register => true,
-        Kind::BitNumber => true,
-        Kind::Page => true,
-        Kind::Far => true,
-        Kind::Short => true,
-        Kind::Long => true,
-    }
-}
-
 // The address that an operand names.
 fn address_of(next: u32, kind: Kind, z: i32) -> i32
     requires { ⌜ (1 ≤ next) × (next ≤ 65536) × (unfit kind z ≡ false) ⌝ }
@@ -106,10 +90,10 @@ pub fn address_in(next: u32, instr: Instr) -> i32
     let ka = k.a;
     let kb = k.b;
     let kc = k.c;
-    if is_given(kc) {
+    if kc.is_given() {
         return address_of(next, kc, v.c);
     }
-    if is_given(kb) {
+    if kb.is_given() {
         return address_of(next, kb, v.b);
     }
     address_of(next, ka, v.a)

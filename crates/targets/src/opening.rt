@@ -3,8 +3,8 @@ ghost use mathlib.Core.Path.{_≡_};
 ghost use Rattle.targets.specs.Opening.{openingOf};
 use crate::image::Image;
 use instruction::CutOff;
+use instruction::FirstByte;
 use instruction::Flow;
-use instruction::first;
 
 pub enum Opening {
     // Where it ends.
@@ -26,11 +26,12 @@ pub fn opening_at(image: &[u8], p: u32) -> Opening
         return Opening::Outside;
     }
     let first = image[at];
-    let bits = first::bits(first);
-    let next = p + bits % 4;
+    let says = FirstByte::read(first);
+    let next = p + says.size;
     let end = next as usize;
     if n < end {
         return Opening::Cut(CutOff::new(p, first, (end - n) as u8));
     }
-    Opening::Whole(next, first::flow_of(bits / 4))
+    let flow = says.flow;
+    Opening::Whole(next, flow)
 }

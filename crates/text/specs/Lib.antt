@@ -2,7 +2,6 @@ pub mod Puts
 pub mod Bytes
 pub mod Cut
 pub mod Four
-pub mod Fields
 pub mod Hex
 pub mod Decimal
 pub mod Refusal

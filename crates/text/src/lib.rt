@@ -2,7 +2,6 @@
 pub mod bytes;
 pub mod cut;
 mod decimal;
-pub mod fields;
 pub mod four;
 pub mod hex;
 pub mod refusal;

@@ -8,9 +8,8 @@ ghost use Rattle.listing.specs.Hex.{hex2, hexes};
 ghost use Rattle.text.specs.Puts.{Puts};
 ghost use Rattle.views.specs.View.{viewedOf, roomAnswer, roomAfter};
 ghost use Rattle.unlist_text.specs.Unlisted.{imageText};
+use list_text::Input;
 use views::Viewed;
-
-const MOST_IN_LINE: usize = 32;
 
 // Writes the two digits of a byte at a place; the next place.
 fn put_pair(b: u8, room: &mut [u8], at: usize) -> usize
@@ -42,10 +41,10 @@ fn line_end(from: usize, n: usize) -> usize
     requires { ⌜ from < n ⌝ }
     ensures { λ r. ⌜ (from < r) × (r ≤ n) × (r ≤ from + 32) × (r < from + 32 → n ≤ r) ⌝ }
 {
-    if n - from < MOST_IN_LINE {
+    if n - from < Input::MOST_IN_LINE {
         n
     } else {
-        from + MOST_IN_LINE
+        from + Input::MOST_IN_LINE
     }
 }
 
@@ -70,7 +69,7 @@ pub fn put_image(image: &[u8], room: &mut [u8]) -> Viewed
     ensures { λ _. ⌜ now (room .exit) ≡ roomAfter [] (imageText (now (image .entry))) (now (room .entry)) ⌝ }
 {
     let n = image.len();
-    let need = n * 2 + (n + MOST_IN_LINE - 1) / MOST_IN_LINE;
+    let need = n * 2 + (n + Input::MOST_IN_LINE - 1) / Input::MOST_IN_LINE;
     if room.len() < need {
         return Viewed::NoRoom(need);
     }

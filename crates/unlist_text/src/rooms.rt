@@ -1,12 +1,13 @@
 // Local rooms, each made by a function that says what it holds.
 ghost use mathlib.Core.Path.{_≡_};
 ghost use lib.ListN.{replicate, take};
+use targets::Image;
 
 // As many bytes as an image may have.
-pub fn bytes() -> [u8; 65_536]
+pub fn bytes() -> [u8; Image::LIMIT]
     ensures { λ r. ⌜ r ≡ replicate 65536 0 ⌝ }
 {
-    [0; 65_536]
+    [0; Image::LIMIT]
 }
 
 // The first n bytes, or all where there are fewer.

@@ -5,19 +5,11 @@ ghost use Prim.Native.Nat.{_+_, _≤_};
 ghost use lib.ListN.{length};
 ghost use Rattle.views.specs.DataRun.{dataRun, isData, runLength};
 
-pub struct Run {
-    pub length: usize,
-}
+pub struct DataRun;
 
-impl Run {
+impl DataRun {
     // The longest run.
     pub const LENGTH: usize = 16;
-
-    pub fn new(length: usize) -> Self
-        ensures { λ r. ⌜ r .length ≡ length ⌝ }
-    {
-        Self { length }
-    }
 }
 
 // Whether a byte is inside the image and not masked; a missing mask byte counts as masked.
@@ -39,7 +31,7 @@ fn run_length(image: &[u8], mask: &[u8], at: usize) -> usize
     ensures { λ r. ⌜ (r ≡ runLength (now (image .entry)) (now (mask .entry)) at) × (at + r ≤ length (now (image .entry))) ⌝ }
 {
     let mut e = at;
-    let mut left = Run::LENGTH;
+    let mut left = DataRun::LENGTH;
     while left > 0 {
         if !is_data(image, mask, e) {
             return e - at;

@@ -7,7 +7,7 @@ pub mod overlaps;
 pub mod traced;
 pub mod view;
 
-pub use data::Run;
+pub use data::DataRun;
 pub use data::data_run;
 pub use labels::target_marks;
 pub use mask::build_byte_mask;

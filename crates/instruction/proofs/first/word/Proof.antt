@@ -6,7 +6,7 @@ use Rattle.instruction.specs.Pattern.{pattern, patternBytes, onto, bitsG
 use Rattle.instruction.specs.Flow.{flowOf, stops, jumps, branches}
 use Rattle.instruction.specs.Forms.{forms, formAt, formOf}
 use Rattle.instruction.proofs.Rest.{only}
-use Rattle.instruction.specs.First.{wordAt, saidBy}
+use Rattle.instruction.specs.FirstBits.{wordAt, saidBy}
 use Rattle.instruction.proofs.first.word.Statement.{statement}
 use Rattle.instruction.proofs.first.word.Tie as tie
 

@@ -3,11 +3,10 @@
 use mathlib.Core.Path.{_≡_, _∙_, sym}
 use Prim.Native.Nat.{ℕ}
 use borrow.Author.Needs.{needs}
-use Rattle.instruction.specs.Kinds.{kindAt}
+use Rattle.instruction.specs.Kinds.{kindAt, isGiven}
 use Rattle.instruction.specs.declared.kind.Kind.{Kind}
 use Rattle.instruction.specs.Encode.{formIn}
 use Rattle.instruction.specs.declared.instr.Instr.{Instr}
-use Rattle.targets.specs.Targets.{isGiven}
 use Rattle.targets.proofs.InRange.{fits-all}
 use Rattle.targets.proofs.LastOperand.{first, second, third}
 use Rattle.targets.proofs.ReadBack.{Read}
