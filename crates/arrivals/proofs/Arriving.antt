@@ -10,7 +10,7 @@ use lib.ListN.{length}
 use borrow.Author.Tests.{lt-ltb, le-ltb, lt-leb, eq-eqb, ne-eqb}
 use Rattle.targets.specs.At.{fitsHere}
 use Rattle.targets.specs.Ways.{isWhole}
-use Rattle.targets.proofs.Ands.{not-first, not-second}
+use Rattle.instruction.proofs.Ands.{not-first, not-second}
 use Rattle.views.specs.Positions.{some, tracedAt}
 use Rattle.views.proofs.Ors.{or-first, or-rest, or-start}
 use Rattle.views.proofs.Kept.{kept-no, kept-few, keptFrom, from-is, from-start, from-end, from-takes, from-skips}

@@ -9,7 +9,7 @@ use lib.Dec.{eqb, ltb}
 use lib.ListN.{length, getD}
 use borrow.Author.Tests.{ltb-true, eqb-true, eqb-false}
 use Rattle.instruction.proofs.Sign.{never}
-use Rattle.targets.proofs.Ands.{first-part, second-part}
+use Rattle.instruction.proofs.Ands.{first-part, second-part}
 use Rattle.arrivals.specs.Arrivals.{heldAt, arrives, nextArrival}
 use Rattle.arrivals.specs.ClaimsIndex.{FirstIndexed, NextIndexed}
 use Rattle.arrivals.specs.Index.{targetOf, afterBy, indexOf, nextIn}

@@ -9,7 +9,7 @@ use lib.Dec.{eqb, ltb}
 use lib.ListN.{length, getD, set, length-set}
 use lib.Seq.{getD-set-same, getD-set-other}
 use borrow.Author.Tests.{lt-ltb, le-ltb, ltb-true, ltb-false, eqb-true, eqb-false}
-use Rattle.targets.proofs.Ands.{both, not-second}
+use Rattle.instruction.proofs.Ands.{both, not-second}
 use Rattle.views.proofs.Ors.{or-first, or-second, or-rest}
 use Rattle.arrivals.specs.Arrivals.{nextArrival}
 use Rattle.arrivals.specs.Index.{targetOf, afterBy}

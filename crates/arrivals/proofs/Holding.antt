@@ -12,7 +12,7 @@ use Rattle.targets.specs.At.{fitsHere, waysHere}
 use Rattle.targets.specs.Ways.{isWhole, placesIn, placesNamed, waysOf}
 use Rattle.targets.specs.declared.place.Ways.{Ways}
 use Rattle.targets.specs.declared.place.Ways.the-variants.{Goes, Cut, Outside}
-use Rattle.targets.proofs.Ands.{not-first}
+use Rattle.instruction.proofs.Ands.{not-first}
 use Rattle.targets.proofs.WaysAre.{two-at-most}
 use Rattle.reach.specs.Mark.{flash}
 use Rattle.reach.specs.Tracer.{held}

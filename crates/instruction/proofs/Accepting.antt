@@ -5,9 +5,14 @@ use mathlib.Core.Bool.{Bool, true, false, cond}
 use mathlib.Core.List.{List, [], _∷_}
 use Prim.Native.Nat.{ℕ}
 use native.Mathlib.Omega.{arith}
-use Rattle.instruction.specs.Answer.{accepted, refused, Refusal, judge}
+use lib.IntN.{ℤ}
+use Rattle.instruction.specs.Answer.{Answer, accepted, refused, Refusal, judge}
 
 module _ {A : Type 0} where
+  -- no call is both
+  pub differ : {a : A} {n : ℕ} {vs : List ℤ} → _≡_ {A = Answer A} (refused n vs) (accepted a) → ⊥
+  differ e = let z : _≡_ {A = ℕ} 1 0 = cc in omega arith
+
   pub passed : (r : Refusal) (rs : List Refusal) (a : A) {b : A} → judge (r ∷ rs) a ≡ accepted b → (r .holds ≡ false) × (judge rs a ≡ accepted b)
   unfolding judge
   passed r rs a {b} e = by (r .holds) refl e

@@ -30,7 +30,7 @@ written RiR8 t x y z = (t + x % 4) % 256 ∷ y % 256 ∷ 0 ∷ []
 written ImmR8 t x y z = t % 256 ∷ x % 256 ∷ y % 256 ∷ []
 written RiImmR8 t x y z = (t + x % 4) % 256 ∷ y % 256 ∷ z % 256 ∷ []
 
-cons : {u u′ : ℕ} {s s′ : List ℕ} → u ≡ u′ → s ≡ s′ → u ∷ s ≡ u′ ∷ s′
+pub cons : {u u′ : ℕ} {s s′ : List ℕ} → u ≡ u′ → s ≡ s′ → u ∷ s ≡ u′ ∷ s′
 cons p q = cc
 
 -- a first byte of equal bits on the same fixed ones

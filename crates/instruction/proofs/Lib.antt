@@ -26,3 +26,4 @@ pub mod Encoding
 pub mod Resolved
 pub mod FirstByte
 pub mod Parted
+pub mod Ands

@@ -9,7 +9,7 @@ use lib.ListN.{getD, length, take, drop, length-map}
 use Rattle.instruction.specs.declared.kind.Shape.{Shape}
 use Rattle.instruction.specs.Layout.{blank, onFixed, bytesBy}
 use Rattle.instruction.specs.Pattern.{Bit, O, I, of, bitOf, bitFor, value, filled, pattern, patternBytes, onto, bitsGiven, nextBracket}
-use Rattle.instruction.proofs.FieldWriting.{written, write as write-by}
+use Rattle.instruction.proofs.FieldWriting.{written, write as write-by, cons}
 use Rattle.instruction.specs.Forms.{forms, formAt, bits, sizeOf}
 use Rattle.instruction.proofs.Shapes.{freed, free, at-each, laid, tail-laid, sized}
 
@@ -55,9 +55,6 @@ value-lt [] ns = omega arith
 value-lt (b ∷ p) ns = rw pow-suc (times (bitFor b ns) (2 ^ length p) (value p ns) (digit-lt b ns) (value-lt p ns))
 
 -- ---- a form's bytes by its layout
-
-cons : {u u′ : ℕ} {s s′ : List ℕ} → u ≡ u′ → s ≡ s′ → u ∷ s ≡ u′ ∷ s′
-cons p q = cc
 
 wrap : (u t e : ℕ) → u ≡ t + e → u < 256 → (t + e) % 256 ≡ u
 wrap u t e p h = omega arith

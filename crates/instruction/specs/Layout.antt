@@ -1,5 +1,5 @@
--- Where the bits of the operands stand, by their shape. Document 01, 'Forms': 'Fields, as the patterns in 000 place them'. A reader
--- need not believe it: each of the 70 patterns is proved to be its shape's but for the fixed bits of its first byte.
+-- Of inner functions alone: where the bits of the operands stand, by their shape. Document 01, 'Forms': 'Fields, as the patterns in 000
+-- place them'. Each of the 70 patterns is proved to be its shape's but for the fixed bits of its first byte (proofs/Shapes.antt).
 -- Assumes nothing.
 use Prim.Native.Nat.{ℕ, _+_, _%_}
 use mathlib.Core.Bool.{cond}

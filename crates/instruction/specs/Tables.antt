@@ -1,4 +1,4 @@
--- Tables of numbers as the digits of words, the first lowest, and three of them in bytes. Document 02, W4.
+-- Of inner functions alone: tables of numbers as the digits of words, the first lowest, and three of them in bytes. Document 02, W4.
 -- Assumes nothing.
 use Prim.Native.Nat.{ℕ, zero, suc, _+_, _*_, _/_, _%_}
 use mathlib.Core.List.{[]}

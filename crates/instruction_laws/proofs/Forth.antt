@@ -9,6 +9,7 @@ use Rattle.instruction.specs.Kinds.{kindsOf}
 use Rattle.instruction.specs.declared.kind.Shape.{Shape}
 use Rattle.instruction.specs.declared.kind.Shape.the-variants.{Bare, Imm, D9, Ri, ImmD9, ImmRi, D9B3, A12, A16, R16, R8, D9B3R8, D9R8, RiR8, ImmR8, RiImmR8}
 use Rattle.instruction.proofs.FieldReading.{closed}
+use Rattle.instruction.proofs.FieldWriting.{cons}
 use Rattle.instruction.proofs.Reading.{formed}
 use Rattle.instruction.specs.Layout.{blank}
 use Rattle.instruction.proofs.FieldWriting.{written}
@@ -24,9 +25,6 @@ pub record Read (s : Shape) (k t x p q : ℕ) : Type 0 where
   pub reads : formed k (closed s x p q) ≡ operands s k a b c
   pub fit : In s a b c
   pub bytes : take (length (blank s)) (written s t a b c) ≡ take (length (blank s)) (x ∷ p ∷ q ∷ [])
-
-cons : {u u′ : ℕ} {s s′ : List ℕ} → u ≡ u′ → s ≡ s′ → u ∷ s ≡ u′ ∷ s′
-cons p q = cc
 
 module _ (k t x p q : ℕ) (hx : x < 256) (hp : p < 256) (hq : q < 256) where
   pub read-by : (s : Shape) → t + held s x ≡ x → Read s k t x p q

@@ -21,9 +21,9 @@ use Rattle.listing.specs.declared.tabbed.Arrivals.the-variants.{Declined}
 use Rattle.listing_laws.proofs.ClaimsRoomBound.{listing-bound}
 use Rattle.list_text.specs.ClaimsOutput.{OutputFits}
 use Rattle.list_text.specs.Output.{lentRoom, refusalLine, tracedText, textListed, outputText, outputOf}
-use Rattle.text.specs.Decimal.{width}
-use Rattle.text.proofs.Decimals.{width-one}
-use Rattle.text.proofs.RefusalPutting.{number-length, value-length}
+use Rattle.list_text.specs.Decimal.{width}
+use Rattle.list_text.proofs.Decimals.{width-one}
+use Rattle.list_text.proofs.RefusalPutting.{number-length, value-length}
 use Rattle.list_text.proofs.ClaimsOutputOnly.{only-two, listed-missing}
 use Rattle.list_text.proofs.ImageBytes.{image-bytes}
 use Rattle.list_text.proofs.Parts.{or-accepted}

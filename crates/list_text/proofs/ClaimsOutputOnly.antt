@@ -9,6 +9,7 @@ use native.Mathlib.Omega.{arith}
 use lib.IntN.{ℤ}
 use lib.ListN.{length, length-replicate}
 use borrow.Author.Tests.{le-ltb}
+use Rattle.instruction.proofs.Accepting.{differ}
 use Rattle.instruction.specs.Answer.{Answer, accepted, refused, judge}
 use Rattle.instruction.proofs.Judging.{pass, done, accepts}
 use Rattle.instruction_laws.specs.Missing.{OneOrTwo}
@@ -36,7 +37,7 @@ use Rattle.list_text.specs.ClaimsOutput.{ListedMissing, OnlyTwo}
 use Rattle.list_text.specs.Output.{lentRoom, tracedText, textListed}
 use Rattle.list_text.proofs.ImageBytes.{image-bytes}
 use Rattle.list_text.proofs.Images.{lent-is, marks-sound}
-use Rattle.list_text.proofs.Parts.{differ, or-refused}
+use Rattle.list_text.proofs.Parts.{or-refused}
 use Rattle.list_text.proofs.Sounding.{judged-on}
 
 -- taking up keeps the length of the marks

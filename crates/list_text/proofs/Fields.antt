@@ -9,6 +9,7 @@ use native.Mathlib.Omega.{arith}
 use lib.Dec.{leb, ltb, eqb}
 use lib.ListN.{length, take, drop}
 use borrow.Author.Tests.{le-leb, lt-leb, ltb-true, ltb-false}
+use Rattle.instruction.proofs.Ands.{not-second}
 use Rattle.text.specs.Cut.{before, cut, upTo, fields}
 use Rattle.text.specs.Four.{isFour}
 use Rattle.text.proofs.Cuts.{piece-inside, field-next, field-last}
@@ -45,10 +46,6 @@ some-field (b ∷ l) = by (eqb b 9) (cut 9 ([] ∷ []) l)
 unfoldable pub lineFrom : ℕ → List (List ℕ) → Line
 lineFrom n fs = cond (allEntries fs && leb (n + length fs) 256) (Good (n + length fs)) Bad
 
-and-false : (t : Bool) → (t && false) ≡ false
-and-false true = refl
-and-false false = refl
-
 from-good : (n : ℕ) (f : List ℕ) (fs : List (List ℕ)) → isFour f ≡ true → lineFrom n (f ∷ fs) ≡ lineFrom (n + 1) fs
 unfolding lineFrom allEntries
 from-good n f fs e = let q : n + suc (length fs) ≡ n + 1 + length fs = omega arith in rw (e, q)
@@ -59,7 +56,7 @@ from-bad n f fs e = rw e
 
 from-full : (n : ℕ) (fs : List (List ℕ)) → 256 ≤ n → 1 ≤ length fs → lineFrom n fs ≡ Bad
 unfolding lineFrom
-from-full n fs h k = rw (lt-leb (n + length fs) 256 (omega arith), and-false (allEntries fs))
+from-full n fs h k = rw (lt-leb (n + length fs) 256 (omega arith), not-second (allEntries fs) false refl)
 
 from-none : (n : ℕ) → n ≤ 256 → lineFrom n [] ≡ Good n
 unfolding lineFrom allEntries

@@ -17,3 +17,5 @@ pub mod Parts
 pub mod ImageBytes
 pub mod ClaimsOutputOnly
 pub mod ClaimsOutputFits
+pub mod RefusalPutting
+pub mod Decimals

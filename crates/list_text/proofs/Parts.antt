@@ -6,11 +6,9 @@ use mathlib.Core.Logic.{_⊎_, inl, inr}
 use Prim.Native.Nat.{ℕ}
 use native.Mathlib.Omega.{arith}
 use lib.IntN.{ℤ}
+use Rattle.instruction.proofs.Accepting.{differ}
 use Rattle.instruction.specs.Answer.{Answer, accepted, refused}
 use Rattle.trace.specs.Run.{andThen}
-
-pub differ : {A : Type 0} {a : A} {n : ℕ} {vs : List ℤ} → _≡_ {A = Answer A} (refused n vs) (accepted a) → ⊥
-differ e = let z : _≡_ {A = ℕ} 1 0 = cc in omega arith
 
 module _ {A B : Type 0} where
   -- what is accepted at last was accepted at first

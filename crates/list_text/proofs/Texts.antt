@@ -8,6 +8,7 @@ use lib.IntN.{ℤ}
 use lib.ListN.{length, take, drop, replicate, length-replicate}
 use lib.Seq.{take-at}
 use borrow.Author.Tests.{le-ltb}
+use Rattle.instruction.proofs.Accepting.{differ}
 use Rattle.instruction.specs.Answer.{Answer, accepted, refused, judge, after, laid}
 use Rattle.instruction.proofs.Judging.{pass, done, first-of, past-all, accepts}
 use Rattle.trace.specs.Run.{andThen}
@@ -16,9 +17,6 @@ use Rattle.list_text.specs.Text.{countsOf, entriesOf, imageOf, inputRefu
 use Rattle.list_text.specs.declared.parsed.Input.{Input}
 use Rattle.list_text.proofs.Longest.{most-held}
 use Rattle.list_text.specs.Output.{textListed, tracedText, outputText, outputOf, refusalLine}
-
-differ : {A : Type 0} {a : A} {n : ℕ} {vs : List ℤ} → _≡_ {A = Answer A} (accepted a) (refused n vs) → ⊥
-differ e = let z : _≡_ {A = ℕ} 0 1 = cc in omega arith
 
 module _ (text : List ℕ) where
   abbrev entries : List ℕ
@@ -48,7 +46,7 @@ module _ (text : List ℕ) where
 
   is-valid : (r : Answer Input) → judged ≡ r → (c : Input) → accepted c ≡ parseAnswer text entries image → Valid text
   is-valid (accepted d) e c f = e ∙ ap accepted (sym (accepts (inputRefusals text) (countsOf text) d e))
-  is-valid (refused n vs) e c f = absurd (differ (f ∙ invalid-parses n vs e))
+  is-valid (refused n vs) e c f = absurd (differ (sym (f ∙ invalid-parses n vs e)))
 
   pub accepted-valid : (c : Input) → accepted c ≡ parseAnswer text entries image → Valid text × (c ≡ countsOf text)
   accepted-valid c f =
@@ -58,7 +56,7 @@ module _ (text : List ℕ) where
   -- a refusal is that of a line
   refused-line : (n : ℕ) (vs : List ℤ) → refused n vs ≡ parseAnswer text entries image → (r : Answer Input) → judged ≡ r → judged ≡ refused n vs
   refused-line n vs f (accepted d) e =
-      absurd (differ (sym (f ∙ valid-parses (e ∙ ap accepted (sym (accepts (inputRefusals text) (countsOf text) d e))))))
+      absurd (differ (f ∙ valid-parses (e ∙ ap accepted (sym (accepts (inputRefusals text) (countsOf text) d e)))))
   refused-line n vs f (refused k us) e = e ∙ sym (f ∙ invalid-parses k us e)
 
   pub refused-output : (n : ℕ) (vs : List ℤ) → refused n vs ≡ parseAnswer text entries image → refusalLine n vs ≡ outputOf text

@@ -10,7 +10,7 @@ use lib.ListN.{length}
 use borrow.Author.Tests.{leb-true}
 use Rattle.text.specs.Cut.{before, cut, fields}
 use Rattle.text.specs.Four.{isFour}
-use Rattle.text.proofs.Ands.{and-left, and-right}
+use Rattle.instruction.proofs.Ands.{first-part, second-part}
 use Rattle.text.proofs.Fours.{four-parts}
 use Rattle.list_text.specs.Entries.{allEntries, isEntries}
 use Rattle.list_text.specs.Text.{first, others}
@@ -42,8 +42,8 @@ fives : (fs : List (List ℕ)) → allEntries fs ≡ true → total fs ≡ lengt
 unfolding allEntries
 fives [] e = refl
 fives (f ∷ fs) e =
-    let h = four-parts f (and-left (isFour f) (allEntries fs) e) .0 in
-    let k = fives fs (and-right (isFour f) (allEntries fs) e) in omega arith
+    let h = four-parts f (first-part (isFour f) (allEntries fs) e) .0 in
+    let k = fives fs (second-part (isFour f) (allEntries fs) e) in omega arith
 
 -- the longest line of entries
 pub longest-first : (l : List ℕ) → isEntries l ≡ true → (length l ≤ 1279) × (length (fields l) ≤ 256)
@@ -51,6 +51,6 @@ unfolding isEntries
 longest-first [] e = (omega arith, omega arith)
 longest-first (b ∷ l) e =
     let fs = cut 9 ([] ∷ []) (b ∷ l) in
-    let h = fives fs (and-left (allEntries fs) (leb (length fs) 256) e) in
-    let k = leb-true (length fs) 256 (and-right (allEntries fs) (leb (length fs) 256) e) in
+    let h = fives fs (first-part (allEntries fs) (leb (length fs) 256) e) in
+    let k = leb-true (length fs) 256 (second-part (allEntries fs) (leb (length fs) 256) e) in
     let m = all-there 9 ([] ∷ []) (b ∷ l) in (omega arith, k)

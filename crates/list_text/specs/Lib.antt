@@ -4,3 +4,5 @@ pub mod Entries
 pub mod Text
 pub mod Output
 pub mod ClaimsOutput
+pub mod Refusal
+pub mod Decimal

@@ -13,7 +13,7 @@ use Rattle.views.specs.View.{viewRefusals}
 use Rattle.list_text.specs.Text.{countsOf, entriesOf, imageOf, inputRefusals}
 use Rattle.listing.specs.Walk.{listingOf}
 use Rattle.listing.specs.declared.tabbed.Arrivals.the-variants.{Declined}
-use Rattle.text.specs.Refusal.{numberLine, valueLine}
+use Rattle.list_text.specs.Refusal.{numberLine, valueLine}
 
 -- the line of a refusal: `R` and its number; after 5 a third field, how many bytes are missing, the third of its values. Document 02, W2
 abbrev pub refusalLine : ℕ → List ℤ → List ℕ

@@ -1,10 +1,12 @@
 // The listing program's work: its whole input text to its whole output text.
 mod bytes;
+mod decimal;
 mod entries;
 mod line;
 pub mod parsed;
 pub mod print;
 pub mod read;
+pub mod refusal;
 mod rooms;
 
 pub use parsed::Input;

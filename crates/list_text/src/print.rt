@@ -7,9 +7,9 @@ ghost use Rattle.views.specs.View.{viewedOf, roomAnswer, roomAfter};
 ghost use Rattle.list_text.specs.Output.{outputText, tracedText, outputOf};
 use crate::parsed::Parsed;
 use crate::read;
+use crate::refusal;
 use crate::rooms;
 use listing::Arrivals;
-use text::refusal;
 use trace::Ran;
 use views::Viewed;
 

@@ -11,7 +11,7 @@ use lib.ListN.{length, getD, drop, length-take}
 use borrow.Author.Tests.{eqb-true, le-leb, lt-ltb}
 use Rattle.instruction.specs.Bytes.{Bytes}
 use Rattle.targets.specs.At.{sizeHere}
-use Rattle.targets.proofs.Ands.{both}
+use Rattle.instruction.proofs.Ands.{both}
 use Rattle.targets.proofs.Within.{size-short}
 use Rattle.reach.specs.Mark.{tracedMark}
 use Rattle.views.specs.Positions.{upFrom, kept, bit, tracedAt}

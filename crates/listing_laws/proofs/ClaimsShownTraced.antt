@@ -20,7 +20,7 @@ use Rattle.instruction.specs.Parts.{partsOf}
 use Rattle.instruction.specs.declared.instr.Instr.{Instr}
 use Rattle.targets.specs.At.{fitsHere, instrHere, waysHere}
 use Rattle.targets.specs.Targets.{nextOf, targetsIn, targetsAnswer}
-use Rattle.targets.proofs.Ands.{both, second-part}
+use Rattle.instruction.proofs.Ands.{both, second-part}
 use Rattle.targets.proofs.AskedAlone.{found}
 use Rattle.targets.proofs.HereIs.{answer, whole-here}
 use Rattle.targets.proofs.Within.{within}

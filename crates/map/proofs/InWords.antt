@@ -9,7 +9,7 @@ use lib.Count.{ones}
 use lib.Dec.{ltb, leb}
 use lib.ListN.{getD}
 use borrow.Author.Tests.{lt-ltb, le-ltb, le-leb, lt-leb, leb-true}
-use Rattle.targets.proofs.Ands.{not-second, first-alone, first-part, second-part}
+use Rattle.instruction.proofs.Ands.{not-second, first-alone, first-part, second-part}
 use Rattle.map.specs.Bits.{one, between, countIn, onesBetween, firstZero}
 use Rattle.map.proofs.Digits.{digits-all, ones-digits}
 use Rattle.map.specs.Words.{codeAt, dataAt}

@@ -10,7 +10,7 @@ use lib.ListN.{length, getD, drop, replicate, length-map, length-append, length-
 use lib.Seq.{ext-getD, drop-at}
 use borrow.Author.Tests.{lt-ltb, ltb-false}
 use Rattle.targets.specs.At.{sizeHere}
-use Rattle.targets.proofs.Ands.{not-second}
+use Rattle.instruction.proofs.Ands.{not-second}
 use Rattle.reach.specs.Mark.{tracedMark}
 use Rattle.map.specs.Bits.{bit, digits, between}
 use Rattle.map.proofs.Digits.{digits-moved}

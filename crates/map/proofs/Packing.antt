@@ -9,7 +9,7 @@ use lib.Dec.{eqb, ltb, leb}
 use lib.ListN.{length, getD, set, length-map, length-set, List·getD-append}
 use lib.Seq.{getD-set-same, getD-set-other, ext-getD, set-append-left}
 use borrow.Author.Tests.{lt-ltb, le-ltb, le-leb, lt-leb, ne-eqb, eqb-true, eqb-false, ltb-true, ltb-false, leb-true, leb-false}
-use Rattle.targets.proofs.Ands.{not-second}
+use Rattle.instruction.proofs.Ands.{not-second}
 use Rattle.map.specs.Bits.{one, between, digits, withOnes}
 use Rattle.map.proofs.Digits.{one-digits, digits-moved}
 use Rattle.map.specs.Words.{wordsFor}

@@ -9,7 +9,7 @@ use borrow.Author.Tests.{eq-eqb, ne-eqb, leb-true}
 use Rattle.instruction.specs.Forms.{forms, formOf, formNamed}
 use Rattle.instruction.specs.Pattern.{pattern, patternBytes, onto, bitsGiven, nextBracket}
 use Rattle.instruction.proofs.Every.{holds}
-use Rattle.targets.proofs.Ands.{first-part}
+use Rattle.instruction.proofs.Ands.{first-part}
 use Rattle.targets.specs.At.{flashHere}
 
 same : Bool → Bool → Bool

@@ -13,7 +13,7 @@ use lib.ListN.{length, take, drop, length-drop}
 use lib.Seq.{length-take-le}
 use Rattle.instruction.specs.Answer.{accepted, refused, refuse, judge}
 use Rattle.text.specs.Cut.{upTo}
-use Rattle.text.proofs.Ands.{and-left}
+use Rattle.instruction.proofs.Ands.{first-part}
 use Rattle.text.proofs.Cuts.{the-piece, piece-inside}
 use Rattle.read_back.specs.Line.{isStart, isLine, recordOf}
 use Rattle.read_back.specs.Order.{follows, lineAfter, placeAfter}
@@ -25,7 +25,7 @@ use Rattle.read_back.proofs.Records.{placed}
 -- a line has a letter, a tab and a position
 pub line-long : (l : List ℕ) → isLine l ≡ true → 6 ≤ length l
 unfolding isLine isStart
-line-long l e = leb-true 6 (length l) (and-left (leb 6 (length l)) _ (and-left (isStart l) _ e))
+line-long l e = leb-true 6 (length l) (first-part (leb 6 (length l)) _ (first-part (isStart l) _ e))
 
 pub past : (text : List ℕ) (place : Place) → length text ≤ place .at → accepted ended ≡ readAnswer text place
 unfolding readAnswer

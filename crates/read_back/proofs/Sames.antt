@@ -11,7 +11,7 @@ use lib.Dec.{eqb}
 use lib.ListN.{length, getD, take, drop, drop-of-length-le}
 use lib.Seq.{drop-cons}
 use Rattle.instruction.proofs.Sign.{never}
-use Rattle.text.proofs.Ands.{and-left, and-right}
+use Rattle.instruction.proofs.Ands.{first-part, second-part}
 use Rattle.read_back.specs.Line.{same}
 
 pub same-true : (s t : List ℕ) → same s t ≡ true → s ≡ t
@@ -19,7 +19,7 @@ unfolding same
 same-true [] [] e = refl
 same-true [] (b ∷ t) e = absurd (never (sym e))
 same-true (a ∷ s) [] e = absurd (never (sym e))
-same-true (a ∷ s) (b ∷ t) e = ap₂ (λ (x : ℕ) (l : List ℕ). x ∷ l) (eqb-true a b (and-left (eqb a b) (same s t) e)) (same-true s t (and-right (eqb a b) (same s t) e))
+same-true (a ∷ s) (b ∷ t) e = ap₂ (λ (x : ℕ) (l : List ℕ). x ∷ l) (eqb-true a b (first-part (eqb a b) (same s t) e)) (same-true s t (second-part (eqb a b) (same s t) e))
 
 pub same-false : (s t : List ℕ) → (s ≡ t → ⊥) → same s t ≡ false
 same-false s t n = by (same s t) refl

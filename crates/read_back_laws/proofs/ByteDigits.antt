@@ -13,7 +13,7 @@ use Rattle.instruction.proofs.Sign.{never}
 use Rattle.text.specs.Bytes.{bytesOf, isBytes}
 use Rattle.text.specs.Cut.{upTo}
 use Rattle.text.specs.Hex.{isDigit, allHex}
-use Rattle.text.proofs.Ands.{and-left, and-right}
+use Rattle.instruction.proofs.Ands.{first-part, second-part}
 use Rattle.listing.specs.Hex.{hexes}
 use Rattle.listing.proofs.Hexing.{hexes-length}
 use Rattle.read_back_laws.proofs.Digits.{Small, bytes-back, bytes-hex}
@@ -27,7 +27,7 @@ digits-whole : (l : List ℕ) → allHex l ≡ true → upTo 10 l ≡ l
 unfolding allHex upTo
 digits-whole [] e = refl
 digits-whole (b ∷ l) e =
-    rw (not-ten b (and-left (isDigit b) (allHex l) e)) (ap (λ (t : List ℕ). b ∷ t) (digits-whole l (and-right (isDigit b) (allHex l) e)))
+    rw (not-ten b (first-part (isDigit b) (allHex l) e)) (ap (λ (t : List ℕ). b ∷ t) (digits-whole l (second-part (isDigit b) (allHex l) e)))
 
 pub hexes-whole : (l : List ℕ) → upTo 10 (hexes l) ≡ hexes l
 hexes-whole l = digits-whole (hexes l) (bytes-hex l)

@@ -19,10 +19,10 @@ use Rattle.read_back.specs.Sheet.{Sheet, emptySheet, sheetWith}
 use Rattle.read_back.specs.declared.place.Place.{Place}
 use Rattle.read_back.proofs.Counting.{lines-few, after-most, accepted-short}
 use Rattle.instruction.proofs.Carried.{Each, carries}
-use Rattle.text.specs.Decimal.{width}
+use Rattle.list_text.specs.Decimal.{width}
 use Rattle.unlist_text.specs.Unlisted.{valueOf, emptyRoom, printed, unlistedOf}
 use Rattle.unlist_text.proofs.Lines.{image-length}
-use Rattle.text.proofs.RefusalPutting.{value-length}
+use Rattle.list_text.proofs.RefusalPutting.{value-length}
 use Rattle.read_back_laws.specs.ClaimsUnlisted.{UnlistedFits}
 
 -- a number below a power of ten has no more digits than that

@@ -15,7 +15,7 @@ use Rattle.instruction.specs.Parts.{partsOf}
 use Rattle.instruction.specs.declared.instr.Instr.{Instr}
 use Rattle.targets.specs.At.{sizeHere, fitsHere, instrHere}
 use Rattle.targets.specs.Here.{hereOf}
-use Rattle.targets.proofs.Ands.{second-part}
+use Rattle.instruction.proofs.Ands.{second-part}
 use Rattle.reach.specs.Mark.{traced}
 use Rattle.views.specs.Positions.{tracedAt}
 use Rattle.views.proofs.TracedAt.{traced-inside}

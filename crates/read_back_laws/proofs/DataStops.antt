@@ -12,7 +12,7 @@ use borrow.Author.Tests.{eqb-true, eqb-false}
 use Rattle.instruction.specs.Bytes.{Bytes}
 use Rattle.instruction.proofs.Sign.{never}
 use Rattle.text.specs.Cut.{lines}
-use Rattle.targets.proofs.Ands.{first-part, second-part}
+use Rattle.instruction.proofs.Ands.{first-part, second-part}
 use Rattle.reach.specs.Mark.{tracedMark}
 use Rattle.views.specs.Positions.{tracedAt}
 use Rattle.views.proofs.TracedAt.{by-mark}

@@ -11,7 +11,7 @@ use borrow.Author.Tests.{eqb-true, ne-eqb}
 use Rattle.text.specs.Cut.{before, cut, upTo, fields}
 use Rattle.text.specs.Four.{isFour}
 use Rattle.text.specs.Hex.{isDigit, allHex}
-use Rattle.text.proofs.Ands.{and-left, and-right}
+use Rattle.instruction.proofs.Ands.{first-part, second-part}
 use Rattle.list_text.specs.Entries.{allEntries, isEntries}
 use Rattle.read_back_laws.proofs.ByteDigits.{not-ten}
 
@@ -24,12 +24,12 @@ all-four : (fs : List (List ℕ)) → allEntries fs ≡ true → All fs
 unfolding allEntries isFour
 all-four [] e = tt
 all-four (f ∷ fs) e =
-    (and-right (eqb (length f) 4) (allHex f) (and-left (isFour f) (allEntries fs) e), all-four fs (and-right (isFour f) (allEntries fs) e))
+    (second-part (eqb (length f) 4) (allHex f) (first-part (isFour f) (allEntries fs) e), all-four fs (second-part (isFour f) (allEntries fs) e))
 
 without : (b : ℕ) (fs : List (List ℕ)) → All (before b fs) → (isDigit b ≡ true) × All fs
 unfolding allHex
-without b [] a = (and-left (isDigit b) true (a .0), tt)
-without b (f ∷ fs) a = (and-left (isDigit b) (allHex f) (a .0), (and-right (isDigit b) (allHex f) (a .0), a .1))
+without b [] a = (first-part (isDigit b) true (a .0), tt)
+without b (f ∷ fs) a = (first-part (isDigit b) (allHex f) (a .0), (second-part (isDigit b) (allHex f) (a .0), a .1))
 
 pieces-whole : (l : List ℕ) → All (cut 9 ([] ∷ []) l) → upTo 10 l ≡ l
 unfolding cut upTo
@@ -45,4 +45,4 @@ unfolding isEntries upTo
 entry-line [] g = refl
 entry-line (b ∷ l) g =
     let fs = fields (b ∷ l) in
-    pieces-whole (b ∷ l) (all-four fs (and-left (allEntries fs) (leb (length fs) 256) g))
+    pieces-whole (b ∷ l) (all-four fs (first-part (allEntries fs) (leb (length fs) 256) g))

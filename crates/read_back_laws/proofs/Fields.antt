@@ -8,7 +8,7 @@ use native.Mathlib.Omega.{arith}
 use lib.Dec.{ltb, eqb}
 use borrow.Author.Tests.{ltb-true, ne-eqb}
 use Rattle.text.specs.Cut.{before, cut, upTo, lines}
-use Rattle.targets.proofs.Ands.{first-part, second-part}
+use Rattle.instruction.proofs.Ands.{first-part, second-part}
 use Rattle.listing.specs.Hex.{hex2, hex3, hex4, hexes}
 use Rattle.listing.specs.Line.{fieldsText, line}
 use Rattle.read_back_laws.proofs.Digits.{digit-above}

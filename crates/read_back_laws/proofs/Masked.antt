@@ -11,7 +11,7 @@ use lib.ListN.{length, getD}
 use borrow.Author.Tests.{leb-true, ltb-true}
 use Rattle.instruction.proofs.Sign.{never}
 use Rattle.targets.specs.At.{sizeHere}
-use Rattle.targets.proofs.Ands.{first-part, second-part}
+use Rattle.instruction.proofs.Ands.{first-part, second-part}
 use Rattle.views.specs.Positions.{bit, tracedAt}
 use Rattle.views.proofs.Ups.{up-at}
 use Rattle.views.specs.Mask.{under, covers, masked, maskOf}

@@ -11,7 +11,7 @@ use lib.ListN.{length, set}
 use lib.Seq.{sets}
 use Rattle.instruction.specs.Answer.{accepted, judge}
 use Rattle.instruction.proofs.Judging.{pass}
-use Rattle.targets.proofs.Ands.{both}
+use Rattle.instruction.proofs.Ands.{both}
 use Rattle.reach.specs.Mark.{traced}
 use Rattle.read_back.specs.Back.{isFit, lineRefusals, sheetAfter}
 use Rattle.read_back.specs.Line.{letterOn, positionOn, isLine, recordOf}

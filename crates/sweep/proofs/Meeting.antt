@@ -10,7 +10,7 @@ use borrow.Author.Tests.{eq-eqb, ne-eqb}
 use Rattle.reach.specs.Mark.{waiting}
 use Rattle.reach.specs.Tracer.{Tracer, took}
 use Rattle.reach.specs.Sweep.{canTake, sweptAt}
-use Rattle.targets.proofs.Ands.{not-first, not-second}
+use Rattle.instruction.proofs.Ands.{not-first, not-second}
 
 -- how many were taken where p was met, and the marks afterwards
 abbrev pub Met : Tracer → List ℕ → ℕ → ℕ → List ℕ → Type 0

@@ -1,4 +1,3 @@
-pub mod Ands
 pub mod ReadBack
 pub mod InRange
 pub mod ShortSum

@@ -8,7 +8,7 @@ use lib.ListN.{length}
 use borrow.Author.Tests.{lt-ltb, le-leb}
 use Rattle.targets.specs.At.{fitsHere, nameHere}
 use Rattle.targets.specs.Ways.{isWhole, nameOf}
-use Rattle.targets.proofs.Ands.{both}
+use Rattle.instruction.proofs.Ands.{both}
 
 module _ (image : List ℕ) (p : ℕ) where
   pub whole-name : p < length image → length image ≤ 65536 → fitsHere image p ≡ true → nameHere image p ≡ nameOf image p

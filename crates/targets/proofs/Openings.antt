@@ -22,7 +22,7 @@ use Rattle.targets.specs.Ways.{isWhole, waysOf}
 use Rattle.targets.specs.declared.opening.Opening.{Opening}
 use Rattle.targets.specs.declared.opening.Opening.the-variants.{Whole, Cut, Outside}
 use Rattle.targets.specs.declared.place.Ways.the-variants as way
-use Rattle.targets.proofs.Ands.{both, first-part, second-part, not-first, not-second}
+use Rattle.instruction.proofs.Ands.{both, first-part, second-part, not-first, not-second}
 use Rattle.targets.proofs.Within.{Small, form-is}
 
 -- a position inside an image of at most 65,536 bytes

@@ -10,16 +10,13 @@ use lib.Dec.{leb}
 use lib.ListN.{length, getD, drop, drop-of-length-le, List·getD-eq-default}
 use lib.Seq.{drop-cons}
 use borrow.Author.Tests.{leb-true, leb-false, le-leb, lt-leb}
+use Rattle.instruction.proofs.Ands.{not-second}
 use Rattle.instruction.proofs.Sign.{never}
 use Rattle.text.specs.Hex.{within, isDigit, digitOf, allHex}
 
 or-false : (t : Bool) → t ≡ (t || false)
 or-false true = refl
 or-false false = refl
-
-and-false : (t : Bool) → (t && false) ≡ false
-and-false true = refl
-and-false false = refl
 
 inside : (low high b : ℕ) → low ≤ b → b ≤ high → within low high b ≡ true
 inside low high b h k = rw (le-leb low b h, le-leb b high k)
@@ -28,7 +25,7 @@ under : (low high b : ℕ) → b < low → within low high b ≡ false
 under low high b h = rw (lt-leb low b h)
 
 over : (low high b : ℕ) → high < b → within low high b ≡ false
-over low high b h = rw (lt-leb b high h) (and-false (leb low b))
+over low high b h = rw (lt-leb b high h) (not-second (leb low b) false refl)
 
 module _ (b : ℕ) where
   below : b < 65 → b < 48 → false ≡ isDigit b

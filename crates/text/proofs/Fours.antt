@@ -9,8 +9,8 @@ use lib.ListN.{length}
 use borrow.Author.Tests.{eqb-true}
 use Rattle.text.specs.Four.{isFour}
 use Rattle.text.specs.Hex.{allHex}
-use Rattle.text.proofs.Ands.{and-left, and-right}
+use Rattle.instruction.proofs.Ands.{first-part, second-part}
 
 pub four-parts : (f : List ℕ) → isFour f ≡ true → (length f ≡ 4) × (allHex f ≡ true)
 unfolding isFour
-four-parts f e = (eqb-true (length f) 4 (and-left (eqb (length f) 4) (allHex f) e), and-right (eqb (length f) 4) (allHex f) e)
+four-parts f e = (eqb-true (length f) 4 (first-part (eqb (length f) 4) (allHex f) e), second-part (eqb (length f) 4) (allHex f) e)

@@ -1,10 +1,7 @@
 pub mod Putting
-pub mod Ands
 pub mod Cases
 pub mod Cuts
 pub mod Digits
 pub mod Fours
 pub mod Pairs
 pub mod PairPuts
-pub mod Decimals
-pub mod RefusalPutting

@@ -12,7 +12,7 @@ use borrow.Author.Tests.{eqb-true, leb-true, le-leb, lt-leb, eq-eqb, ne-eqb}
 use Rattle.text.specs.Bytes.{bytesOf, isBytes}
 use Rattle.text.specs.Hex.{digitOf, allHex}
 use Rattle.text.proofs.Digits.{digit-small}
-use Rattle.text.proofs.Ands.{and-left, and-right}
+use Rattle.instruction.proofs.Ands.{first-part, second-part}
 
 -- two digits for each byte, and one may be left over
 half : (l : List ℕ) → (length (bytesOf l) * 2 ≤ length l) × (length l ≤ length (bytesOf l) * 2 + 1)
@@ -54,9 +54,9 @@ bytes-parts most l e =
     let a = eqb (length l) (n * 2) in
     let b = a && leb 1 n in
     let d = b && leb n most in
-    let f = and-left d (allHex l) e in
-    let g = and-left b (leb n most) f in
-    (eqb-true (length l) (n * 2) (and-left a (leb 1 n) g), leb-true 1 n (and-right a (leb 1 n) g), leb-true n most (and-right b (leb n most) f), and-right d (allHex l) e)
+    let f = first-part d (allHex l) e in
+    let g = first-part b (leb n most) f in
+    (eqb-true (length l) (n * 2) (first-part a (leb 1 n) g), leb-true 1 n (second-part a (leb 1 n) g), leb-true n most (second-part b (leb n most) f), second-part d (allHex l) e)
 
 -- the pair whose second digit stands at a place, or no pair left
 module _ (l : List ℕ) (i : ℕ) (h : 1 ≤ i) where

@@ -3,5 +3,3 @@ pub mod Bytes
 pub mod Cut
 pub mod Four
 pub mod Hex
-pub mod Decimal
-pub mod Refusal

@@ -1,7 +1,5 @@
-// Pieces of text: hex and decimal digits, bytes and numbers, lines and fields, and the line of a refusal.
+// Pieces of text: hex digits, bytes and numbers of four digits in hex, lines and fields.
 pub mod bytes;
 pub mod cut;
-mod decimal;
 pub mod four;
 pub mod hex;
-pub mod refusal;

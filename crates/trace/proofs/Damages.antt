@@ -17,7 +17,7 @@ use Rattle.reach.proofs.Exempt.{targets-plain, targets-exempt}
 use Rattle.marks.specs.Refusals.{damaged}
 use Rattle.trace.specs.Step.{damages, damageRefusals}
 use Rattle.marks.specs.Tracer.{tracerOf, exemptHere}
-use Rattle.targets.proofs.Ands.{both, not-first, not-second}
+use Rattle.instruction.proofs.Ands.{both, not-first, not-second}
 use Rattle.targets.specs.At.{flashHere, waysHere}
 
 abbrev pub damagedInside : ℕ → List ℕ → ℕ → Bool

@@ -18,7 +18,7 @@ use Rattle.marks.specs.Refusals.{damaged}
 use Rattle.trace.specs.Step.{idle, damages, damageRefusals, stepRefusals, StepResult, stepResult, stepAnswer, stepMarks}
 use Rattle.marks.specs.Tracer.{tracerOf}
 use Rattle.targets.specs.At.{fitsHere, flashHere}
-use Rattle.targets.proofs.Ands.{not-second}
+use Rattle.instruction.proofs.Ands.{not-second}
 use Rattle.trace.proofs.StepAnswers.{idle-marks, whole}
 
 -- what an accepted step says

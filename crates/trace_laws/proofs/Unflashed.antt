@@ -14,7 +14,7 @@ use Rattle.reach.specs.ClaimsOrder.{Plain}
 use Rattle.trace_laws.specs.ClaimsImages.{Clean}
 use Rattle.marks.specs.Tracer.{tracerOf, exemptHere}
 use Rattle.targets.specs.At.{formHere, flashHere}
-use Rattle.targets.proofs.Ands.{first-part, second-part}
+use Rattle.instruction.proofs.Ands.{first-part, second-part}
 use Rattle.marks.proofs.Jmpf.{jmpf-by-byte, two-before}
 
 module _ (image : List ℕ) (B : Bytes image) (C : Clean image) (p : ℕ) where

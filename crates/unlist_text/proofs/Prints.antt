@@ -10,16 +10,13 @@ use Rattle.instruction.specs.Answer.{Answer, accepted, refused}
 use Rattle.views.specs.View.{roomAnswer, roomAfter}
 use Rattle.read_back.specs.Back.{backAnswer, backImage}
 use Rattle.unlist_text.specs.Unlisted.{imageText, emptyRoom, printed, unlistedOf}
-use Rattle.text.specs.Refusal.{valueLine}
+use Rattle.list_text.specs.Refusal.{valueLine}
 
 pub zeros-is : replicate 65536 0 ≡ emptyRoom
 unfolding emptyRoom
 zeros-is = refl
 
 -- the same text printed
-pub said : (x y : List ℕ) → x ≡ y → (r : Answer ℕ) (t room : List ℕ) → (r ≡ roomAnswer [] x room) × (t ≡ roomAfter [] x room) → (r ≡ roomAnswer [] y room) × (t ≡ roomAfter [] y room)
-said x y e r t room p = subst (λ (z : List ℕ). (r ≡ roomAnswer [] z room) × (t ≡ roomAfter [] z room)) e p
-
 module _ (text : List ℕ) (n : ℕ) (x y : List ℕ) (e : x ≡ emptyRoom) (f : y ≡ emptyRoom) where
   answer-is : backAnswer text n x y ≡ backAnswer text n emptyRoom emptyRoom
   answer-is = ap₂ (λ (u v : List ℕ). backAnswer text n u v) e f

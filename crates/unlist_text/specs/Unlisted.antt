@@ -8,7 +8,7 @@ use lib.ListN.{length, take, drop, replicate}
 use Rattle.instruction.specs.Answer.{Answer, accepted, refused}
 use Rattle.listing.specs.Hex.{hexes}
 use Rattle.read_back.specs.Back.{backAnswer, backImage}
-use Rattle.text.specs.Refusal.{valueLine}
+use Rattle.list_text.specs.Refusal.{valueLine}
 
 -- bytes on k lines at most, 32 to a line, each ended by byte 10
 unfoldable pub linesOf : ℕ → List ℕ → List ℕ

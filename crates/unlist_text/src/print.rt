@@ -5,8 +5,8 @@ ghost use Rattle.views.specs.View.{viewedOf, roomAnswer, roomAfter};
 ghost use Rattle.unlist_text.specs.Unlisted.{unlistedOf};
 use crate::line;
 use crate::rooms;
+use list_text::refusal;
 use read_back::Restored;
-use text::refusal;
 use views::Viewed;
 
 // Turns a listing of an image of so many bytes into image lines, or into the line of a refusal: how many bytes were written, or 11 with how

@@ -9,7 +9,7 @@ use lib.Dec.{leb, ltb, eqb}
 use lib.ListN.{length, getD}
 use borrow.Author.Tests.{leb-true, leb-false, lt-ltb, le-ltb, le-leb, eq-eqb, ne-eqb, not-false}
 use Rattle.targets.specs.At.{sizeHere, fitsHere}
-use Rattle.targets.proofs.Ands.{not-first}
+use Rattle.instruction.proofs.Ands.{not-first}
 use Rattle.marks.proofs.Jmpf.{jmpf-by-byte}
 use Rattle.targets.proofs.Within.{Small, size-short}
 use Rattle.reach.specs.Mark.{flash, tracedMark}

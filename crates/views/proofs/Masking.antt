@@ -10,7 +10,7 @@ use lib.Dec.{ltb, leb}
 use lib.ListN.{length, getD, length-map}
 use borrow.Author.Tests.{lt-ltb, le-ltb, ltb-true, ltb-false, le-leb, lt-leb}
 use Rattle.targets.specs.At.{sizeHere}
-use Rattle.targets.proofs.Ands.{not-first, not-second}
+use Rattle.instruction.proofs.Ands.{not-first, not-second}
 use Rattle.reach.specs.Mark.{tracedMark}
 use Rattle.views.specs.Positions.{upFrom, positions, some, bit, tracedAt}
 use Rattle.views.proofs.Ors.{or-rest, or-start, or-assoc}

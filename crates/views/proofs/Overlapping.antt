@@ -9,7 +9,7 @@ use lib.Dec.{leb}
 use lib.ListN.{length}
 use borrow.Author.Tests.{le-leb, lt-leb}
 use Rattle.targets.specs.At.{sizeHere}
-use Rattle.targets.proofs.Ands.{both, not-first, not-second}
+use Rattle.instruction.proofs.Ands.{both, not-first, not-second}
 use Rattle.views.specs.Positions.{upFrom, kept, tracedAt}
 use Rattle.views.proofs.Kept.{taken, kept-none, kept-one, kept-two}
 use Rattle.views.specs.Overlaps.{fromBefore, overlapsOf}

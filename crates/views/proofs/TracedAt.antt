@@ -8,7 +8,7 @@ use lib.Dec.{ltb}
 use lib.ListN.{length, getD, List·getD-eq-default}
 use borrow.Author.Tests.{lt-ltb, le-ltb, ltb-true, ltb-false}
 use Rattle.instruction.proofs.Sign.{never}
-use Rattle.targets.proofs.Ands.{not-first, not-second, first-part}
+use Rattle.instruction.proofs.Ands.{not-first, not-second, first-part}
 use Rattle.reach.specs.Mark.{tracedMark}
 use Rattle.views.specs.Positions.{tracedAt}
 

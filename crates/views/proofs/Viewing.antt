@@ -9,6 +9,7 @@ use lib.Dec.{ltb}
 use lib.IntN.{ℤ, pos}
 use lib.ListN.{length, drop}
 use borrow.Author.Tests.{ltb-true, ltb-false}
+use Rattle.instruction.proofs.Accepting.{differ}
 use Rattle.instruction.specs.Answer.{Answer, accepted, refused, judge}
 use Rattle.instruction.proofs.Judging.{accepts}
 use Rattle.instruction.proofs.Sign.{never}
@@ -21,9 +22,6 @@ use Rattle.views.proofs.Rooming as rooming
 
 abbrev pub Is : List ℕ → List ℕ → List ℕ → List ℕ → Answer ℕ → List ℕ → Type 0
 Is image m out room r t = (r ≡ viewAnswer image m out room) × (t ≡ viewRoom image m out room)
-
-differ : {A : Type 0} {a : A} {n : ℕ} {vs : List ℤ} → _≡_ {A = Answer A} (accepted a) (refused n vs) → ⊥
-differ e = let z : _≡_ {A = ℕ} 0 1 = cc in omega arith
 
 module _ (image m : List ℕ) where
   pub is-sound : (v : Viewed) → viewedOf v ≡ judge (viewRefusals image m) 0 → isWritten v ≡ true → Sound image m
@@ -38,14 +36,14 @@ module _ (image m : List ℕ) where
   small s = by (ltb 65536 (length image)) refl
     where
       by : (b : Bool) → ltb 65536 (length image) ≡ b → length image ≤ 65536
-      by true f = absurd (differ (sym s ∙ sym (long image m (ltb-true 65536 (length image) f))))
+      by true f = absurd (differ (long image m (ltb-true 65536 (length image) f) ∙ s))
       by false f = ltb-false 65536 (length image) f
 
   pub covered : Sound image m → length image ≤ length m
   covered s = by (ltb (length m) (length image)) refl
     where
       by : (b : Bool) → ltb (length m) (length image) ≡ b → length image ≤ length m
-      by true f = absurd (differ (sym s ∙ sym (short image m (small s) (ltb-true (length m) (length image) f))))
+      by true f = absurd (differ (short image m (small s) (ltb-true (length m) (length image) f) ∙ s))
       by false f = ltb-false (length m) (length image) f
 
   module _ (out room : List ℕ) where

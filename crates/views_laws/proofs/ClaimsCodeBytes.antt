@@ -12,7 +12,7 @@ use lib.ListN.{length, getD}
 use borrow.Author.Tests.{lt-ltb, ltb-true, le-leb, leb-true, eqb-true}
 use Rattle.instruction.proofs.Sign.{never}
 use Rattle.targets.specs.At.{sizeHere, fitsHere, waysHere}
-use Rattle.targets.proofs.Ands.{both, first-part, second-part}
+use Rattle.instruction.proofs.Ands.{both, first-part, second-part}
 use Rattle.reach.specs.ClaimsOrder.{Final}
 use Rattle.reach.specs.Mark.{traced, flash, tracedMark, cleared}
 use Rattle.reach.specs.Reach.{Reach}

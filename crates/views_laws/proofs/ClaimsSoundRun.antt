@@ -9,7 +9,7 @@ use lib.Dec.{eqb, leb}
 use lib.ListN.{length, getD}
 use Rattle.instruction.specs.Forms.{formNamed}
 use Rattle.targets.specs.At.{formHere, fitsHere, flashHere}
-use Rattle.targets.proofs.Ands.{first-part, second-part}
+use Rattle.instruction.proofs.Ands.{first-part, second-part}
 use Rattle.reach.specs.Mark.{flash, traced, tracedMark, cleared}
 use Rattle.reach.specs.Note.{note}
 use Rattle.reach.specs.Takes.{Ready, Takes, stay, up}

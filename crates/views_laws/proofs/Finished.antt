@@ -9,14 +9,12 @@ use lib.Dec.{ltb}
 use lib.IntN.{ℤ}
 use lib.ListN.{length}
 use borrow.Author.Tests.{ltb-false}
+use Rattle.instruction.proofs.Accepting.{differ}
 use Rattle.instruction.specs.Answer.{Answer, accepted, refused, after}
 use Rattle.instruction.proofs.Judging.{pass, stop}
 use Rattle.instruction.proofs.Sign.{never}
 use Rattle.reach.specs.Run.{End, finished, stopped, cutOff, Outcome, steps, noted}
 use Rattle.trace.specs.Run.{RunResult, runJudged, runAnswer, runMarks, ranAnswer, endOf, outcomeOf, andThen}
-
-differ : {A : Type 0} {a : A} {n : ℕ} {vs : List ℤ} → _≡_ {A = Answer A} (refused n vs) (accepted a) → ⊥
-differ e = let z : _≡_ {A = ℕ} 1 0 = cc in omega arith
 
 module _ (image marks order entries : List ℕ) (limit : ℕ) where
   abbrev judged : Answer (Unit {0})

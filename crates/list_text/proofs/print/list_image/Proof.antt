@@ -5,7 +5,7 @@ use mathlib.Core.List.{List}
 use Prim.Native.Nat.{ℕ}
 use borrow.Author.Needs.{needs}
 use Rattle.trace.specs.Run.{ranOf}
-use Rattle.text.specs.Refusal.{numberLine, valueLine}
+use Rattle.list_text.specs.Refusal.{numberLine, valueLine}
 use Rattle.list_text.specs.Output as output
 use Rattle.list_text.proofs.Images.{lent-is, refused-text, listed-run, said}
 use Rattle.list_text.proofs.print.list_image.Statement.{statement}

@@ -10,7 +10,7 @@ use Rattle.list_text.specs.ClaimsInput.{Valid}
 use Rattle.list_text.specs.Text.{countsOf, entriesOf, imageOf, parsedOf, parseAnswer, parseEntries, parseImage}
 use Rattle.list_text.specs.declared.parsed.Input.{Input}
 use Rattle.list_text.proofs.Longest.{most-held}
-use Rattle.text.specs.Refusal.{numberLine}
+use Rattle.list_text.specs.Refusal.{numberLine}
 use Rattle.list_text.specs.Output.{outputText, tracedText}
 use Rattle.list_text.proofs.Images.{said}
 use Rattle.list_text.proofs.Texts.{accepted-valid, refused-output, valid-output, read-entries, read-image}

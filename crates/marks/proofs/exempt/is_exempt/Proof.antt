@@ -7,7 +7,7 @@ use Prim.Native.Nat.{ℕ, _-_, _≤_}
 use lib.ListN.{getD, List·getD-eq-default}
 use borrow.Author.Needs.{needs}
 use Rattle.targets.specs.At.{flashHere}
-use Rattle.targets.proofs.Ands.{not-first, not-second}
+use Rattle.instruction.proofs.Ands.{not-first, not-second}
 use Rattle.marks.proofs.Jmpf.{two-before}
 use Rattle.reach.specs.Mark.{tracedMark}
 use Rattle.marks.specs.Tracer.{exemptHere}

@@ -10,7 +10,7 @@ use Rattle.instruction.proofs.Judging.{done}
 use Rattle.views.proofs.Rooming.{no-room-for}
 use Rattle.unlist_text.specs.Unlisted.{imageText}
 use Rattle.unlist_text.proofs.Lines.{image-length}
-use Rattle.text.proofs.RefusalPutting.{put-shown}
+use Rattle.list_text.proofs.RefusalPutting.{put-shown}
 use Rattle.unlist_text.proofs.line.put_image.Statement.{statement}
 use Rattle.unlist_text.proofs.line.put_image.Tie as tie
 

@@ -7,7 +7,8 @@ use borrow.Author.Needs.{needs}
 use lib.ListN.{length, length-replicate}
 use Rattle.read_back.specs.Back.{restoredOf}
 use Rattle.unlist_text.specs.Unlisted.{emptyRoom}
-use Rattle.unlist_text.proofs.Prints.{zeros-is, said, refused-print, accepted-print, first-few}
+use Rattle.list_text.proofs.Images.{said}
+use Rattle.unlist_text.proofs.Prints.{zeros-is, refused-print, accepted-print, first-few}
 use Rattle.unlist_text.proofs.print.unlist_text.Statement.{statement}
 use Rattle.unlist_text.proofs.print.unlist_text.Tie as tie
 

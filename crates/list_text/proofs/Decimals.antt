@@ -10,7 +10,7 @@ use lib.Dec.{ltb}
 use lib.ListN.{length, set, length-append}
 use lib.Seq.{sets, set-comm}
 use borrow.Author.Tests.{lt-ltb, le-ltb, ltb-false}
-use Rattle.text.specs.Decimal.{lowest, width}
+use Rattle.list_text.specs.Decimal.{lowest, width}
 
 -- it does not matter how often tens may be taken off, if often enough
 width-any : (k j n : ℕ) → n ≤ k → n ≤ j → width k n ≡ width j n

@@ -8,10 +8,10 @@ use borrow.Author.Needs.{needs}
 use lib.ListN.{length, length-set}
 use Rattle.instruction.proofs.Judging.{done}
 use Rattle.views.proofs.Rooming.{no-room-for}
-use Rattle.text.specs.Refusal.{valueLine}
-use Rattle.text.proofs.RefusalPutting.{put-shown, value-put, value-length}
-use Rattle.text.proofs.refusal.put_value.Statement.{statement}
-use Rattle.text.proofs.refusal.put_value.Tie as tie
+use Rattle.list_text.specs.Refusal.{valueLine}
+use Rattle.list_text.proofs.RefusalPutting.{put-shown, value-put, value-length}
+use Rattle.list_text.proofs.refusal.put_value.Statement.{statement}
+use Rattle.list_text.proofs.refusal.put_value.Tie as tie
 
 -- how much is needed
 need : (c : tie.After-width2) → length (valueLine (c .before .before .before .args .number) (c .before .before .before .args .value)) ≡ c .before .width .result + c .width2 .result + 4

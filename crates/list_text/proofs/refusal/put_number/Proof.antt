@@ -8,10 +8,10 @@ use borrow.Author.Needs.{needs}
 use lib.ListN.{length, length-set}
 use Rattle.instruction.proofs.Judging.{done}
 use Rattle.views.proofs.Rooming.{no-room-for}
-use Rattle.text.specs.Refusal.{numberLine}
-use Rattle.text.proofs.RefusalPutting.{put-shown, number-put, number-length}
-use Rattle.text.proofs.refusal.put_number.Statement.{statement}
-use Rattle.text.proofs.refusal.put_number.Tie as tie
+use Rattle.list_text.specs.Refusal.{numberLine}
+use Rattle.list_text.proofs.RefusalPutting.{put-shown, number-put, number-length}
+use Rattle.list_text.proofs.refusal.put_number.Statement.{statement}
+use Rattle.list_text.proofs.refusal.put_number.Tie as tie
 
 -- how much is needed
 need : (c : tie.After-width) → length (numberLine (c .before .before .args .number)) ≡ c .width .result + 3

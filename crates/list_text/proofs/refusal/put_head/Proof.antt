@@ -6,8 +6,8 @@ use Prim.Native.Nat.{ℕ}
 use native.Mathlib.Omega.{arith}
 use borrow.Author.Needs.{needs}
 use lib.ListN.{length, set, length-set}
-use Rattle.text.proofs.refusal.put_head.Statement.{statement}
-use Rattle.text.proofs.refusal.put_head.Tie as tie
+use Rattle.list_text.proofs.refusal.put_head.Statement.{statement}
+use Rattle.list_text.proofs.refusal.put_head.Tie as tie
 
 -- the first two bytes
 begun : (room : List ℕ) → length (set (set room 0 82) 1 9) ≡ length room

@@ -3,10 +3,10 @@
 use mathlib.Core.Path.{_≡_, refl}
 use Prim.Native.Nat.{ℕ, _+_, _≤_}
 use native.Mathlib.Omega.{arith}
-use Rattle.text.specs.Decimal.{width}
-use Rattle.text.proofs.Decimals.{width-one, width-more, width-most}
-use Rattle.text.proofs.decimal.width.Statement.{statement}
-use Rattle.text.proofs.decimal.width.Tie as tie
+use Rattle.list_text.specs.Decimal.{width}
+use Rattle.list_text.proofs.Decimals.{width-one, width-more, width-most}
+use Rattle.list_text.proofs.decimal.width.Statement.{statement}
+use Rattle.list_text.proofs.decimal.width.Tie as tie
 
 abbrev Inv-loop : tie.InvT-loop
 Inv-loop n left₀ k₀ left k = (k + left ≤ n + 1) × (k + width left left ≡ 1 + width n n)

@@ -6,10 +6,10 @@ use native.Mathlib.Omega.{arith}
 use borrow.Author.Needs.{needs}
 use lib.ListN.{length, length-set}
 use lib.Seq.{sets}
-use Rattle.text.specs.Decimal.{lowest}
-use Rattle.text.proofs.Decimals.{last-first, none-left}
-use Rattle.text.proofs.decimal.put.Statement.{statement}
-use Rattle.text.proofs.decimal.put.Tie as tie
+use Rattle.list_text.specs.Decimal.{lowest}
+use Rattle.list_text.proofs.Decimals.{last-first, none-left}
+use Rattle.list_text.proofs.decimal.put.Statement.{statement}
+use Rattle.list_text.proofs.decimal.put.Tie as tie
 
 abbrev Inv-loop : tie.InvT-loop
 Inv-loop n k room₀ at left₀ i₀ room left i = (i ≤ k) × (length room ≡ length room₀) × (sets room at (lowest i left) ≡ sets room₀ at (lowest k n))

@@ -3,7 +3,7 @@ ghost use mathlib.Core.Path.{_≡_};
 ghost use Prim.Native.Nat.{_+_, _/_, _≤_};
 ghost use lib.ListN.{length};
 ghost use lib.Seq.{sets};
-ghost use Rattle.text.specs.Decimal.{lowest, width};
+ghost use Rattle.list_text.specs.Decimal.{lowest, width};
 
 // How many digits a number has.
 pub fn width(n: usize) -> usize

@@ -9,11 +9,11 @@ use lib.Seq.{sets, sets-eq}
 use Rattle.instruction.specs.Answer.{accepted}
 use Rattle.instruction.proofs.Judging.{done}
 use Rattle.views.proofs.Rooming.{Is, shown-as}
 use Rattle.text.specs.Puts.{Puts}
 use Rattle.text.proofs.Putting.{puts-then}
-use Rattle.text.specs.Decimal.{lowest, width}
-use Rattle.text.specs.Refusal.{numberLine, valueLine}
-use Rattle.text.proofs.Decimals.{lowest-length}
+use Rattle.list_text.specs.Decimal.{lowest, width}
+use Rattle.list_text.specs.Refusal.{numberLine, valueLine}
+use Rattle.list_text.proofs.Decimals.{lowest-length}
 
 -- what was put from the start on is shown
 pub put-shown : (out room t : List ℕ) (k : ℕ) → length out ≡ k → k ≤ length room → t ≡ sets room 0 out → Is [] out room (accepted k) t

@@ -5,8 +5,8 @@ ghost use Prim.Native.Nat.{_+_, _≤_};
 ghost use lib.ListN.{length};
 ghost use lib.Seq.{sets};
 ghost use Rattle.views.specs.View.{viewedOf, roomAnswer, roomAfter};
-ghost use Rattle.text.specs.Decimal.{lowest};
-ghost use Rattle.text.specs.Refusal.{numberLine, valueLine};
+ghost use Rattle.list_text.specs.Decimal.{lowest};
+ghost use Rattle.list_text.specs.Refusal.{numberLine, valueLine};
 use crate::decimal;
 use views::Viewed;
 

@@ -2,7 +2,7 @@
 -- Assumes nothing.
 use Prim.Native.Nat.{ℕ}
 use mathlib.Core.List.{List, [], _∷_, _++_}
-use Rattle.text.specs.Decimal.{decimal}
+use Rattle.list_text.specs.Decimal.{decimal}
 
 -- `R`, tab, the number
 unfoldable pub numberLine : ℕ → List ℕ
