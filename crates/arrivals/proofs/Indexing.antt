@@ -8,11 +8,11 @@ use native.Mathlib.Omega.{arith}
 use lib.Dec.{ltb}
 use lib.ListN.{length, getD, replicate, length-append, length-map, length-replicate, getD-replicate, List·getD-append}
 use lib.Seq.{getD-append-add, ext-getD}
-use borrow.Author.Tests.{lt-ltb, le-ltb, ltb-true, ltb-false, eq-eqb, ne-eqb}
+use borrow.Author.Tests.{lt-ltb, le-ltb, lt-leb, le-leb, ltb-true, ltb-false, eq-eqb, ne-eqb}
 use Rattle.views.specs.Positions.{upFrom}
 use Rattle.views.proofs.Ups.{up-length, up-at}
 use Rattle.arrivals.specs.Arrivals.{nextArrival}
-use Rattle.arrivals.specs.Index.{targetOf, afterBy, indexOf, roomOf}
+use Rattle.arrivals.specs.Index.{targetOf, afterBy, indexOf, isIndexRoom, roomOf}
 use Rattle.arrivals.specs.Entered.{Entered}
 use Rattle.arrivals.proofs.Nexts.{next-past}
 
@@ -115,14 +115,20 @@ module _ (image m : List ℕ) where
 -- ---- the room
 
 module _ (image m room : List ℕ) where
-  pub past-room : 65536 < length image → room ≡ roomOf image m room
+  pub past-room : 65536 < length image → (false ≡ isIndexRoom image room) × (room ≡ roomOf image m room)
   unfolding roomOf
-  past-room h = rw (lt-ltb 65536 (length image) h)
+  past-room h = let e = lt-leb (length image) 65536 h in (rw e, rw e)
 
-  pub other-room : length image ≤ 65536 → (length room ≡ 3 * length image → ⊥) → room ≡ roomOf image m room
+  pub other-room : length image ≤ 65536 → (length room ≡ 3 * length image → ⊥) → (false ≡ isIndexRoom image room) × (room ≡ roomOf image m room)
   unfolding roomOf
-  other-room h n = rw (le-ltb 65536 (length image) h, ne-eqb (length room) (3 * length image) n)
+  other-room h n =
+      let e = le-leb (length image) 65536 h in
+      let f = ne-eqb (length room) (3 * length image) n in
+      (rw (e, f), rw (e, f))
 
-  pub own-room : length image ≤ 65536 → length room ≡ 3 * length image → indexOf image m ≡ roomOf image m room
+  pub own-room : length image ≤ 65536 → length room ≡ 3 * length image → (true ≡ isIndexRoom image room) × (indexOf image m ≡ roomOf image m room)
   unfolding roomOf
-  own-room h e = rw (le-ltb 65536 (length image) h, eq-eqb (length room) (3 * length image) e)
+  own-room h e =
+      let f = le-leb (length image) 65536 h in
+      let g = eq-eqb (length room) (3 * length image) e in
+      (rw (f, g), rw (f, g))

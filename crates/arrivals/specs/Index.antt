@@ -2,9 +2,9 @@
 -- 'Views': arrivals at p, ascending.
 -- Assumes nothing.
 use Prim.Native.Nat.{ℕ, _+_, _*_}
-use mathlib.Core.Bool.{cond, _||_, not}
+use mathlib.Core.Bool.{Bool, cond, _&&_}
 use mathlib.Core.List.{List, _++_, map}
-use lib.Dec.{eqb, ltb}
+use lib.Dec.{eqb, leb, ltb}
 use lib.ListN.{length, getD}
 use Rattle.views.specs.Positions.{positions}
 use Rattle.arrivals.specs.Arrivals.{heldAt, nextArrival}
@@ -23,9 +23,13 @@ indexOf image m =
     map (λ (p : ℕ). nextArrival image m p 0) (positions image)
     ++ (map (afterBy image m 0) (positions image) ++ map (afterBy image m 1) (positions image))
 
--- it is put into a room of its own length; for an image past its limit nothing is
+-- a room of the index's own length, of an image that is not past its limit
+abbrev pub isIndexRoom : List ℕ → List ℕ → Bool
+isIndexRoom image room = leb (length image) 65536 && eqb (length room) (3 * length image)
+
+-- the index is put into such a room, and nothing into another
 unfoldable pub roomOf : List ℕ → List ℕ → List ℕ → List ℕ
-roomOf image m room = cond (ltb 65536 (length image) || not (eqb (length room) (3 * length image))) room (indexOf image m)
+roomOf image m room = cond (isIndexRoom image room) (indexOf image m) room
 
 -- what is asked of an index: the lowest arrival at p
 abbrev pub lowestIn : List ℕ → ℕ → ℕ

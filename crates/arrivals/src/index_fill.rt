@@ -1,7 +1,7 @@
 // An index of all arrivals.
 ghost use mathlib.Core.Path.{_≡_};
 ghost use lib.ListN.{length, replicate};
-ghost use Rattle.arrivals.specs.Index.{roomOf};
+ghost use Rattle.arrivals.specs.Index.{isIndexRoom, roomOf};
 use crate::index_entry;
 use targets::Image;
 
@@ -17,15 +17,16 @@ fn blank(index: &mut [u32])
 }
 
 // Three cells for each position of the image are filled; a room of another length stays as it was, and so does any for an image past its
-// limit. From the last position down, so that what is noted so far is what comes after.
-pub fn index_into(image: &[u8], marks: &[u8], index: &mut [u32])
+// limit; whether it is filled. From the last position down, so that what is noted so far is what comes after.
+pub fn index_into(image: &[u8], marks: &[u8], index: &mut [u32]) -> bool
+    ensures { λ r. ⌜ r ≡ isIndexRoom (now (image .entry)) (now (index .entry)) ⌝ }
     ensures { λ _. ⌜ now (index .exit) ≡ roomOf (now (image .entry)) (now (marks .entry)) (now (index .entry)) ⌝ }
 {
     if Image::LIMIT < image.len() {
-        return;
+        return false;
     }
     if index.len() != 3 * image.len() {
-        return;
+        return false;
     }
     blank(index);
     let mut q = image.len();
@@ -33,4 +34,5 @@ pub fn index_into(image: &[u8], marks: &[u8], index: &mut [u32])
         q -= 1;
         index_entry::enter(image, marks, index, q as u32);
     }
+    true
 }

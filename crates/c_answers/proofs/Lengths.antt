@@ -11,13 +11,16 @@ use Rattle.reach.specs.Run.{End, finished, stopped, cutOff, steps, noted}
 use Rattle.trace.specs.Run.{ranOf, runAnswer, runRefusals, runJudged, ranAnswer, outcomeOf, endOf, andThen, RunResult}
 use Rattle.trace.specs.Start.{startedOf, startAnswer}
 use Rattle.trace.specs.Step.{steppedOf, stepAnswer, stepRefusals, damageRefusals, damages}
+use Rattle.sweep.specs.Sweep.{sweptOf, sweepAnswer}
+use Rattle.sweep.specs.declared.sweep.Swept.{Swept}
+use Rattle.sweep.specs.declared.sweep.Swept.the-variants as swept
 use Rattle.trace.specs.declared.run.Ran.{Ran}
 use Rattle.trace.specs.declared.run.Ran.the-variants as ran
 use Rattle.trace.specs.declared.start.Started.{Started}
 use Rattle.trace.specs.declared.start.Started.the-variants as started
 use Rattle.trace.specs.declared.step.Stepped.{Stepped}
 use Rattle.trace.specs.declared.step.Stepped.the-variants as stepped
-use Rattle.c_answers.specs.TraceCounts.{lengthInStarted, lengthInStepped, lengthInRan}
+use Rattle.c_answers.specs.TraceCounts.{lengthInStarted, lengthInStepped, lengthInSwept, lengthInRan}
 use Rattle.instruction.proofs.Carried.{Each, carries}
 
 -- the one value of a refusal below 4 fits
@@ -57,6 +60,12 @@ module _ (image marks : List ℕ) (i : length image < 2 ^ 63) (m : length marks 
   started-small entries (started.Set n) e = omega arith
   started-small entries (started.LongImage n) e = carries Small _ _ 1 (pos n ∷ []) (this i, (this m, tt)) e (omega arith) n refl
   started-small entries (started.ShortMarks n) e = carries Small _ _ 2 (pos n ∷ []) (this i, (this m, tt)) e (omega arith) n refl
+
+  pub swept-small : (entries : List ℕ) (s : Swept) → sweptOf s ≡ sweepAnswer image marks entries → lengthInSwept s < 2 ^ 63
+  unfolding sweepAnswer
+  swept-small entries (swept.Ended t) e = omega arith
+  swept-small entries (swept.LongImage n) e = carries Small _ _ 1 (pos n ∷ []) (this i, (this m, tt)) e (omega arith) n refl
+  swept-small entries (swept.ShortMarks n) e = carries Small _ _ 2 (pos n ∷ []) (this i, (this m, tt)) e (omega arith) n refl
 
   steps-each : (p : ℕ) → Each Small (stepRefusals image marks p)
   unfolding stepRefusals

@@ -6,10 +6,12 @@ use Rattle.trace.specs.declared.start.Started.{Started}
 use Rattle.trace.specs.declared.start.Started.the-variants as started
 use Rattle.trace.specs.declared.step.Stepped.{Stepped}
 use Rattle.trace.specs.declared.step.Stepped.the-variants as stepped
+use Rattle.sweep.specs.declared.sweep.Swept.{Swept}
+use Rattle.sweep.specs.declared.sweep.Swept.the-variants as swept
 use Rattle.trace.specs.declared.run.Ran.{Ran}
 use Rattle.trace.specs.declared.run.Ran.the-variants as ran
 
--- the length that an answer of start, step or run names
+-- the length that an answer of start, step, sweep or run names
 abbrev pub lengthInStarted : Started → ℕ
 lengthInStarted (started.Set n) = 0
 lengthInStarted (started.LongImage n) = n
@@ -22,6 +24,11 @@ lengthInStepped (stepped.ShortMarks n) = n
 lengthInStepped (stepped.NotWaiting v) = 0
 lengthInStepped (stepped.Cut c) = 0
 lengthInStepped (stepped.Damaged q) = 0
+
+abbrev pub lengthInSwept : Swept → ℕ
+lengthInSwept (swept.Ended t) = 0
+lengthInSwept (swept.LongImage n) = n
+lengthInSwept (swept.ShortMarks n) = n
 
 abbrev pub lengthInRan : Ran → ℕ
 lengthInRan (ran.Finished c) = 0

@@ -3,13 +3,18 @@
 use mathlib.Core.Bool.{cond}
 use mathlib.Core.List.{List, [], _∷_}
 use lib.IntN.{ℤ, pos}
-use Rattle.trace.specs.Step as step
-use Rattle.trace.specs.Run as run
+use Rattle.trace.specs.Step.{StepResult}
+use Rattle.trace.specs.Run.{RunResult}
+use Rattle.sweep.specs.Sweep.{SweepResult}
 
 -- the new mark, and how many became 1
-abbrev pub stepValues : step.StepResult → List ℤ
+abbrev pub stepValues : StepResult → List ℤ
 stepValues s = pos (s .mark) ∷ pos (s .waiting) ∷ []
 
+-- the sweeps, the last one counted, and the steps. Document 02, W6
+abbrev pub sweepValues : SweepResult → List ℤ
+sweepValues s = pos (s .sweeps) ∷ pos (s .steps) ∷ []
+
 -- 1 where nothing was waiting or 0 where the limit was used up, the steps, and the positions noted
-abbrev pub runValues : run.RunResult → List ℤ
+abbrev pub runValues : RunResult → List ℤ
 runValues s = pos (cond (s .finished) 1 0) ∷ pos (s .steps) ∷ pos (s .noted) ∷ []

@@ -29,6 +29,7 @@ pub use reply::Reply;
 pub use tracing::run;
 pub use tracing::start;
 pub use tracing::step;
+pub use tracing::sweep;
 pub use viewing::arrivals;
 pub use viewing::data_run;
 pub use viewing::mask;

@@ -5,10 +5,12 @@ ghost use Prim.Native.Nat.{_<_, _^_};
 ghost use Rattle.trace.specs.Start.{startedOf};
 ghost use Rattle.trace.specs.Step.{steppedOf};
 ghost use Rattle.trace.specs.Run.{ranOf};
+ghost use Rattle.sweep.specs.Sweep.{sweptOf};
 ghost use Rattle.c_answers.specs.Reply.{replyOf, countValues};
-ghost use Rattle.c_answers.specs.Tracing.{stepValues, runValues};
-ghost use Rattle.c_answers.specs.TraceCounts.{lengthInStarted, lengthInStepped, lengthInRan};
+ghost use Rattle.c_answers.specs.Tracing.{stepValues, runValues, sweepValues};
+ghost use Rattle.c_answers.specs.TraceCounts.{lengthInStarted, lengthInStepped, lengthInSwept, lengthInRan};
 use crate::reply::Reply;
+use sweep::Swept;
 use trace::Ran;
 use trace::Started;
 use trace::Stepped;
@@ -35,6 +37,17 @@ pub fn stepped(s: Stepped) -> Reply
         Stepped::NotWaiting(v) => Reply::one(4, v as i64),
         Stepped::Cut(c) => Reply::cut(c),
         Stepped::Damaged(q) => Reply::one(6, q as i64),
+    }
+}
+
+pub fn swept(s: Swept) -> Reply
+    requires { ⌜ lengthInSwept s < 2 ^ 63 ⌝ }
+    ensures { λ r. ⌜ r ≡ replyOf sweepValues (sweptOf s) ⌝ }
+{
+    match s {
+        Swept::Ended(t) => Reply::two(0, t.sweeps as i64, t.steps as i64),
+        Swept::LongImage(n) => Reply::one(1, n as i64),
+        Swept::ShortMarks(n) => Reply::one(2, n as i64),
     }
 }
 

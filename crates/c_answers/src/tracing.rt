@@ -3,8 +3,9 @@ ghost use mathlib.Core.Path.{_≡_};
 ghost use Rattle.trace.specs.Start.{startAnswer, startMarks};
 ghost use Rattle.trace.specs.Step.{stepAnswer, stepMarks};
 ghost use Rattle.trace.specs.Run.{runAnswer, runMarks, runOrder};
+ghost use Rattle.sweep.specs.Sweep.{sweepAnswer, sweepLeaves};
 ghost use Rattle.c_answers.specs.Reply.{replyOf, countValues};
-ghost use Rattle.c_answers.specs.Tracing.{stepValues, runValues};
+ghost use Rattle.c_answers.specs.Tracing.{stepValues, runValues, sweepValues};
 use crate::reply::Reply;
 use crate::trace_replies;
 
@@ -31,4 +32,12 @@ pub fn run(image: &[u8], marks: &mut [u8], order: &mut [u32], entries: &[u32], l
     ensures { λ _. ⌜ now (order .exit) ≡ runOrder (now (image .entry)) (now (marks .entry)) (now (order .entry)) (now (entries .entry)) limit ⌝ }
 {
     trace_replies::ran(trace::run::run(image, marks, order, entries, limit))
+}
+
+// Accepted: the sweeps, the last one counted, and the steps.
+pub fn sweep(image: &[u8], marks: &mut [u8], entries: &[u32]) -> Reply
+    ensures { λ r. ⌜ r ≡ replyOf sweepValues (sweepAnswer (now (image .entry)) (now (marks .entry)) (now (entries .entry))) ⌝ }
+    ensures { λ _. ⌜ now (marks .exit) ≡ sweepLeaves (now (image .entry)) (now (marks .entry)) (now (entries .entry)) ⌝ }
+{
+    trace_replies::swept(sweep::sweep::sweep(image, marks, entries))
 }

@@ -1,4 +1,4 @@
-// The other function that goes through all forms: an instruction put together.
+// Another function that goes through all forms: an instruction put together.
 ghost use mathlib.Core.Path.{_≡_};
 ghost use Prim.Native.Nat.{_<_};
 ghost use Rattle.instruction.specs.Parts.{madeOf};

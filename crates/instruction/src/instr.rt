@@ -106,7 +106,7 @@ impl Instr {
 
     pub const HIGHEST_ADDRESS: i32 = 65_535;
 
-    // One of the two functions that go through all forms: the instruction taken apart.
+    // One of the three functions that go through all forms: the instruction taken apart.
     pub fn apart(self) -> Parts
         ensures { λ r. ⌜ r ≡ partsOf self ⌝ }
     {

@@ -1,7 +1,7 @@
 // The instructions of the LC86K: kinds of operands and the numbers that fit them, where the bits of operands stand in the bytes, the 70
 // forms, decode, encode and the resolving of operands, and what a first byte alone says.
 // Ported from src/instruction.rs of wtetzner/waterbear (Apache-2.0, see NOTICE), and changed: an instruction holds numbers alone, the
-// derived functions are a table and fields written out, the bits go by shapes where the Rust has a pattern for each form, and every
+// derived functions are a lookup by row and column and fields written out, the bits go by shapes where the Rust has a pattern for each form, and every
 // answer is an enum.
 pub mod answer;
 mod build;

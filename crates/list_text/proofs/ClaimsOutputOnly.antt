@@ -27,7 +27,7 @@ use Rattle.marks.specs.Tracer.{tracerOf}
 use Rattle.marks.proofs.Sizing.{right-sizes}
 use Rattle.trace_laws.proofs.ClaimsMissingFew.{run-missing}
 use Rattle.views.specs.View.{Sound, viewRefusals}
-use Rattle.views_laws.proofs.Finished.{marks-are}
+use Rattle.trace_laws.proofs.Finished.{marks-are}
 use Rattle.list_text.specs.ClaimsInput.{Valid, refusalOf}
 use Rattle.list_text.specs.Text.{countsOf, entriesOf, imageOf, inputRefusals}
 use Rattle.list_text.proofs.Longest.{Thirteen, lines-13, most-held}

@@ -11,7 +11,7 @@ use Rattle.trace.specs.Run.{RunResult, andThen, runAnswer, runMarks}
 use Rattle.views.specs.View.{Sound, viewRefusals, viewAnswer, viewRoom, roomAnswer, roomAfter}
 use Rattle.views_laws.specs.ClaimsSound.{Undamaged}
 use Rattle.views_laws.proofs.ClaimsSoundRun.{run-undamaged}
-use Rattle.views_laws.proofs.Finished.{marks-are}
+use Rattle.trace_laws.proofs.Finished.{marks-are}
 use Rattle.listing.specs.Walk.{listingOf}
 use Rattle.listing.specs.declared.tabbed.Arrivals.the-variants.{Declined}
 use Rattle.list_text.specs.Output.{lentRoom, outputText, tracedText, refusalLine}

@@ -16,6 +16,7 @@ pub mod Images
 pub mod Parts
 pub mod ImageBytes
 pub mod ClaimsOutputOnly
+pub mod ClaimsOutputCut
 pub mod ClaimsOutputFits
 pub mod RefusalPutting
 pub mod Decimals

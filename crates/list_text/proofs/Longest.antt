@@ -49,7 +49,7 @@ module _ (text : List ℕ) (v : Valid text) where
   most-image : (total (imageLines text) + 0 * 3 ≤ 49152) × (0 + length (bytesInLines (imageLines text)) ≤ 16384)
   most-image = image-most 2 0 (imageLines text) (countsOf text) (countsOf text) (omega arith) (parts .1)
 
-  longest : length text ≤ 50432
+  pub longest : length text ≤ 50432
   longest =
       omega (arith, all-there 10 [] text, with-first (lines text), longest-first (entryLine text) (parts .0) .0, most-image .0)
 

@@ -1,5 +1,6 @@
 // The listing: what stands at each position of an image, as tabbed text.
 pub mod code;
+pub mod hex;
 mod lines;
 mod operands;
 mod put;
@@ -8,7 +9,7 @@ pub mod tabbed;
 mod walk;
 
 pub use code::code_line;
-pub use put::hex1;
+pub use hex::hex1;
 pub use tabbed::Arrivals;
 pub use tabbed::listing;
 pub use tabbed::listing_with;

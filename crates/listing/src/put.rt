@@ -6,6 +6,7 @@ ghost use Prim.Native.Nat.{_^_, _≤_, _<_};
 ghost use lib.ListN.{length};
 ghost use Rattle.listing.specs.Hex.{hex1, hex2, hex3, hex4, hexes};
 ghost use Rattle.text.specs.Puts.{Puts, letters};
+use crate::hex;
 
 pub fn put_byte(out: &mut [u8], at: usize, b: u8) -> usize
     requires { ⌜ at < 2 ^ 62 ⌝ }
@@ -18,19 +19,11 @@ pub fn put_byte(out: &mut [u8], at: usize, b: u8) -> usize
     next
 }
 
-// The letter of the lowest hex digit.
-pub fn hex1(n: u32) -> u8
-    ensures { λ r. ⌜ r ≡ hex1 n ⌝ }
-{
-    let d = (n % 16) as u8;
-    if d < 10 { 48 + d } else { 55 + d }
-}
-
 pub fn put_digit(out: &mut [u8], at: usize, n: u32) -> usize
     requires { ⌜ at < 2 ^ 62 ⌝ }
     ensures { λ r. ⌜ Puts (hex1 n ∷ []) at (now (out .entry)) (now (out .exit)) r ⌝ }
 {
-    put_byte(out, at, hex1(n))
+    put_byte(out, at, hex::hex1(n))
 }
 
 pub fn put_hex2(out: &mut [u8], at: usize, n: u32) -> usize

@@ -35,7 +35,7 @@ use Rattle.views.specs.View.{offJmpf, misplaced, damagedHere}
 use Rattle.views.proofs.TracedAt.{traced-inside}
 use Rattle.views_laws.specs.ClaimsCode.{Reachable}
 use Rattle.views_laws.proofs.ClaimsCodeBytes.{traced-reached, reached-traced}
-use Rattle.views_laws.proofs.Finished.{sized, covered, marks-are, ended}
+use Rattle.trace_laws.proofs.Finished.{sized, covered, marks-are, ended}
 use Rattle.views_laws.proofs.Reached.{plainly, over, reached-inside}
 use Rattle.listing.specs.Hex.{hex4, hexes}
 use Rattle.listing.specs.Line.{line}

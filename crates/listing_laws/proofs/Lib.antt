@@ -1,3 +1,4 @@
 pub mod ClaimsLinesListed
 pub mod ClaimsShownTraced
 pub mod ClaimsRoomBound
+pub mod ClaimsLinesCode

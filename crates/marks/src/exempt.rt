@@ -1,4 +1,5 @@
 // The exception: a Jmpf with no target.
+// Ported from `build_instruction_graph` of src/disasm.rs of wtetzner/waterbear, and changed: it is judged on marks.
 ghost use mathlib.Core.Path.{_≡_};
 ghost use Rattle.marks.specs.Tracer.{exemptHere};
 use crate::flash;

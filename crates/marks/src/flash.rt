@@ -1,4 +1,5 @@
 // The bytes that the flash exception goes by.
+// Ported from `build_instruction_graph` of src/disasm.rs of wtetzner/waterbear, and changed: bytes in place of the instruction before.
 ghost use mathlib.Core.Path.{_≡_};
 ghost use Rattle.targets.specs.At.{flashHere};
 

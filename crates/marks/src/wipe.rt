@@ -1,6 +1,7 @@
 // Clearing the bytes of an image's positions.
 ghost use mathlib.Core.Path.{_≡_};
 ghost use Prim.Native.Nat.{_≤_};
+ghost use lib.Dec.{leb};
 ghost use lib.ListN.{length};
 ghost use Rattle.reach.specs.Mark.{cleared};
 ghost use Rattle.marks.specs.Clear.{wiped};
@@ -18,12 +19,14 @@ fn clear_all(room: &mut [u8], n: usize)
     }
 }
 
-// Clears the first n bytes of a room that has as many.
-pub fn clear(room: &mut [u8], n: usize)
+// Clears the first n bytes of a room that has as many: whether it has.
+pub fn clear(room: &mut [u8], n: usize) -> bool
+    ensures { λ r. ⌜ r ≡ leb n (length (now (room .entry))) ⌝ }
     ensures { λ _. ⌜ now (room .exit) ≡ wiped n (now (room .entry)) ⌝ }
 {
     if room.len() < n {
-        return;
+        return false;
     }
     clear_all(room, n);
+    true
 }

@@ -1,10 +1,11 @@
 // The C face: each call answers 0 or the number of a refusal, and puts the values into a room of five that the caller lends.
 // include/pottagewing.h declares the calls for C. They all stand here, since an archive has the functions of its own crate alone; what each
-// hands over is worked out in the crates of replies below.
+// hands over is worked out in c_answers.
 pub mod codec;
 pub mod listed;
 pub mod mapped;
 pub mod tracing;
+pub mod version;
 pub mod viewing;
 
 pub use codec::pw_decode;
@@ -22,6 +23,8 @@ pub use mapped::pw_map_update;
 pub use tracing::pw_run;
 pub use tracing::pw_start;
 pub use tracing::pw_step;
+pub use tracing::pw_sweep;
+pub use version::pw_version;
 pub use viewing::pw_arrivals;
 pub use viewing::pw_data_run;
 pub use viewing::pw_mask;

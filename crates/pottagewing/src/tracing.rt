@@ -3,8 +3,9 @@ ghost use mathlib.Core.Path.{_≡_};
 ghost use Rattle.trace.specs.Start.{startAnswer, startMarks};
 ghost use Rattle.trace.specs.Step.{stepAnswer, stepMarks};
 ghost use Rattle.trace.specs.Run.{runAnswer, runMarks, runOrder};
+ghost use Rattle.sweep.specs.Sweep.{sweepAnswer, sweepLeaves};
 ghost use Rattle.c_answers.specs.Reply.{refusalNumber, valuesOf, countValues};
-ghost use Rattle.c_answers.specs.Tracing.{stepValues, runValues};
+ghost use Rattle.c_answers.specs.Tracing.{stepValues, runValues, sweepValues};
 
 // Accepted: the number of positions set.
 #[no_mangle]
@@ -48,4 +49,19 @@ pub extern "C" fn pw_run(
     ensures { λ _. ⌜ now (order .exit) ≡ runOrder (now (image .entry)) (now (marks .entry)) (now (order .entry)) (now (entries .entry)) limit ⌝ }
 {
     c_answers::run(image, marks, order, entries, limit).give(answer)
+}
+
+// Accepted: the sweeps, the last one counted, and the steps.
+#[no_mangle]
+pub extern "C" fn pw_sweep(
+    image: &[u8],
+    marks: &mut [u8],
+    entries: &[u32],
+    answer: &mut [i64; 5],
+) -> u32
+    ensures { λ r. ⌜ r ≡ refusalNumber (sweepAnswer (now (image .entry)) (now (marks .entry)) (now (entries .entry))) ⌝ }
+    ensures { λ _. ⌜ now (answer .exit) ≡ valuesOf sweepValues (sweepAnswer (now (image .entry)) (now (marks .entry)) (now (entries .entry))) ⌝ }
+    ensures { λ _. ⌜ now (marks .exit) ≡ sweepLeaves (now (image .entry)) (now (marks .entry)) (now (entries .entry)) ⌝ }
+{
+    c_answers::sweep(image, marks, entries).give(answer)
 }

@@ -38,10 +38,11 @@ pub mod Run
 pub mod RunNotes
 pub mod Cut
 pub mod SweptAt
-pub mod Caught
+pub mod SweepTaken
 pub mod Swept
 pub mod Sweep
 pub mod SweepEnough
+pub mod SweepEach
 pub mod SweepTakes
 pub mod SweepRun
 pub mod Sets

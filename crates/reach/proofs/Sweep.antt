@@ -10,8 +10,8 @@ use Rattle.reach.specs.Mark.{tracedMark}
 use Rattle.reach.specs.Tracer.{Tracer}
 use Rattle.reach.specs.Takes.{Ended}
 use Rattle.reach.specs.Sweep.{sweepOnce, sweepTaken, tracedIn, takesNone, sweepMarks}
-use Rattle.reach.specs.ClaimsSweep.{OneSweep, SweepsEnd}
-use Rattle.reach.proofs.Caught.{caught-done}
+use Rattle.reach.specs.ClaimsSweep.{OneSweep, SweepCounts, SweepsEnd}
+use Rattle.reach.proofs.SweepTaken.{taken-done}
 use Rattle.reach.proofs.Count.{count-under}
 use Rattle.reach.proofs.Takes.{length-takes, takes-count}
 use Rattle.reach.proofs.Swept.{sweep-takes}
@@ -30,7 +30,7 @@ module _ (G : Tracer) (m : List ℕ) (l : G .size ≤ length m) where
   -- the last: none could be taken up
   last-ended : takesNone G m ≡ true → Ended G m
   last-ended e p r =
-      in-none (S .order) (omega (arith, once-count, caught-done G m l, eqb-true (sweepTaken G m) 0 e)) (S .all p r)
+      in-none (S .order) (omega (arith, once-count, taken-done G m l, eqb-true (sweepTaken G m) 0 e)) (S .all p r)
     where
       in-none : (ps : List ℕ) → length ps ≡ 0 → Among p ps → ⊥
       in-none [] z i = List·Memᴰ·not-nil i
@@ -38,7 +38,7 @@ module _ (G : Tracer) (m : List ℕ) (l : G .size ≤ length m) where
 
   -- another: at least one was
   pub further-takes : takesNone G m ≡ false → 0 < length (S .order)
-  further-takes e = omega (arith, once-count, caught-done G m l, eqb-false (sweepTaken G m) 0 e)
+  further-takes e = omega (arith, once-count, taken-done G m l, eqb-false (sweepTaken G m) 0 e)
 
   -- so one sweep less is left to do
   pub one-further : (n : ℕ) → G .size < tracedIn G m + suc n → takesNone G m ≡ false → G .size < tracedIn G (sweepOnce G m) + n
@@ -54,6 +54,9 @@ ends G (suc n) m l h = by (takesNone G m) refl (λ (k : G .size < tracedIn G (sw
         → Ended G (cond b m (sweepMarks G n (sweepOnce G m)))
     by true e on = last-ended G m l e
     by false e on = on (one-further G m l n h e)
+
+pub sweep-counts : SweepCounts
+sweep-counts G m l = taken-done G m l
 
 pub sweeps-end : SweepsEnd
 sweeps-end G fuel m l h = ends G fuel m l (omega arith)

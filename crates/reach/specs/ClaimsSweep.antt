@@ -1,5 +1,5 @@
 -- Claims: sweeping is one of the orders, it ends, and it ends as a run does (request W6).
--- Proved in proofs/Swept.antt, Sweep.antt, SweepEnough.antt, SweepTakes.antt and SweepRun.antt. Assumes nothing.
+-- Proved in proofs/Swept.antt, Sweep.antt, SweepEnough.antt, SweepEach.antt, SweepTakes.antt and SweepRun.antt. Assumes nothing.
 use Prim.Native.Nat.{ℕ, suc, _+_, _<_, _≤_}
 use mathlib.Core.Path.{_≡_}
 use mathlib.Core.Logic.{_↔_}
@@ -11,7 +11,7 @@ use Rattle.reach.specs.Takes.{Ready, Takes, Ended, Base, ToEnd}
 use Rattle.reach.specs.Run.{finished, runOf}
 use Rattle.reach.specs.ClaimsOrder.{Plain, Final}
 use Rattle.reach.specs.ClaimsCut.{SomeWaits, SomeCut}
-use Rattle.reach.specs.Sweep.{sweepOnce, tracedIn, sweepMarks, sweepCount}
+use Rattle.reach.specs.Sweep.{sweepOnce, sweepTaken, tracedIn, sweepMarks, sweepCount, sweptMarks, sweeps}
 
 -- the first lies from p on, each further one past the one before
 abbrev pub Upward : ℕ → List ℕ → Type 0
@@ -29,17 +29,28 @@ pub record OneSweep (G : Tracer) (m m′ : List ℕ) : Type 0 where
 abbrev pub SweepTakes : Type 0
 SweepTakes = (G : Tracer) (m : List ℕ) → G .size ≤ length m → OneSweep G m (sweepOnce G m)
 
--- So many sweeps lead from m to m′ by taking up waiting positions; there are as many marks 2 and 3 more as positions were taken up; each
--- sweep but the last took at least one
-pub record Sweeps (G : Tracer) (m m′ : List ℕ) (sweeps : ℕ) : Type 0 where
+-- and takes as many as there are marks 2 and 3 more afterwards
+abbrev pub SweepCounts : Type 0
+SweepCounts = (G : Tracer) (m : List ℕ) → G .size ≤ length m → tracedIn G (sweepOnce G m) ≡ tracedIn G m + sweepTaken G m
+
+-- Sweeps lead from m to m′ by taking up waiting positions; there are as many marks 2 and 3 more as positions were taken up
+pub record Sweeps (G : Tracer) (m m′ : List ℕ) : Type 0 where
   pub order : List ℕ
   pub takes : Takes G m order m′
   pub counted : tracedIn G m′ ≡ tracedIn G m + length order
-  pub few : sweeps ≤ suc (length order)
 
 -- so do all sweeps
 abbrev pub SweepsTake : Type 0
-SweepsTake = (G : Tracer) (fuel : ℕ) (m : List ℕ) → G .size ≤ length m → Sweeps G m (sweepMarks G fuel m) (sweepCount G fuel m)
+SweepsTake = (G : Tracer) (fuel : ℕ) (m : List ℕ) → G .size ≤ length m → Sweeps G m (sweepMarks G fuel m)
+
+-- So many sweeps lead from m to m′: each but the last takes at least one position, and the last none
+pub data EachTakes (G : Tracer) : List ℕ → List ℕ → ℕ → Type 0 where
+  last : {m : List ℕ} → sweepTaken G m ≡ 0 → EachTakes G m m 1
+  another : {m m′ : List ℕ} {k : ℕ} → 0 < sweepTaken G m → EachTakes G (sweepOnce G m) m′ k → EachTakes G m m′ (suc k)
+
+-- that is how many the engine counts
+abbrev pub SweepsEach : Type 0
+SweepsEach = (G : Tracer) (m : List ℕ) → G .size ≤ length m → EachTakes G m (sweptMarks G m) (sweeps G m)
 
 -- one sweep more than there are positions is enough: no waiting position is left whose instruction fits
 abbrev pub SweepsEnd : Type 0

@@ -7,7 +7,7 @@ use mathlib.Core.List.{List}
 use lib.ListN.{length}
 use Rattle.reach.specs.Tracer.{Tracer}
 use Rattle.reach.specs.Sweep.{canTake, sweptAt, sweepFrom, sweepTakenFrom, sweepOnce, sweepTaken}
-use Rattle.reach.proofs.Caught.{length-swept}
+use Rattle.reach.proofs.SweepTaken.{length-swept}
 use Rattle.sweep.proofs.Meeting.{Met}
 
 -- p is to be met next, and so many were taken before it

@@ -10,7 +10,7 @@ use borrow.Author.Tests.{eq-eqb, ne-eqb}
 use Rattle.reach.specs.Mark.{tracedMark}
 use Rattle.reach.specs.Tracer.{Tracer}
 use Rattle.reach.specs.Sweep.{sweepOnce, sweepTaken, sweepMarks, sweepCount, sweptMarks, sweptSteps, tracedIn}
-use Rattle.reach.proofs.Caught.{caught-done, none-caught}
+use Rattle.reach.proofs.SweepTaken.{taken-done, none-taken}
 use Rattle.reach.specs.Sweep as spec
 use Rattle.reach.proofs.Count.{count-under}
 
@@ -75,11 +75,11 @@ module _ (G : Tracer) where
           let b = eq-eqb (sweepTaken G m) 0 z in
           let f : m ≡ sweptMarks G m₀ = ap (λ (x : Bool). cond x m (sweepMarks G left (sweepOnce G m))) (sym b) ∙ marks-now in
           let g : sweeps + 1 ≡ spec.sweeps G m₀ = ap (λ (x : Bool). sweeps + suc (cond x 0 (sweepCount G left (sweepOnce G m)))) (sym b) ∙ count-now in
-          ended (sweeps + 1) m′ (C .1 ∙ none-caught G m z) f g
+          ended (sweeps + 1) m′ (C .1 ∙ none-taken G m z) f g
 
       module _ (fits : G .size ≤ length m₀) where
         steps-now : steps + taken ≡ tracedIn G m′
-        steps-now = omega (arith, S .counted, C .0, caught-done G m (omega (arith, S .long)), ap (tracedIn G) (C .1))
+        steps-now = omega (arith, S .counted, C .0, taken-done G m (omega (arith, S .long)), ap (tracedIn G) (C .1))
 
         pub few-steps : steps + taken ≤ G .size
         few-steps = omega (arith, steps-now, count-under tracedMark (G .size) m′)

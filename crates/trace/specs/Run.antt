@@ -51,7 +51,7 @@ ranOf (ShortMarks n) = refused 2 (pos n ∷ [])
 ranOf (ShortOrder n) = refused 3 (pos n ∷ [])
 ranOf (Cut c) = refused 5 (cutValues c)
 
--- how it ended: an instruction cut off is 5, with position and first byte
+-- how it ended: an instruction cut off is 5, with position, first byte and how many bytes are missing
 abbrev pub endOf : List ℕ → End → ℕ → ℕ → Answer RunResult
 endOf image finished s n = runAccepted true s n
 endOf image stopped s n = runAccepted false s n

@@ -67,7 +67,7 @@ pub record Began (image marks entries : List ℕ) : Type 0 where
   pub room : length image ≤ length marks
   pub marks-are : startMarks image marks entries ≡ note (length image) entries (cleared (length image) marks)
 
-began : (image marks entries : List ℕ) (k : ℕ) → startAnswer image marks entries ≡ accepted k → Began image marks entries
+pub began : (image marks entries : List ℕ) (k : ℕ) → startAnswer image marks entries ≡ accepted k → Began image marks entries
 unfolding startAnswer startMarks
 began image marks entries k e =
     let a = passed _ _ _ e in

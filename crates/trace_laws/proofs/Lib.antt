@@ -8,3 +8,5 @@ pub mod Unflashed
 pub mod ClaimsImagesOrder
 pub mod ClaimsImagesEnd
 pub mod ClaimsMissingFew
+pub mod Finished
+pub mod ClaimsSweepsImages

@@ -23,7 +23,7 @@ use Rattle.views.specs.Positions.{bit, tracedAt}
 use Rattle.views.proofs.Ups.{up-at}
 use Rattle.views.specs.Mask.{under, covers, masked, maskOf}
 use Rattle.views_laws.specs.ClaimsCode.{Code, CodeBytes}
-use Rattle.views_laws.proofs.Finished.{sized, covered, marks-are, ended}
+use Rattle.trace_laws.proofs.Finished.{sized, covered, marks-are, ended}
 use Rattle.views_laws.proofs.Reached.{plainly, over, reached-inside}
 use Rattle.views_laws.proofs.Somes.{which, passing}
 

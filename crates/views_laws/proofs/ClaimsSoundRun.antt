@@ -77,12 +77,12 @@ module _ (image : List ℕ) where
       by (kept d f x) = subst (Fine q) (sym x) (g q h)
       by (called d i o x) = subst (Fine q) (sym x) (waiting-fine q)
 
-  takes-good : {m m′ ps : List ℕ} → n ≤ length m → Takes (tracerOf image) m ps m′ → Good m → Good m′
+  pub takes-good : {m m′ ps : List ℕ} → n ≤ length m → Takes (tracerOf image) m ps m′ → Good m → Good m′
   takes-good l stay g = g
   takes-good {m} l (up {p = p} R rest) g =
       takes-good (let e = length-took (tracerOf image) m p in omega arith) rest (step-good m p l R g)
 
-  start-good : (marks entries : List ℕ) → n ≤ length marks → Good (note n entries (cleared n marks))
+  pub start-good : (marks entries : List ℕ) → n ≤ length marks → Good (note n entries (cleared n marks))
   start-good marks entries l q h = by (noticed n entries (cleared n marks) q (omega (arith, length-cleared n marks l)))
     where
       by : Noticed n entries (cleared n marks) q → Fine q (getD (note n entries (cleared n marks)) q 0)

@@ -1,7 +1,7 @@
 pub mod ClaimsViewsApart
-pub mod Finished
 pub mod Somes
 pub mod Reached
 pub mod ClaimsCodeBytes
 pub mod Edges
 pub mod ClaimsSoundRun
+pub mod ClaimsSoundSteps

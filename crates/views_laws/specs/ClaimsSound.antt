@@ -1,11 +1,17 @@
--- What a run leaves is not damaged: no view refuses it with 6. Document 01, 'Numbers given when a call says no'.
+-- What start, accepted steps, a run and sweeps leave is not damaged: no view refuses it with 6. Document 01, 'Numbers given when a call says
+-- no'.
 -- Assumes nothing.
 use Prim.Native.Nat.{ℕ, _<_, _≤_}
 use mathlib.Core.Bool.{false}
 use mathlib.Core.List.{List}
 use mathlib.Core.Path.{_≡_}
 use lib.ListN.{length}
+use Rattle.instruction.specs.Answer.{accepted}
 use Rattle.trace.specs.Run.{outcomeOf}
+use Rattle.trace.specs.Start.{startAnswer, startMarks}
+use Rattle.trace.specs.Step.{StepResult, stepAnswer, stepMarks}
+use Rattle.sweep.specs.Sweep.{SweepResult, sweepAnswer, sweepLeaves}
+use Rattle.trace_laws.specs.ClaimsImages.{Steps}
 use Rattle.views.specs.View.{damagedHere}
 
 -- no position of the image is damaged
@@ -16,3 +22,24 @@ Undamaged image m = (p : ℕ) → p < length image → damagedHere image m p ≡
 abbrev pub RunUndamaged : Type 0
 RunUndamaged =
     (image marks entries : List ℕ) (limit : ℕ) → length image ≤ length marks → Undamaged image (outcomeOf image marks entries limit .marks)
+
+-- what start leaves
+abbrev pub StartUndamaged : Type 0
+StartUndamaged =
+    (image marks entries : List ℕ) (k : ℕ) → startAnswer image marks entries ≡ accepted k → Undamaged image (startMarks image marks entries)
+
+-- an accepted step keeps marks that are not damaged so
+abbrev pub StepUndamaged : Type 0
+StepUndamaged =
+    (image m : List ℕ) (p : ℕ) (s : StepResult) → Undamaged image m → stepAnswer image m p ≡ accepted s
+    → Undamaged image (stepMarks image m p)
+
+-- so do any accepted steps, one after the other
+abbrev pub StepsUndamaged : Type 0
+StepsUndamaged = (image m ps m′ : List ℕ) → Undamaged image m → Steps image m ps m′ → Undamaged image m′
+
+-- what the sweeping engine leaves
+abbrev pub SweepUndamaged : Type 0
+SweepUndamaged =
+    (image marks entries : List ℕ) (s : SweepResult) → sweepAnswer image marks entries ≡ accepted s
+    → Undamaged image (sweepLeaves image marks entries)

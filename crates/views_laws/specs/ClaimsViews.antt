@@ -13,6 +13,6 @@ ViewedApart = Apart viewedOf
 abbrev pub OverlapsApart : Type 0
 OverlapsApart = Apart overlapsIn
 
--- and those in what held_at answers
+-- and those of the places that a position had for targets
 abbrev pub PlacesApart : Type 0
 PlacesApart = Apart placesIn

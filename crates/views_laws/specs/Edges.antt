@@ -4,7 +4,7 @@
 use Prim.Native.Nat.{ℕ}
 use mathlib.Core.List.{List, [], _∷_}
 use mathlib.Core.Path.{_≡_}
-use lib.ListN.{getD, replicate, take}
+use lib.ListN.{getD, replicate}
 use lib.IntN.{pos, negsuc}
 use Rattle.instruction.specs.Answer.{accepted, refused}
 use Rattle.instruction.specs.Decode.{decodeAnswer}
@@ -23,12 +23,12 @@ flashCall = 0xB8 ∷ 0x0D ∷ 0x21 ∷ 0x00 ∷ 0x00 ∷ []
 abbrev pub unread : List ℕ
 unread = replicate 5 9
 
--- a run in it from one entry: the marks it leaves, and the positions that it notes, in their order
+-- a run in it from one entry: the marks it leaves, and the order list, which notes positions from its start on
 abbrev pub marksFrom : ℕ → List ℕ
 marksFrom entry = runMarks flashCall unread unread (entry ∷ []) 5
 
 abbrev pub orderFrom : ℕ → List ℕ
-orderFrom entry = take 2 (runOrder flashCall unread unread (entry ∷ []) 5)
+orderFrom entry = runOrder flashCall unread unread (entry ∷ []) 5
 
 abbrev pub Edges : Type 0
 Edges =
@@ -51,8 +51,8 @@ Edges =
     × (resolveAnswer (Br (pos 65536)) 2 ≡ refused 8 (pos 65536 ∷ []))
     × (decodeAnswer [] ≡ refused 12 (pos 0 ∷ []))
     × (decodeAnswer (0x68 ∷ 0x00 ∷ []) ≡ refused 5 (pos 0 ∷ pos 0x68 ∷ pos 1 ∷ []))
-    × (orderFrom 0 ≡ 0 ∷ 2 ∷ [])
+    × (orderFrom 0 ≡ 0 ∷ 2 ∷ 9 ∷ 9 ∷ 9 ∷ [])
     × (getD (marksFrom 0) 2 0 ≡ 3)
-    × (orderFrom 2 ≡ 2 ∷ 0 ∷ [])
+    × (orderFrom 2 ≡ 2 ∷ 0 ∷ 9 ∷ 9 ∷ 9 ∷ [])
     × (getD (marksFrom 2) 2 0 ≡ 2)
     × (getD (labelsOf flashCall (marksFrom 2)) 0 0 ≡ 0)

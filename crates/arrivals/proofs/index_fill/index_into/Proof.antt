@@ -90,7 +90,8 @@ returns-3 c =
     let l = c .before in
     let o = from l in
     let e = o .before in
-    all-entered (image e) (marks e) (l .loop .index) (entered c) ∙ own-room (image e) (marks e) (room e) (fits e) (own o)
+    let w = own-room (image e) (marks e) (room e) (fits e) (own o) in
+    (w .0, all-entered (image e) (marks e) (l .loop .index) (entered c) ∙ w .1)
 
 pub index-into-spec : {M : Type 1} → statement M
 index-into-spec =

@@ -55,7 +55,7 @@ new i = i .index-into .last .1 .1 .0
 is-index : (i : tie.After-index-into) → new i ≡ indexOf (image (made i)) (marks (made i))
 is-index i =
     let k = made i in
-    i .index-into .ensures ∙ sym (own-room (image k) (marks k) (take (n k) (cells k)) (fits k) (part k))
+    i .index-into .ensures .1 ∙ sym (own-room (image k) (marks k) (take (n k) (cells k)) (fits k) (part k) .1)
 
 new-long : (i : tie.After-index-into) → length (new i) ≡ n (made i)
 new-long i = i .index-into .kept .1 .1 .0 ∙ part (made i)

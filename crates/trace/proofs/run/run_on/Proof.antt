@@ -45,7 +45,7 @@ begun : (c : tie.After-slice-known5 Inv-loop μ-loop) → Begun (first c .args .
 begun c =
     let s = first c in
     let e = entered c in
-    begun-of (s .args .image .now) (s .args .marks .now) (s .args .order .now) (s .args .entries .now) (wiped (e .before) .clear .last .0) (e .put-entries .last .1 .0) (e .put-entries .last .0) (e .put-entries .result) (s .pre) (wiped (e .before) .clear .ensures ∙ wiped-is _ (s .args .marks .now) (s .pre .1)) (e .put-entries .ensures)
+    begun-of (s .args .image .now) (s .args .marks .now) (s .args .order .now) (s .args .entries .now) (wiped (e .before) .clear .last .0) (e .put-entries .last .1 .0) (e .put-entries .last .0) (e .put-entries .result) (s .pre) (wiped (e .before) .clear .ensures .1 ∙ wiped-is _ (s .args .marks .now) (s .pre .1)) (e .put-entries .ensures)
 
 loop-holds : tie.Need-loop-holds Inv-loop μ-loop
 loop-holds c = let B = begun c in stand-begin (B .base) (B .room) (B .noted) _

@@ -31,8 +31,8 @@ kept c =
     let h : length (entry (e .before) .args .image .now) ≤ length (entry (e .before) .args .marks .now) = e .if2 .left in
     omega (arith, c .clear .kept .0)
 
-cast-t13 : tie.Need-cast-t13
-cast-t13 c =
+cast-t12 : tie.Need-cast-t12
+cast-t12 c =
     let o = c .before .before in
     let d = o .before .before .before .before in
     let s = entry (d .before .before .before) in
@@ -46,9 +46,9 @@ returns-3 c =
     let d = o .before .before .before .before in
     let e = d .before .before in
     let a = entry (e .before) .args in
-    set (a .image .now) (a .marks .now) (a .entries .now) (e .before .if1 .left) (e .if2 .left) (d .clear .last .0) (d .clear .ensures ∙ wiped-is _ (a .marks .now) (e .if2 .left)) (o .note-entries .result) _ (o .note-entries .ensures)
+    set (a .image .now) (a .marks .now) (a .entries .now) (e .before .if1 .left) (e .if2 .left) (d .clear .last .0) (d .clear .ensures .1 ∙ wiped-is _ (a .marks .now) (e .if2 .left)) (o .note-entries .result) _ (o .note-entries .ensures)
 
 pub start-spec : {M : Type 1} → statement M
 start-spec =
     tie.close
-    (tie.spec returns returns-2 (λ c κs. search needs) (λ c κs. search needs) cast-t13 (λ c. search needs) returns-3)
+    (tie.spec returns returns-2 (λ c κs. search needs) (λ c κs. search needs) cast-t12 (λ c. search needs) returns-3)

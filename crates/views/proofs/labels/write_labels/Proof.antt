@@ -28,7 +28,7 @@ loop-holds c =
     let w = wiped-room c in
     let s = start w in (
       omega arith,
-      labels-start (s .args .image .now) (s .args .marks .now) (w .clear .last .0) (clear-at (length (s .args .image .now)) (s .args .room .now) (w .clear .last .0) (s .pre .2) (w .clear .ensures)),
+      labels-start (s .args .image .now) (s .args .marks .now) (w .clear .last .0) (clear-at (length (s .args .image .now)) (s .args .room .now) (w .clear .last .0) (s .pre .2) (w .clear .ensures .1)),
     )
 
 room-for : (c : tie.At-loop Inv-loop μ-loop) → length (start (wiped-room (c .before)) .args .image .now) ≤ length (wiped-room (c .before) .clear .last .0)
@@ -61,7 +61,7 @@ returns c =
     let s = start w in
     labels-end (s .args .image .now) (s .args .marks .now) (w .clear .last .0) (room-for l) (l .loop .p) (l .loop .inv .0) (c .loop-test .left) (l .loop .room) (l .loop .inv .1)
     ∙ ap (λ (r : List ℕ). labelsOf (s .args .image .now) (s .args .marks .now) ++ r)
-    (clear-rest (length (s .args .image .now)) (s .args .room .now) (w .clear .last .0) (s .pre .2) (w .clear .ensures))
+    (clear-rest (length (s .args .image .now)) (s .args .room .now) (w .clear .last .0) (s .pre .2) (w .clear .ensures .1))
 
 pub write-labels-spec : {M : Type 1} → statement M
 write-labels-spec =

@@ -3,8 +3,8 @@
 use borrow.Author.Needs.{needs}
 use Rattle.listing.specs.Hex.{hex1}
 use Rattle.listing.proofs.Hexing.{low, high}
-use Rattle.listing.proofs.put.hex1.Statement.{statement}
-use Rattle.listing.proofs.put.hex1.Tie as tie
+use Rattle.listing.proofs.hex.hex1.Statement.{statement}
+use Rattle.listing.proofs.hex.hex1.Tie as tie
 
 returns : tie.Need-returns
 unfolding hex1

@@ -52,3 +52,10 @@ module _ (image marks order entries : List ℕ) (limit : ℕ) where
       by b f false g = ltb-false (length marks) (length image) g
       by true f true g = absurd (differ (sym (stop _ _ _ f) ∙ e))
       by false f true g = absurd (differ (sym (pass _ _ _ f ∙ stop _ _ _ g) ∙ e))
+
+  pub short-image : judged ≡ accepted tt → length image ≤ 65536
+  short-image e = by (ltb 65536 (length image)) refl
+    where
+      by : (b : Bool) → ltb 65536 (length image) ≡ b → length image ≤ 65536
+      by false f = ltb-false 65536 (length image) f
+      by true f = absurd (differ (sym (stop _ _ _ f) ∙ e))

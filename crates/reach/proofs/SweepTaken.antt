@@ -46,9 +46,9 @@ module _ (G : Tracer) where
   from-here (suc k) p m h l =
       omega (arith, from-here k (suc p) (sweptAt G m p) (omega arith) (omega (arith, length-swept m p)), one-more m p (omega arith) l)
 
-  pub caught-done : (m : List ℕ) → G .size ≤ length m → tracedIn G (sweepOnce G m) ≡ tracedIn G m + sweepTaken G m
+  pub taken-done : (m : List ℕ) → G .size ≤ length m → tracedIn G (sweepOnce G m) ≡ tracedIn G m + sweepTaken G m
   unfolding sweepOnce sweepTaken
-  caught-done m l = from-here (G .size) 0 m (omega arith) l
+  taken-done m l = from-here (G .size) 0 m (omega arith) l
 
   none-from : (k p : ℕ) (m : List ℕ) → sweepTakenFrom G k p m ≡ 0 → sweepFrom G k p m ≡ m
   unfolding sweepFrom sweepTakenFrom sweptAt
@@ -59,6 +59,6 @@ module _ (G : Tracer) where
       by true f rest = absurd (omega (arith, f))
       by false f rest = rest (omega (arith, f))
 
-  pub none-caught : (m : List ℕ) → sweepTaken G m ≡ 0 → sweepOnce G m ≡ m
+  pub none-taken : (m : List ℕ) → sweepTaken G m ≡ 0 → sweepOnce G m ≡ m
   unfolding sweepOnce sweepTaken
-  none-caught m e = none-from (G .size) 0 m e
+  none-taken m e = none-from (G .size) 0 m e

@@ -1,0 +1,15 @@
+-- `tracing::pw_sweep` meets its contract.
+-- Assumes nothing.
+use borrow.Author.Needs.{needs}
+use Rattle.c_answers.proofs.Told.{given}
+use Rattle.pottagewing.proofs.tracing.pw_sweep.Statement.{statement}
+use Rattle.pottagewing.proofs.tracing.pw_sweep.Tie as tie
+
+returns : tie.Need-returns
+returns c =
+    let t = c .before .before .before .before in
+    let g = given (t .sweep .ensures .0) (c .give .ensures) in
+    (g .0, (g .1, t .sweep .ensures .1))
+
+pub pw-sweep-spec : {M : Type 1} → statement M
+pw-sweep-spec = tie.close (tie.spec (λ c κs. search needs) (λ c κs. search needs) (λ c. search needs) returns)
