@@ -4,6 +4,7 @@
 mod back;
 mod changed;
 mod decode;
+mod edits;
 mod encode;
 mod lent;
 mod listing;
