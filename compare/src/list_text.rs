@@ -11,8 +11,10 @@ use compare::answer::Answer;
 use compare::paper::listing;
 use compare::random::Random;
 
+/// Makes a text.
+type Make = fn(&mut Random) -> Vec<u8>;
 /// How texts are made, how many, and of how many one goes through the program too.
-const TEXTS: [(fn(&mut Random) -> Vec<u8>, u64, u64); 4] = [
+const TEXTS: [(Make, u64, u64); 4] = [
     (texts::good, 120_000, 64),
     (texts::spoiled, 110_000, 64),
     (texts::loose, 20_000, 64),
