@@ -10,12 +10,12 @@
 static const uint8_t image[LENGTH] = {0x01, 0x02, 0x00, 0x41, 0x64, 0x80, 0xF9, 0xA0};
 static const uint32_t entries[] = {0x0000};
 
-/* A call that was refused ends the program: it says the number, and the values that go with it. */
+/* A call that was refused ends the program: it says the number, and the values that go with it, three at most. */
 static void check(const char *call, uint32_t number, const int64_t answer[5])
 {
-    if (number == 0)
+    if (number == PW_DONE)
         return;
-    fprintf(stderr, "%s: refusal %" PRIu32 ", %" PRId64 ", %" PRId64 "\n", call, number, answer[0], answer[1]);
+    fprintf(stderr, "%s: refusal %" PRIu32 ", %" PRId64 ", %" PRId64 ", %" PRId64 "\n", call, number, answer[0], answer[1], answer[2]);
     exit(EXIT_FAILURE);
 }
 
@@ -44,11 +44,11 @@ int main(void)
      * large enough for the call; that of a thread has to have 1 MiB. */
     size_t size = 0;
     uint8_t *room = grown(NULL, 1);
-    number = pw_listing(image, LENGTH, marks, LENGTH, 0, room, size, answer);
-    if (number == 11) {
+    number = pw_listing(image, LENGTH, marks, LENGTH, PW_ARRIVALS_DECLINED, room, size, answer);
+    if (number == PW_NO_ROOM) {
         size = (size_t)answer[0];
         room = grown(room, size);
-        number = pw_listing(image, LENGTH, marks, LENGTH, 0, room, size, answer);
+        number = pw_listing(image, LENGTH, marks, LENGTH, PW_ARRIVALS_DECLINED, room, size, answer);
     }
     check("pw_listing", number, answer);
 

@@ -10,6 +10,12 @@ mod pottagewing {
 
     use std::fmt;
 
+    /// The numbers that are used, by the header's names without `PW_`.
+    const DONE: u32 = 0;
+    const NO_ROOM: u32 = 11;
+    const ARRIVALS_DECLINED: u32 = 0;
+    const ARRIVALS_CHOSEN: u32 = 1;
+
     #[link(name = "pottagewing", kind = "static")]
     unsafe extern "C" {
         fn pw_run(
@@ -36,7 +42,7 @@ mod pottagewing {
         ) -> u32;
     }
 
-    /// The number of a refusal, and the values that go with it.
+    /// The number of a refusal, and the values that go with it, three at most.
     #[derive(Debug)]
     pub struct Refusal {
         pub number: u32,
@@ -45,11 +51,8 @@ mod pottagewing {
 
     impl fmt::Display for Refusal {
         fn fmt(&self, f: &mut fmt::Formatter) -> fmt::Result {
-            write!(
-                f,
-                "refusal {}, {}, {}",
-                self.number, self.values[0], self.values[1]
-            )
+            let [a, b, c, ..] = self.values;
+            write!(f, "refusal {}, {a}, {b}, {c}", self.number)
         }
     }
 
@@ -57,7 +60,7 @@ mod pottagewing {
 
     fn told(number: u32, values: [i64; 5]) -> Result<[i64; 5], Refusal> {
         match number {
-            0 => Ok(values),
+            DONE => Ok(values),
             _ => Err(Refusal { number, values }),
         }
     }
@@ -96,13 +99,17 @@ mod pottagewing {
         room: &mut [u8],
     ) -> Result<usize, Refusal> {
         let mut answer = [0; 5];
+        let choice = match arrivals {
+            true => ARRIVALS_CHOSEN,
+            false => ARRIVALS_DECLINED,
+        };
         let number = unsafe {
             pw_listing(
                 image.as_ptr(),
                 image.len(),
                 marks.as_ptr(),
                 marks.len(),
-                arrivals.into(),
+                choice,
                 room.as_mut_ptr(),
                 room.len(),
                 &mut answer,
@@ -116,7 +123,10 @@ mod pottagewing {
     pub fn listing(image: &[u8], marks: &[u8], arrivals: bool) -> Result<Vec<u8>, Refusal> {
         let mut room = Vec::new();
         match listing_into(image, marks, arrivals, &mut room) {
-            Err(Refusal { number: 11, values }) => room.resize(values[0] as usize, 0),
+            Err(Refusal {
+                number: NO_ROOM,
+                values,
+            }) => room.resize(values[0] as usize, 0),
             answer => return answer.map(|_| room),
         }
         listing_into(image, marks, arrivals, &mut room).map(|_| room)

@@ -44,34 +44,97 @@
  * small a stack the program is ended by a fault, and there is no refusal. All
  * other calls need less than 1 KiB. No call allocates memory.
  *
- * The numbers of the refusals, with the values in answer[0] to answer[2]:
- *
- *    1  the image is longer than 65,536: its length
- *    2  the marks are shorter than the image: their length
- *    3  the order list is shorter than the image: its length
- *    4  the position is not waiting: its mark, 0 if it is not inside the image
- *    5  the instruction is cut off by the end: position, first byte, and how
- *       many of its bytes are missing, 1 or 2
- *    6  a mark is damaged: its position
- *    7  a number does not fit its field: operand, counted from 1, and the number
- *    8  not an address, 0 to 65,535: the number
- *    9  a short offset is not -128 to 127: the offset
- *   10  the top four bits differ: the base's, the address's
- *   11  no room: the number of bytes, of positions or of words needed
- *   12  nothing to decode: 0
- *   14  the base, or the position after the instruction, is over 65,536: that
- *       number
- *   15  a line of a listing is malformed or out of order: its number, from 1
- *   16  a line of a listing reaches past the image's length: its number
- *   17  the stretch or the position is not inside the image, the stretch is
- *       turned round, or an update at a position that is not traced: the
- *       position, or the stretch's start
+ * The numbers have names, below. The comments of the calls name refusals by
+ * their numbers, in the order in which they are judged.
  */
 #ifndef POTTAGEWING_H
 #define POTTAGEWING_H
 
 #include <stddef.h>
 #include <stdint.h>
+
+/* The version of what is declared here: it changes when a call does. */
+#define PW_VERSION 1
+
+/* The number that a call answers: 0, or that of a refusal, here with its values
+ * in answer[0] to answer[2]. 13 is answered by none: pw_list_text prints it. */
+#define PW_DONE 0
+/* the image is longer than 65,536: its length */
+#define PW_LONG_IMAGE 1
+/* the marks are shorter than the image: their length */
+#define PW_SHORT_MARKS 2
+/* the order list is shorter than the image: its length */
+#define PW_SHORT_ORDER 3
+/* the position is not waiting: its mark, 0 if it is not inside the image */
+#define PW_NOT_WAITING 4
+/* the instruction is cut off by the end: position, first byte, and how many of
+ * its bytes are missing, 1 or 2 */
+#define PW_CUT_OFF 5
+/* a mark is damaged: its position */
+#define PW_DAMAGED 6
+/* a number does not fit its field: operand, counted from 1, and the number */
+#define PW_UNFIT 7
+/* not an address, 0 to 65,535: the number */
+#define PW_NO_ADDRESS 8
+/* a short offset is not -128 to 127: the offset */
+#define PW_TOO_FAR 9
+/* the top four bits differ: the base's, the address's */
+#define PW_OTHER_PAGE 10
+/* no room: the number of bytes, of positions or of words needed */
+#define PW_NO_ROOM 11
+/* nothing to decode: 0 */
+#define PW_NOTHING 12
+/* the listing program's input is malformed or too long */
+#define PW_MALFORMED_INPUT 13
+/* the base, or the position after the instruction, is over 65,536: that
+ * number */
+#define PW_PAST_MEMORY 14
+/* a line of a listing is malformed or out of order: its number, from 1 */
+#define PW_MALFORMED_LINE 15
+/* a line of a listing reaches past the image's length: its number */
+#define PW_LINE_PAST_END 16
+/* the stretch or the position is not inside the image, the stretch is turned
+ * round, or an update at a position that is not traced: the position, or the
+ * stretch's start */
+#define PW_OUTSIDE 17
+
+/* Marks. */
+#define PW_UNTOUCHED 0
+#define PW_WAITING 1
+#define PW_TRACED 2
+/* a traced `jmpf` whose target is not followed */
+#define PW_FLASH 3
+
+/* How a run ended, in answer[0]. */
+#define PW_STOPPED 0
+#define PW_FINISHED 1
+
+/* The choice of pw_listing. */
+#define PW_ARRIVALS_DECLINED 0
+#define PW_ARRIVALS_CHOSEN 1
+
+/* Limits: the longest image, the highest address and base, the longest
+ * instruction, the longest run of data, the most overlaps, and the bits of a
+ * map's word. */
+#define PW_IMAGE_LIMIT 65536
+#define PW_HIGHEST_ADDRESS 65535
+#define PW_HIGHEST_BASE 65536
+#define PW_INSTRUCTION_LENGTH 3
+#define PW_RUN_LENGTH 16
+#define PW_MOST_OVERLAPS 3
+#define PW_WORD_BITS 64
+
+/* Room for every listing, for each byte of the image: without `A` lines, and
+ * with them. */
+#define PW_LISTING_ROOM 60
+#define PW_ARRIVALS_ROOM 77
+
+/* What pw_list_text takes: entries, bytes on a line, bytes in all; and room for
+ * all that it prints. */
+#define PW_MOST_ENTRIES 256
+#define PW_MOST_IN_LINE 32
+#define PW_MOST_BYTES 16384
+#define PW_PRINTED_ROOM 983040
 
 #ifdef __cplusplus
 extern "C" {
@@ -220,9 +283,9 @@ uint32_t pw_listing(const uint8_t *image, size_t image_length,
  * 256 entries, four hex digits each, parted by tabs; each further line has 1 to
  * 32 bytes of the image, two hex digits each, and all of them up to 16,384.
  * Digits are upper case. Each line ends with byte 10, which the last may lack.
- * Printed is the listing with arrivals declined; or one line of `R`, a tab and 13
- * where the text is not of this kind, or 5 where an instruction is cut off, and
- * then a tab and how many of its bytes are missing, 1 or 2.
+ * Printed is the listing with arrivals declined; or one line of `R`, a tab and
+ * 13 where the text is not of this kind, or 5 where an instruction is cut off,
+ * and then a tab and how many of its bytes are missing, 1 or 2.
  * 0: the number of bytes written, also where they are an `R` line.
  * 11, and no other.
  */

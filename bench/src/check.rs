@@ -3,7 +3,7 @@
 use crate::cases::Case;
 use crate::ours;
 use crate::plain::back::{Reader, Refused};
-use crate::plain::decode::decode;
+use crate::plain::decode::{self, decode};
 use crate::plain::listing::Lister;
 use crate::plain::trace::{Ended, TRACED, Tracer, is_traced};
 use crate::plain::{maps, views};
@@ -21,6 +21,7 @@ pub fn check(cases: &[Case]) -> Result<(), &'static str> {
     for case in cases {
         decoding(case)?;
         running(case)?;
+        running_into_the_end(case)?;
         viewing(case)?;
         overlapping(case)?;
         listing(case, false)?;
@@ -35,18 +36,29 @@ fn same(equal: bool, call: &'static str) -> Result<(), &'static str> {
     if equal { Ok(()) } else { Err(call) }
 }
 
+/// At every position, of the bytes that follow none, one, two and all.
 fn decoding(case: &Case) -> Result<(), &'static str> {
     for at in 0..case.image.len() {
-        let bytes = &case.image[at..];
-        let theirs = original::decode(bytes);
-        same(ours::decode(bytes) == theirs, "decode")?;
-        let plain = decode(bytes).map_or(
-            Answer::new(Answer::CUT_OFF, &[0, i64::from(bytes[0])]),
-            |found| Answer::instruction(found.form.into(), found.size.into(), found.operands),
-        );
-        same(plain == theirs, "the plain decode")?;
+        let rest = &case.image[at..];
+        for length in [0, 1, 2, rest.len()] {
+            let bytes = &rest[..length.min(rest.len())];
+            let theirs = original::decode(bytes);
+            same(ours::decode(bytes) == theirs, "decode")?;
+            same(plain_decode(bytes) == theirs, "the plain decode")?;
+        }
     }
     Ok(())
+}
+
+fn plain_decode(bytes: &[u8]) -> Answer {
+    match decode(bytes) {
+        Ok(found) => Answer::instruction(found.form.into(), found.size.into(), found.operands),
+        Err(decode::Refused::Nothing) => Answer::new(Answer::NOTHING, &[]),
+        Err(decode::Refused::CutOff(first, missing)) => {
+            let values = [0, i64::from(first), i64::from(missing)];
+            Answer::new(Answer::CUT_OFF, &values)
+        }
+    }
 }
 
 pub fn running(case: &Case) -> Result<(), &'static str> {
@@ -75,12 +87,38 @@ pub fn running(case: &Case) -> Result<(), &'static str> {
 
 /// Ours and the plain side from entry 0.
 pub fn running_alone(image: &[u8]) -> Result<(), &'static str> {
+    running_from(image, &[0])
+}
+
+/// The image up to some bytes, where most of them begin an instruction: two of three runs are cut off.
+fn running_into_the_end(case: &Case) -> Result<(), &'static str> {
+    for last in &case.sampled {
+        running_from(&case.image[..=*last as usize], &case.entries)?;
+    }
+    Ok(())
+}
+
+/// Ours and the plain side: the answer, the marks, and the positions noted.
+fn running_from(image: &[u8], entries: &[u32]) -> Result<(), &'static str> {
     let (mut marks, mut order) = (vec![9; image.len()], vec![9; image.len()]);
-    let answer = ours::run(image, &mut marks, &mut order, &[0], u32::MAX);
+    let answer = ours::run(image, &mut marks, &mut order, entries, u32::MAX);
     let mut tracer = Tracer::default();
-    tracer.run(image, &[0], image.len());
-    order.truncate(answer.values[2] as usize);
+    let ended = tracer.run(image, entries, image.len());
+    order.truncate(tracer.order.len());
+    same(answer == plain_answer(ended, &tracer), "the answer of run")?;
     same(marks == tracer.marks && order == tracer.order, "run")
+}
+
+fn plain_answer(ended: Ended, tracer: &Tracer) -> Answer {
+    let counts = |finished| [finished, tracer.steps as i64, tracer.order.len() as i64];
+    match ended {
+        Ended::Finished => Answer::new(Answer::DONE, &counts(1)),
+        Ended::Stopped => Answer::new(Answer::DONE, &counts(0)),
+        Ended::CutOff(position, first, missing) => {
+            let values = [i64::from(position), i64::from(first), i64::from(missing)];
+            Answer::new(Answer::CUT_OFF, &values)
+        }
+    }
 }
 
 fn words(positions: Vec<usize>) -> Vec<u32> {

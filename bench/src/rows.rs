@@ -92,7 +92,7 @@ fn decoding() -> Sides<'static, Case> {
         })),
         Some(Box::new(|case| {
             for at in 0..case.image.len() {
-                black_box(decode(&case.image[at..]));
+                _ = black_box(decode(&case.image[at..]));
             }
         })),
     ]

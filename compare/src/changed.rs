@@ -1,13 +1,11 @@
 //! Listings changed by chance, as a hand or a bad copy would: most are bad then, some are still good.
 
+use crate::edits;
 use compare::paper::{flow, listing};
 use compare::random::Random;
 
 /// Bytes that matter in a listing, right ones and wrong ones.
 const TELLING: &[u8] = b"0123456789ABCDEFLOAID#@R?acdefilo\t\t\n\n\r \0\0\x7F\xFF";
-const DIGITS: &[u8] = b"0123456789ABCDEF";
-/// How long the stretches are that are doubled or removed: a byte, one in digits, a field with its tab.
-const STRETCHES: [usize; 8] = [1, 1, 1, 1, 2, 2, 3, 5];
 /// The highest position.
 const HIGHEST: usize = 65_535;
 
@@ -16,109 +14,35 @@ pub fn text(random: &mut Random, image: &[u8], text: &[u8]) -> Vec<u8> {
     let mut text = text.to_vec();
     for _ in 0..random.pick(&[1, 1, 1, 1, 2, 3]) {
         match random.below(16) {
-            0 | 1 => byte(random, &mut text),
-            2 => one_more(random, &mut text),
-            3 | 4 => digit(random, &mut text),
-            5 => remove(random, &mut text),
-            6 => double(random, &mut text),
+            0 | 1 => edits::byte(random, &mut text, TELLING),
+            2 => edits::one_more(random, &mut text, TELLING),
+            3 | 4 => edits::digit(random, &mut text),
+            5 => edits::remove(random, &mut text),
+            6 => edits::double(random, &mut text),
             7 => letter(random, &mut text),
-            8 => cut(random, &mut text),
+            8 => edits::cut(random, &mut text),
             9 => {
                 text.pop();
             }
-            10..14 => lines(random, &mut text),
+            10..14 => edits::lines(random, &mut text),
             _ => put_in(random, image, &mut text),
         }
     }
     text
 }
 
-/// Any place, or none in an empty text.
-fn place(random: &mut Random, text: &[u8]) -> Option<usize> {
-    (!text.is_empty()).then(|| random.below(text.len() as u64) as usize)
-}
-
-fn byte(random: &mut Random, text: &mut [u8]) {
-    if let Some(at) = place(random, text) {
-        text[at] = random.pick(TELLING);
-    }
-}
-
-/// A byte more, one time in two at the end of a line.
-fn one_more(random: &mut Random, text: &mut Vec<u8>) {
-    let mut at = random.below(text.len() as u64 + 1) as usize;
-    if random.below(2) == 0 {
-        let end = text[at..].iter().position(|byte| *byte == b'\n');
-        at += end.unwrap_or(0);
-    }
-    text.insert(at, random.pick(TELLING));
-}
-
-/// Another digit in the place of one: the form of the line stays.
-fn digit(random: &mut Random, text: &mut [u8]) {
-    let from = place(random, text).unwrap_or(0);
-    let found = text[from..].iter().position(|byte| DIGITS.contains(byte));
-    if let Some(after) = found {
-        text[from + after] = random.pick(DIGITS);
-    }
-}
-
-fn remove(random: &mut Random, text: &mut Vec<u8>) {
-    if let Some(at) = place(random, text) {
-        let end = text.len().min(at + random.pick(&STRETCHES));
-        text.drain(at..end);
-    }
-}
-
-fn double(random: &mut Random, text: &mut Vec<u8>) {
-    if let Some(at) = place(random, text) {
-        let end = text.len().min(at + random.pick(&STRETCHES));
-        let stretch = text[at..end].to_vec();
-        text.splice(at..at, stretch);
-    }
-}
-
 /// Another letter at the beginning of a line.
 fn letter(random: &mut Random, text: &mut [u8]) {
-    if let Some(at) = place(random, text) {
+    if let Some(at) = edits::place(random, text) {
         let before = text[..at].iter().rposition(|byte| *byte == b'\n');
         text[before.map_or(0, |end| end + 1)] = random.pick(b"LOAIDi\n");
     }
 }
 
-/// The end is lost.
-fn cut(random: &mut Random, text: &mut Vec<u8>) {
-    let end = random.below(text.len() as u64 + 1) as usize;
-    text.truncate(end);
-}
-
-fn split(text: &[u8]) -> Vec<&[u8]> {
-    text.split_inclusive(|byte| *byte == b'\n').collect()
-}
-
-/// A line removed or doubled, or two of them swapped.
-fn lines(random: &mut Random, text: &mut Vec<u8>) {
-    let mut lines = split(text);
-    if lines.is_empty() {
-        return;
-    }
-    let count = lines.len() as u64;
-    let at = random.below(count) as usize;
-    match random.below(4) {
-        0 => {
-            lines.remove(at);
-        }
-        1 => lines.insert(at, lines[at]),
-        2 => lines.swap(at, (at + 1) % count as usize),
-        _ => lines.swap(at, random.below(count) as usize),
-    }
-    *text = lines.concat();
-}
-
 /// A line more, in its order or anywhere.
 fn put_in(random: &mut Random, image: &[u8], text: &mut Vec<u8>) {
     let (at, line) = made(random, image);
-    let mut lines = split(text);
+    let mut lines = edits::split(text);
     let before = |known: &&[u8]| position(known).is_some_and(|known| known < at);
     let index = match random.below(8) {
         0 => random.below(lines.len() as u64 + 1) as usize,
@@ -177,7 +101,7 @@ fn bytes(random: &mut Random, image: &[u8], at: usize, count: usize) -> Vec<u8> 
     let own = (at..at + count).map(|at| image.get(at).copied().unwrap_or(0));
     let mut bytes: Vec<u8> = own.collect();
     if random.below(2) == 0
-        && let Some(at) = place(random, &bytes)
+        && let Some(at) = edits::place(random, &bytes)
     {
         bytes[at] = random.any() as u8;
     }

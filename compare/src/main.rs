@@ -4,17 +4,21 @@
 mod back;
 mod changed;
 mod decode;
+mod edits;
 mod encode;
 mod lent;
+mod list_text;
 mod listing;
 mod maps;
 mod ours;
+mod program;
 mod resolve;
 mod room;
 mod run;
 mod steps;
 mod tally;
 mod targets;
+mod texts;
 mod traces;
 mod views;
 
@@ -45,6 +49,7 @@ fn main() -> ExitCode {
     views::compare(&mut tally, &mut random);
     back::compare(&mut tally, &mut random);
     maps::compare(&mut tally, &mut random);
+    list_text::compare(&mut tally, &mut random);
     match tally.report() {
         true => ExitCode::SUCCESS,
         false => ExitCode::FAILURE,

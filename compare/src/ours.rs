@@ -101,6 +101,13 @@ unsafe extern "C" {
         room_length: usize,
         answer: *mut [i64; 5],
     ) -> u32;
+    fn pw_list_text(
+        text: *const u8,
+        text_length: usize,
+        room: *mut u8,
+        room_length: usize,
+        answer: *mut [i64; 5],
+    ) -> u32;
     fn pw_read_back(
         text: *const u8,
         text_length: usize,
@@ -276,6 +283,11 @@ pub fn listing(image: &[u8], marks: &[u8], arrivals: u32, room: &mut [u8]) -> An
             values,
         )
     })
+}
+
+pub fn list_text(text: &[u8], room: &mut [u8]) -> Answer {
+    let (at, n) = (room.as_mut_ptr(), room.len());
+    answered(|values| unsafe { pw_list_text(text.as_ptr(), text.len(), at, n, values) })
 }
 
 pub fn read_back(text: &[u8], length: u32, image: &mut [u8], marks: &mut [u8]) -> Answer {

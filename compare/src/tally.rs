@@ -18,6 +18,9 @@ pub enum Call {
     Arrivals,
     DataRun,
     Listing,
+    ListText,
+    /// The built listing program.
+    Program,
     ReadBack,
     MapBuild,
     MapTest,
@@ -26,7 +29,7 @@ pub enum Call {
     MapUpdate,
 }
 
-const CALLS: [(Call, &str); 19] = [
+const CALLS: [(Call, &str); 21] = [
     (Call::Decode, "decode"),
     (Call::Encode, "encode"),
     (Call::Resolve, "resolve"),
@@ -40,6 +43,8 @@ const CALLS: [(Call, &str); 19] = [
     (Call::Arrivals, "arrivals"),
     (Call::DataRun, "data run"),
     (Call::Listing, "listing"),
+    (Call::ListText, "list text"),
+    (Call::Program, "list, program"),
     (Call::ReadBack, "read back"),
     (Call::MapBuild, "map build"),
     (Call::MapTest, "map test"),
@@ -110,6 +115,17 @@ pub struct Backs {
     pub refused: u64,
 }
 
+/// The inputs of the listing program, by what it prints for them.
+#[derive(Default)]
+pub struct Texts {
+    listed: u64,
+    cut_off: u64,
+    malformed: u64,
+    /// The most bytes of one, and printed for one.
+    longest: usize,
+    most: usize,
+}
+
 /// The letters of lines.
 const LETTERS: [u8; 5] = *b"LOAID";
 
@@ -121,6 +137,7 @@ pub struct Tally {
     listed: [u64; FORMS],
     listings: Listings,
     pub backs: Backs,
+    pub texts: Texts,
     all: Counts,
 }
 
@@ -134,6 +151,7 @@ impl Tally {
             listed: [0; FORMS],
             listings: Listings::default(),
             backs: Backs::default(),
+            texts: Texts::default(),
             all: Counts::default(),
         }
     }
@@ -211,6 +229,7 @@ impl Tally {
         self.traces.report();
         self.listings.report();
         self.backs.report();
+        self.texts.report();
         let all = &self.all;
         let (alone, alone_differ) = (all.alone, all.alone_differ);
         println!(
@@ -287,6 +306,27 @@ impl Backs {
         } = self;
         println!(
             "listings read back: as written {whole}; changed, and to be taken {taken}, to be refused {refused}"
+        );
+    }
+}
+
+impl Texts {
+    pub fn count(&mut self, text: &[u8], printed: &str) {
+        let found = match printed {
+            "R\t13\n" => &mut self.malformed,
+            line if line.starts_with('R') => &mut self.cut_off,
+            _ => &mut self.listed,
+        };
+        *found += 1;
+        self.longest = self.longest.max(text.len());
+        self.most = self.most.max(printed.len());
+    }
+
+    fn report(&self) {
+        let (listed, cut_off, malformed) = (self.listed, self.cut_off, self.malformed);
+        let (longest, most) = (self.longest, self.most);
+        println!(
+            "texts of the listing program: listed {listed}, cut off {cut_off}, malformed {malformed}; the longest has {longest} bytes, the most printed are {most}"
         );
     }
 }

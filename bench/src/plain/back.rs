@@ -196,7 +196,7 @@ impl Rest<'_> {
 
     /// What follows the bytes of an instruction at a position, up to the line's end.
     fn instruction(&mut self, bytes: &[u8], at: usize) -> Option<()> {
-        let instruction = decode(bytes)?;
+        let instruction = decode(bytes).ok()?;
         let next = at + bytes.len();
         if instruction.size as usize != bytes.len() || next > MEMORY {
             return None;

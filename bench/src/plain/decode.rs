@@ -9,15 +9,25 @@ pub struct Instruction {
     pub operands: [i32; 3],
 }
 
-/// The instruction at the beginning of the bytes, unless it is cut off.
-pub fn decode(bytes: &[u8]) -> Option<Instruction> {
-    let first = *bytes.first()?;
+/// Why there is no instruction.
+#[derive(Clone, Copy, PartialEq, Debug)]
+pub enum Refused {
+    Nothing,
+    /// The first byte, and how many are missing.
+    CutOff(u8, u8),
+}
+
+/// The instruction at the beginning of the bytes.
+pub fn decode(bytes: &[u8]) -> Result<Instruction, Refused> {
+    let first = *bytes.first().ok_or(Refused::Nothing)?;
     let form = &FORMS[first as usize];
-    let bytes = bytes.get(..form.size as usize)?;
-    Some(Instruction {
+    let Some(whole) = bytes.get(..form.size as usize) else {
+        return Err(Refused::CutOff(first, form.size - bytes.len() as u8));
+    };
+    Ok(Instruction {
         form: form.number,
         size: form.size,
-        operands: operands(form.shape, bytes),
+        operands: operands(form.shape, whole),
     })
 }
 

@@ -100,7 +100,7 @@ impl Lister {
             }
             self.text.push(b'\n');
         }
-        if let Some(instruction) = decode(&image[at..]) {
+        if let Ok(instruction) = decode(&image[at..]) {
             self.instruction(image, at, instruction);
         }
         arrived

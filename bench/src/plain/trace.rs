@@ -12,8 +12,8 @@ pub const UNFOLLOWED: u8 = 3;
 pub enum Ended {
     Finished,
     Stopped,
-    /// The position and first byte.
-    CutOff(u32, u8),
+    /// The position, the first byte, and how many bytes are missing.
+    CutOff(u32, u8, u8),
 }
 
 #[derive(Default)]
@@ -41,7 +41,7 @@ impl Tracer {
             let form = FORMS[image[at] as usize];
             let next = at + form.size as usize;
             if next > image.len() {
-                return Ended::CutOff(at as u32, image[at]);
+                return Ended::CutOff(at as u32, image[at], (next - image.len()) as u8);
             }
             self.take_up(image, at, form, next);
             self.steps += 1;

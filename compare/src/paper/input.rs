@@ -1,8 +1,8 @@
 //! Document 01's input of the listing program, written out a second time and plainly.
 
-const MOST_ENTRIES: usize = 256;
-const MOST_IN_LINE: usize = 32;
-const MOST_BYTES: usize = 16_384;
+pub const MOST_ENTRIES: usize = 256;
+pub const MOST_IN_LINE: usize = 32;
+pub const MOST_BYTES: usize = 16_384;
 
 pub struct Input {
     pub entries: Vec<u32>,

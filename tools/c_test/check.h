@@ -1,0 +1,35 @@
+/* What the checks share. A check is a call with what it is to answer, or something that is to hold. */
+#ifndef CHECK_H
+#define CHECK_H
+
+#include "pottagewing.h"
+
+/* The room for every answer. Before each call it has numbers that none answers, so that a value left unwritten is seen. */
+extern int64_t answer[5];
+
+/* The call answers this number and these values; those that are not given are 0. */
+#define ANSWERS(number, call, ...) answers(__FILE__, __LINE__, #call, call, number, (const int64_t[5]){__VA_ARGS__})
+
+#define HOLDS(what) holds(__FILE__, __LINE__, #what, what)
+
+/* A list of numbers of some type, lent. */
+#define LIST(type, ...) ((type *)lent((const type[]){__VA_ARGS__}, sizeof(const type[]){__VA_ARGS__}))
+#define BYTES(...) LIST(uint8_t, __VA_ARGS__)
+#define NONE(type) ((type *)lent("", 0))
+
+/* What was lent holds these numbers now, from its beginning on. */
+#define LEFT(room, type, ...) HOLDS(same(room, (const type[]){__VA_ARGS__}, sizeof(const type[]){__VA_ARGS__}))
+
+void answers(const char *file, int line, const char *call, uint32_t number, uint32_t expected, const int64_t values[5]);
+void holds(const char *file, int line, const char *what, int is_so);
+
+/* A copy that is exactly as long, so that valgrind sees what is read or written past it. It is kept until give_back. */
+void *lent(const void *from, size_t size);
+void give_back(void);
+
+int same(const void *one, const void *other, size_t size);
+
+/* Prints how many checks passed, and answers whether all did and each call was seen to answer each of its numbers. */
+int report(void);
+
+#endif

@@ -1,0 +1,16 @@
+/* Calls every function of the header and checks what it answers and leaves. */
+#include <stdlib.h>
+
+#include "check.h"
+#include "parts.h"
+
+int main(void)
+{
+    void (*const parts[])(void) = {codec, tracing, viewing, listed, mapped};
+
+    for (size_t index = 0; index < sizeof parts / sizeof parts[0]; index++) {
+        parts[index]();
+        give_back();
+    }
+    return report() ? EXIT_SUCCESS : EXIT_FAILURE;
+}

@@ -1,0 +1,11 @@
+/* The checks of each part of the C face. */
+#ifndef PARTS_H
+#define PARTS_H
+
+void codec(void);
+void tracing(void);
+void viewing(void);
+void listed(void);
+void mapped(void);
+
+#endif

@@ -1,0 +1,3 @@
+#include "samples.h"
+
+const uint8_t too_long[TOO_LONG];

@@ -1,0 +1,107 @@
+#include "calls.h"
+
+#include "inputs.h"
+
+/* The image and its marks, as most calls take them. */
+#define IMAGE input.image, input.length
+#define MARKS input.marks, input.length
+
+static int64_t answer[5];
+static uint8_t bytes[TEXT_ROOM], marks[PW_IMAGE_LIMIT], image[PW_IMAGE_LIMIT];
+static uint32_t places[PW_IMAGE_LIMIT];
+static uint64_t words[PW_IMAGE_LIMIT / PW_WORD_BITS];
+
+/* Each first byte with operands at their highest, and past them. */
+#define EACH_FIRST for (int first = 0; first < 256; first++)
+
+static void decode(void)
+{
+    EACH_FIRST {
+        const uint8_t instruction[PW_INSTRUCTION_LENGTH] = {(uint8_t)first, 0xFF, 0xFF};
+        pw_decode(instruction, PW_INSTRUCTION_LENGTH, answer);
+    }
+}
+
+static void encode(void)
+{
+    EACH_FIRST {
+        pw_encode((uint8_t)first, 3, 3, 3, bytes, PW_INSTRUCTION_LENGTH, answer);
+        pw_encode((uint8_t)first, 65536, 65536, 65536, bytes, PW_INSTRUCTION_LENGTH, answer);
+    }
+}
+
+static void resolve(void)
+{
+    EACH_FIRST {
+        pw_resolve((uint8_t)first, 3, 3, 3, 1, answer);
+        pw_resolve((uint8_t)first, 3, 3, 65535, PW_HIGHEST_BASE, answer);
+        pw_resolve((uint8_t)first, 65536, 65536, 65536, PW_HIGHEST_BASE, answer);
+    }
+}
+
+static void targets(void)
+{
+    EACH_FIRST {
+        pw_targets(65533, (uint8_t)first, 3, 3, 3, answer);
+        pw_targets(65533, (uint8_t)first, 65536, 65536, 65536, answer);
+    }
+}
+
+static void start(void) { pw_start(IMAGE, marks, PW_IMAGE_LIMIT, input.entries, input.count, answer); }
+static void step(void)
+{
+    for (size_t index = 0; index <= input.count; index++)
+        pw_step(IMAGE, marks, PW_IMAGE_LIMIT, input.entries[index % PW_MOST_ENTRIES], answer);
+}
+static void run(void)
+{
+    pw_run(IMAGE, marks, PW_IMAGE_LIMIT, places, PW_IMAGE_LIMIT, input.entries, input.count, PW_IMAGE_LIMIT, answer);
+}
+static void mask(void) { pw_mask(IMAGE, MARKS, bytes, TEXT_ROOM, answer); }
+static void target_marks(void) { pw_target_marks(IMAGE, MARKS, bytes, TEXT_ROOM, answer); }
+static void overlaps(void) { pw_overlaps(IMAGE, MARKS, input.position, places, PW_MOST_OVERLAPS, answer); }
+static void arrivals(void) { pw_arrivals(IMAGE, MARKS, input.position, places, PW_IMAGE_LIMIT, answer); }
+static void data_run(void) { pw_data_run(IMAGE, MARKS, input.position, answer); }
+static void listing(void) { pw_listing(IMAGE, MARKS, PW_ARRIVALS_DECLINED, bytes, TEXT_ROOM, answer); }
+static void listing_exactly(void) { pw_listing(IMAGE, MARKS, PW_ARRIVALS_CHOSEN, bytes, input.listed, answer); }
+static void listing_with(void) { pw_listing(IMAGE, MARKS, PW_ARRIVALS_CHOSEN, bytes, TEXT_ROOM, answer); }
+static void list_text(void) { pw_list_text(input.text, input.written, bytes, TEXT_ROOM, answer); }
+static void read_back(void)
+{
+    pw_read_back(input.listing, input.listed, (uint32_t)input.length, image, PW_IMAGE_LIMIT, marks, PW_IMAGE_LIMIT, answer);
+}
+static void map_build(void) { pw_map_build(IMAGE, MARKS, words, PW_IMAGE_LIMIT / PW_WORD_BITS, answer); }
+static void map_test(void) { pw_map_test(words, PW_IMAGE_LIMIT / PW_WORD_BITS, (uint32_t)input.length, input.position, answer); }
+static void map_count(void)
+{
+    pw_map_count(words, PW_IMAGE_LIMIT / PW_WORD_BITS, (uint32_t)input.length, 1, (uint32_t)input.length, answer);
+}
+static void map_first_data(void) { pw_map_first_data(words, PW_IMAGE_LIMIT / PW_WORD_BITS, (uint32_t)input.length, 1, answer); }
+static void map_update(void) { pw_map_update(IMAGE, MARKS, words, PW_IMAGE_LIMIT / PW_WORD_BITS, input.position, answer); }
+
+/* A call is made after those above it: a step after a start, a query after a build. */
+const struct call calls[] = {
+    {"pw_decode", decode},
+    {"pw_encode", encode},
+    {"pw_resolve", resolve},
+    {"pw_targets", targets},
+    {"pw_start", start},
+    {"pw_step", step},
+    {"pw_run", run},
+    {"pw_mask", mask},
+    {"pw_target_marks", target_marks},
+    {"pw_overlaps", overlaps},
+    {"pw_arrivals", arrivals},
+    {"pw_data_run", data_run},
+    {"pw_listing, declined", listing},
+    {"pw_listing, chosen", listing_with},
+    {"the same, exact room", listing_exactly},
+    {"pw_list_text", list_text},
+    {"pw_read_back", read_back},
+    {"pw_map_build", map_build},
+    {"pw_map_test", map_test},
+    {"pw_map_count", map_count},
+    {"pw_map_first_data", map_first_data},
+    {"pw_map_update", map_update},
+};
+const size_t count_calls = sizeof calls / sizeof calls[0];

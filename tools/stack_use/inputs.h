@@ -1,0 +1,30 @@
+/* What the calls are given. */
+#ifndef INPUTS_H
+#define INPUTS_H
+
+#include "pottagewing.h"
+
+/* More than the longest listing. */
+#define TEXT_ROOM (PW_ARRIVALS_ROOM * PW_IMAGE_LIMIT)
+
+/* An image with its entries and marks, a position of it, its listing with arrivals, and an input of the listing program. */
+struct input {
+    uint8_t image[PW_IMAGE_LIMIT];
+    size_t length;
+    uint32_t entries[PW_MOST_ENTRIES];
+    size_t count;
+    uint8_t marks[PW_IMAGE_LIMIT];
+    uint32_t position;
+    uint8_t listing[TEXT_ROOM];
+    size_t listed;
+    uint8_t text[TEXT_ROOM];
+    size_t written;
+};
+
+/* The one that the calls are given now. */
+extern struct input input;
+
+/* Makes the input of a number, from 0 on: the empty one first, then those of the longest image. Answers 0 where there is none. */
+int make_input(int number);
+
+#endif
