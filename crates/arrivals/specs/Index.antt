@@ -1,5 +1,5 @@
--- An index of all arrivals: at each position the lowest, and for each position the next after it at either of its targets. Document 01,
--- 'Views': arrivals at p, ascending.
+-- Of the index that the listing alone asks: at each position the lowest arrival, and for each position the next after it at either of its
+-- targets. A reader need not believe how its cells stand: ClaimsIndex.antt says that it answers as document 01's 'Views' does.
 -- Assumes nothing.
 use Prim.Native.Nat.{ℕ, _+_, _*_}
 use mathlib.Core.Bool.{Bool, cond, _&&_}

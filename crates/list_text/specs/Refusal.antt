@@ -1,4 +1,5 @@
--- The line that a program prints where it refuses. Document 01, 'The listing'; document 02, W1 and W2.
+-- The line that a program prints where it refuses. Document 01, 'The listing': `R`, tab, refusal number; document 02, W2: a third field.
+-- That `unlist` prints such lines too is ours.
 -- Assumes nothing.
 use Prim.Native.Nat.{ℕ}
 use mathlib.Core.List.{List, [], _∷_, _++_}

@@ -1,4 +1,5 @@
--- What is said of a position taken up. Document 01, 'Marks and steps'.
+-- Of the function by which step, run and sweep take a position up, which is handed its targets: serves these three alone. Document 01,
+-- 'Marks and steps'.
 -- Assumes nothing.
 use Prim.Native.Nat.{ℕ}
 use mathlib.Core.List.{List}

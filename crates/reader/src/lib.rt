@@ -18,7 +18,7 @@ pub fn new<'a>(text: &'a [u8], place: Place) -> Reader<'a>
     Reader { text, place }
 }
 
-// What the line at the place says.
+// What the line at the place says. The reader stays where it is: the answer has the place after the line, and `moved` goes there.
 pub fn next<'a>(r: Reader<'a>) -> Read
     ensures { λ s. ⌜ readOf s ≡ readAnswer (now (r .entry .text)) (r .entry .place) ⌝ }
 {

@@ -1,4 +1,4 @@
--- A number that a word of the command line says: 1 to 9 decimal digits.
+-- A number that a word of the command line says: 1 to 9 decimal digits. Ours, for `unlist`.
 -- Assumes nothing.
 use Prim.Native.Nat.{ℕ, _+_, _*_, _-_}
 use mathlib.Core.Bool.{Bool, cond, _&&_}

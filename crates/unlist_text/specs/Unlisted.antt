@@ -1,5 +1,5 @@
--- What is printed of a listing read back. Document 02, W1: the image as the listing program's image lines, or one line of `R`, tab, the
--- number of the refusal, tab, its value.
+-- What `unlist` prints of a listing read back: the image as the listing program's image lines, or one line of `R`, tab, the number of the
+-- refusal, tab, its value. The program is ours: document 02, W1 asks for the reader that it stands on, and not for it.
 -- Assumes nothing.
 use Prim.Native.Nat.{ℕ, zero, suc}
 use mathlib.Core.List.{List, [], _∷_, _++_}

@@ -106,6 +106,7 @@ pub fn holds(letter: u8, numbers: &[i64; 11]) -> bool {
         b'R' => resolve(numbers),
         b'T' => targets(numbers),
         b'G' => traces::run(numbers),
+        b'W' => traces::sweep(numbers),
         _ => false,
     }
 }

@@ -1,4 +1,4 @@
-// A whole trace of a short image from two entries. A line packs it into its numbers: ten bytes of image, five to a number, and afterwards
+// A whole trace of a short image from two entries, by a run or by sweeps. A line packs it into its numbers: ten bytes of image, five to a number, and afterwards
 // the order list and the marks, a hex digit for each position.
 use crate::calls;
 use crate::narrow;
@@ -49,10 +49,22 @@ fn are(order: &[u32; 10], marks: &[u8; 10], places: i64, values: i64) -> bool {
 const OTHER: u32 = 255;
 
 // The number that a run answers, or OTHER where it leaves something else than these digits.
-fn trace(image: &[u8], entries: &[u32; 2], places: i64, values: i64, answer: &mut [i64; 5]) -> u32 {
+fn ran(image: &[u8], entries: &[u32; 2], places: i64, values: i64, answer: &mut [i64; 5]) -> u32 {
     let mut marks = [OLD_MARK; 10];
     let mut order = [OLD_PLACE; 10];
     let number = pottagewing::pw_run(image, &mut marks, &mut order, entries, NO_LIMIT, answer);
+    if are(&order, &marks, places, values) {
+        number
+    } else {
+        OTHER
+    }
+}
+
+// The same of sweeps, which have no order list.
+fn swept(image: &[u8], entries: &[u32; 2], places: i64, values: i64, answer: &mut [i64; 5]) -> u32 {
+    let mut marks = [OLD_MARK; 10];
+    let order = [OLD_PLACE; 10];
+    let number = pottagewing::pw_sweep(image, &mut marks, entries, answer);
     if are(&order, &marks, places, values) {
         number
     } else {
@@ -79,7 +91,8 @@ fn told(numbers: &[i64; 11], n: u8, a: u32, b: u32, number: u32, answer: &[i64; 
     calls::same(numbers, &given, number, &values)
 }
 
-pub fn run(numbers: &[i64; 11]) -> bool {
+// Whether a run, or sweeps, answer and leave what the line says.
+fn holds(sweeping: bool, numbers: &[i64; 11]) -> bool {
     let n = narrow::byte(numbers[0]);
     let a = narrow::word(numbers[3]);
     let b = narrow::word(numbers[4]);
@@ -89,12 +102,31 @@ pub fn run(numbers: &[i64; 11]) -> bool {
         return false;
     }
     let mut answer = [0i64; 5];
-    let number = trace(
-        &bytes[0..end],
-        &[a, b],
-        numbers[9],
-        numbers[10],
-        &mut answer,
-    );
+    let entries = [a, b];
+    let number = if sweeping {
+        swept(
+            &bytes[0..end],
+            &entries,
+            numbers[9],
+            numbers[10],
+            &mut answer,
+        )
+    } else {
+        ran(
+            &bytes[0..end],
+            &entries,
+            numbers[9],
+            numbers[10],
+            &mut answer,
+        )
+    };
     told(numbers, n, a, b, number, &answer)
+}
+
+pub fn run(numbers: &[i64; 11]) -> bool {
+    holds(false, numbers)
+}
+
+pub fn sweep(numbers: &[i64; 11]) -> bool {
+    holds(true, numbers)
 }

@@ -5,6 +5,8 @@ ghost use lib.ListN.{length};
 use crate::case;
 use crate::case::Case;
 use crate::part;
+use read_back::Place;
+use read_back::Read;
 use read_back::Restored;
 
 // What stands in the rooms before.
@@ -80,6 +82,18 @@ fn call(c: Case, text: &[u8], image: &mut [u8], marks: &mut [u8]) -> Restored {
     read_back::read_back(&text[0..t], c.length, &mut image[0..n], &mut marks[0..k])
 }
 
+// What a reader at the first line says of it goes with the answer: it is malformed where that is 15 for line 1, or 1, 2 or 11, which come
+// before any line is looked at.
+fn is_first(text: &[u8], letter: u8, value: usize) -> bool {
+    let told = letter == b'm' && value == 1;
+    match reader::read(text, Place::start()) {
+        Read::Line(_, _) => !told,
+        Read::End => text.len() == 0,
+        Read::Malformed(k) => k == 1
+            && (told || letter == b'l' || letter == b's' || letter == b'r'),
+    }
+}
+
 // The last letter says which answer is meant, and its number what the answer holds.
 fn holds(c: Case, letter: u8, value: usize, text: &[u8], wanted: &[u8]) -> bool {
     let all = wanted.len();
@@ -90,6 +104,13 @@ fn holds(c: Case, letter: u8, value: usize, text: &[u8], wanted: &[u8]) -> bool 
     let mut marks = room();
     let answer = call(c, text, &mut image, &mut marks);
     if !is_answer(answer, letter, value) {
+        return false;
+    }
+    let t = c.text;
+    if text.len() < t {
+        return false;
+    }
+    if !is_first(&text[0..t], letter, value) {
         return false;
     }
     let n = written(letter, c.length);
