@@ -1,5 +1,5 @@
-// A whole trace of a short image from two entries, by a run or by sweeps. A line packs it into its numbers: ten bytes of image, five to a number, and afterwards
-// the order list and the marks, a hex digit for each position.
+// A whole trace of a short image from two entries, by a run or by sweeps. A line packs it into its numbers: ten bytes of image, five to a
+// number, and afterwards the order list and the marks, a hex digit for each position.
 use crate::calls;
 use crate::narrow;
 
