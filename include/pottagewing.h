@@ -1,8 +1,8 @@
 /* Pottagewing: the instructions of the LC86K, tracing through them, and the
  * listing of what was traced, for C.
  *
- * Every call answers a number: 0 where it did what was asked, otherwise the
- * number of the refusal. The values that belong to the answer stand in
+ * Every call but pw_version answers a number: 0 where it did what was asked,
+ * otherwise the number of the refusal. The values that belong to it stand in
  * answer[0] to answer[4]; those that are not used are 0. `answer` is the
  * answer's own room of five numbers: every call writes all five, also where it
  * refuses, and none reads them.
@@ -53,7 +53,8 @@
 #include <stddef.h>
 #include <stdint.h>
 
-/* The version of what is declared here: it changes when a call does. */
+/* The version of what is declared here: it changes when a call does. What is
+ * linked answers its own by pw_version. */
 #define PW_VERSION 1
 
 /* The number that a call answers: 0, or that of a refusal, here with its values
@@ -140,6 +141,11 @@
 extern "C" {
 #endif
 
+/* The version of what is linked: PW_VERSION of the header that belongs to it.
+ * Another number means that this header declares other calls than are there.
+ */
+uint32_t pw_version(void);
+
 /* The instruction at the beginning of n bytes.
  * 0: form (0 to 69, in the order of the enum), size in bytes, and the three
  *    operands, 0 where there is none. Bytes after the instruction are ignored.
@@ -210,6 +216,26 @@ uint32_t pw_run(const uint8_t *image, size_t image_length,
                 uint32_t *order, size_t order_length,
                 const uint32_t *entries, size_t entries_length,
                 uint32_t limit, int64_t answer[5]);
+
+/* A second tracer, plain enough to be followed on paper. Starts afresh from the
+ * entries and sweeps the marks upward: it takes up, as pw_step does, each
+ * waiting position that it meets, but for those whose instruction is cut off.
+ * What becomes waiting further up is met by the same sweep, what becomes
+ * waiting behind by the next. It ends with the sweep that takes up none.
+ * 0: the number of sweeps, that last one counted, and the number of steps (as
+ *    many positions have the mark 2 or 3). A position left waiting is cut off.
+ *    In an image without B8 0D 21 in succession the marks are those of pw_run
+ *    where that finishes, and a position is left waiting exactly where pw_run
+ *    with a limit of at least the image's length answers 5. In other images the
+ *    marks may be others than a run's, since the order is another.
+ * 1, then 2: the marks stay as they were.
+ * There is at most one sweep more than the image has bytes. Each goes through
+ * the whole image: where many branches lead backwards, this takes long.
+ */
+uint32_t pw_sweep(const uint8_t *image, size_t image_length,
+                  uint8_t *marks, size_t marks_length,
+                  const uint32_t *entries, size_t entries_length,
+                  int64_t answer[5]);
 
 /* The byte mask: 1 on each byte of a traced instruction, 0 on all others.
  * 0: the number of bytes written, which is the image's length.

@@ -3,6 +3,7 @@
 
 use crate::games;
 use crate::plain::listing::Lister;
+use crate::plain::sweep::Sweeper;
 use crate::plain::trace::{Ended, Tracer};
 use crate::plain::{maps, views};
 use compare::random::Random;
@@ -28,6 +29,8 @@ pub struct Case {
     pub graph: Graph,
     /// How often the original took a position up, repeats counted.
     pub visits: u64,
+    /// How often it is swept, the last time counted.
+    pub sweeps: usize,
     /// Some positions, most of them traced.
     pub sampled: Vec<u32>,
 }
@@ -61,6 +64,7 @@ impl Case {
         });
         Some(Case {
             sampled: sampled.collect(),
+            sweeps: Sweeper::default().sweep(&image, entries),
             entries: entries.to_vec(),
             marks: tracer.marks,
             order: tracer.order,

@@ -5,6 +5,7 @@ use crate::ours;
 use crate::plain::back::{Reader, Refused};
 use crate::plain::decode::{self, decode};
 use crate::plain::listing::Lister;
+use crate::plain::sweep::Sweeper;
 use crate::plain::trace::{Ended, TRACED, Tracer, is_traced};
 use crate::plain::{maps, views};
 use crate::rows::LONGEST_LISTING;
@@ -22,6 +23,7 @@ pub fn check(cases: &[Case]) -> Result<(), &'static str> {
         decoding(case)?;
         running(case)?;
         running_into_the_end(case)?;
+        sweeping(case)?;
         viewing(case)?;
         overlapping(case)?;
         listing(case, false)?;
@@ -107,6 +109,32 @@ fn running_from(image: &[u8], entries: &[u32]) -> Result<(), &'static str> {
     order.truncate(tracer.order.len());
     same(answer == plain_answer(ended, &tracer), "the answer of run")?;
     same(marks == tracer.marks && order == tracer.order, "run")
+}
+
+/// Over the whole image, and up to some bytes as a run is.
+fn sweeping(case: &Case) -> Result<(), &'static str> {
+    sweeping_from(&case.image, &case.entries)?;
+    for last in &case.sampled {
+        sweeping_from(&case.image[..=*last as usize], &case.entries)?;
+    }
+    Ok(())
+}
+
+/// From entry 0: how many sweeps there are.
+pub fn sweeping_alone(image: &[u8]) -> Result<usize, &'static str> {
+    sweeping_from(image, &[0])
+}
+
+/// Ours and the plain side: the answer and the marks.
+fn sweeping_from(image: &[u8], entries: &[u32]) -> Result<usize, &'static str> {
+    let mut marks = vec![9; image.len()];
+    let answer = ours::sweep(image, &mut marks, entries);
+    let mut sweeper = Sweeper::default();
+    let sweeps = sweeper.sweep(image, entries);
+    let plain = Answer::new(Answer::DONE, &[sweeps as i64, sweeper.steps as i64]);
+    same(answer == plain, "the answer of sweep")?;
+    same(marks == sweeper.marks, "sweep")?;
+    Ok(sweeps)
 }
 
 fn plain_answer(ended: Ended, tracer: &Tracer) -> Answer {

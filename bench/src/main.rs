@@ -6,6 +6,7 @@ mod check;
 mod clock;
 mod family;
 mod games;
+mod ladder;
 #[path = "../../compare/src/ours.rs"]
 #[allow(dead_code)]
 mod ours;
@@ -62,5 +63,6 @@ fn all(random: &mut Random) -> Result<(), &'static str> {
     });
     report::table(&table, &whole);
     report::aims(&table);
-    family::measure(random)
+    family::measure(random)?;
+    ladder::measure()
 }

@@ -18,12 +18,14 @@ pub fn images(cases: &[Case], left_out: usize) {
     let visits: u64 = cases.iter().map(|case| case.visits).sum();
     let masks = cases.iter().flat_map(|case| case.graph.mask(&case.image));
     let covered = masks.filter(|masked| *masked).count();
+    let sweeps: usize = cases.iter().map(|case| case.sweeps).sum();
     println!(
-        "{} KiB: {count} images, {:.0} instructions each, {:.0} % of the bytes are code; the original takes a position up {:.2} times; left out {left_out}",
+        "{} KiB: {count} images, {:.0} instructions each, {:.0} % of the bytes are code; the original takes a position up {:.2} times; {:.1} sweeps; left out {left_out}",
         length / 1024,
         taken(cases),
         100.0 * covered as f64 / (length * count) as f64,
         visits as f64 / count as f64 / taken(cases),
+        sweeps as f64 / count as f64,
     );
 }
 
@@ -87,6 +89,16 @@ pub fn line(name: &str, times: Times) {
         micros(plain),
         ratio(original, ours),
         ratio(ours, plain),
+    );
+}
+
+/// How many times as long one takes as the other, for ours and for the plain side.
+pub fn against(name: &str, one: Times, other: Times) {
+    println!(
+        "{name:<26} {:>10}   {:>10}   {:>10}",
+        ratio(one[0], other[0]),
+        "-",
+        ratio(one[2], other[2]),
     );
 }
 

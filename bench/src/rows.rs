@@ -6,6 +6,7 @@ use crate::ours;
 use crate::plain::back::Reader;
 use crate::plain::decode::decode;
 use crate::plain::listing::Lister;
+use crate::plain::sweep::Sweeper;
 use crate::plain::trace::Tracer;
 use crate::plain::{maps, views};
 use std::hint::black_box;
@@ -21,6 +22,7 @@ pub const LONGEST_LISTING: usize = 1 << 23;
 pub enum Row {
     Decode,
     Run,
+    Sweep,
     Mask,
     TargetMarks,
     /// At some positions: ours looks through the whole image for damage at each call.
@@ -39,9 +41,10 @@ pub enum Row {
     MapFirstData,
 }
 
-pub const ROWS: [(Row, &str); 13] = [
+pub const ROWS: [(Row, &str); 14] = [
     (Row::Decode, "decode at every position"),
     (Row::Run, "run"),
+    (Row::Sweep, "sweep"),
     (Row::Mask, "mask"),
     (Row::TargetMarks, "target marks"),
     (Row::SomeOverlaps, "overlaps at 64 positions"),
@@ -64,6 +67,7 @@ pub fn sides(row: Row) -> Sides<'static, Case> {
     match row {
         Row::Decode => decoding(),
         Row::Run => running(),
+        Row::Sweep => sweeping(),
         Row::Mask => masking(),
         Row::TargetMarks => marking(),
         Row::SomeOverlaps => overlapping(),
@@ -126,6 +130,36 @@ pub fn running_alone() -> Sides<'static, Vec<u8>> {
         None,
         Some(Box::new(move |image| {
             black_box(tracer.run(image, &[0], image.len()));
+        })),
+    ]
+}
+
+/// The original does not sweep.
+fn sweeping() -> Sides<'static, Case> {
+    let mut marks = vec![0; 65_536];
+    let mut sweeper = Sweeper::default();
+    [
+        Some(Box::new(move |case| {
+            black_box(ours::sweep(&case.image, &mut marks, &case.entries));
+        })),
+        None,
+        Some(Box::new(move |case| {
+            black_box(sweeper.sweep(&case.image, &case.entries));
+        })),
+    ]
+}
+
+/// From entry 0.
+pub fn sweeping_alone() -> Sides<'static, Vec<u8>> {
+    let mut marks = vec![0; 65_536];
+    let mut sweeper = Sweeper::default();
+    [
+        Some(Box::new(move |image| {
+            black_box(ours::sweep(image, &mut marks, &[0]));
+        })),
+        None,
+        Some(Box::new(move |image| {
+            black_box(sweeper.sweep(image, &[0]));
         })),
     ]
 }

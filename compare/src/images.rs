@@ -52,6 +52,25 @@ pub fn image(kind: Kind, length: usize, random: &mut Random) -> Vec<u8> {
     image
 }
 
+/// Every image of some length over an alphabet.
+pub fn strings(alphabet: &[u8], length: u32) -> impl Iterator<Item = Vec<u8>> {
+    let count = alphabet.len();
+    (0..count.pow(length)).map(move |number| {
+        let mut rest = number;
+        let mut digit = || {
+            let letter = alphabet[rest % count];
+            rest /= count;
+            letter
+        };
+        (0..length).map(|_| digit()).collect()
+    })
+}
+
+/// Whether the bytes of the exception stand anywhere in it.
+pub fn has_flash(image: &[u8]) -> bool {
+    image.windows(3).any(|bytes| bytes == [0xB8, 0x0D, 0x21])
+}
+
 /// A short branch of any form, or something else.
 fn branch(image: &mut Vec<u8>, random: &mut Random) {
     let first = random.pick(&[

@@ -16,6 +16,7 @@ mod resolve;
 mod room;
 mod run;
 mod steps;
+mod sweeps;
 mod tally;
 mod targets;
 mod texts;
@@ -50,6 +51,7 @@ fn main() -> ExitCode {
     back::compare(&mut tally, &mut random);
     maps::compare(&mut tally, &mut random);
     list_text::compare(&mut tally, &mut random);
+    sweeps::compare(&mut tally, &mut random);
     match tally.report() {
         true => ExitCode::SUCCESS,
         false => ExitCode::FAILURE,

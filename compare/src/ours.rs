@@ -45,6 +45,15 @@ unsafe extern "C" {
         limit: u32,
         answer: *mut [i64; 5],
     ) -> u32;
+    fn pw_sweep(
+        image: *const u8,
+        image_length: usize,
+        marks: *mut u8,
+        marks_length: usize,
+        entries: *const u32,
+        entries_length: usize,
+        answer: *mut [i64; 5],
+    ) -> u32;
     fn pw_mask(
         image: *const u8,
         image_length: usize,
@@ -212,6 +221,12 @@ pub fn run(
             values,
         )
     })
+}
+
+pub fn sweep(image: &[u8], marks: &mut [u8], entries: &[u32]) -> Answer {
+    let (at, n) = (marks.as_mut_ptr(), marks.len());
+    let (list, count) = (entries.as_ptr(), entries.len());
+    answered(|values| unsafe { pw_sweep(image.as_ptr(), image.len(), at, n, list, count, values) })
 }
 
 pub fn mask(image: &[u8], marks: &[u8], room: &mut [u8]) -> Answer {

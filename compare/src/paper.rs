@@ -8,6 +8,7 @@ pub mod flow;
 pub mod input;
 pub mod listing;
 pub mod map;
+pub mod sweep;
 pub mod tracer;
 pub mod views;
 

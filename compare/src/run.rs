@@ -3,6 +3,7 @@
 
 use crate::lent::Lent;
 use crate::ours;
+use crate::sweeps;
 use crate::tally::{Call, Judge, Tally};
 use crate::views;
 use compare::answer::Answer;
@@ -58,6 +59,7 @@ pub fn one(tally: &mut Tally, random: &mut Random, image: &[u8], entries: &[u32]
     expected.seen = seen;
     count(tally, image, &expected);
     judge(tally, &given, &expected, &ours);
+    sweeps::of_trace(tally, random, image, entries, told.as_ref());
     if let Some(graph) = told.and_then(|told| told.graph) {
         views::of_trace(tally, random, image, entries, &graph);
     }
@@ -74,7 +76,7 @@ fn judge(tally: &mut Tally, given: &Given, expected: &Outcome, ours: &Outcome) {
 }
 
 /// The length of what is lent: mostly enough, and more as often.
-fn lent(random: &mut Random, image: &[u8]) -> usize {
+pub fn lent(random: &mut Random, image: &[u8]) -> usize {
     match random.below(64) {
         0 => image.len().saturating_sub(1 + random.below(3) as usize),
         1..32 => image.len(),

@@ -138,8 +138,7 @@ fn walk(tally: &mut Tally, random: &mut Random) {
     }
     let mut marks = vec![0xFF; length];
     ours::start(&image, &mut marks, &entries);
-    let clean = !image.windows(3).any(|bytes| bytes == [0xB8, 0x0D, 0x21]);
-    if clean {
+    if !images::has_flash(&image) {
         while let Some(position) = any_waiting(&marks, random) {
             ours::step(&image, &mut marks, position);
         }

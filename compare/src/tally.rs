@@ -12,6 +12,9 @@ pub enum Call {
     Start,
     Step,
     Run,
+    Sweep,
+    /// What our run says of our sweeps, where no B8 0D 21 stands.
+    SweepAsRun,
     Mask,
     TargetMarks,
     Overlaps,
@@ -29,7 +32,7 @@ pub enum Call {
     MapUpdate,
 }
 
-const CALLS: [(Call, &str); 21] = [
+const CALLS: [(Call, &str); 23] = [
     (Call::Decode, "decode"),
     (Call::Encode, "encode"),
     (Call::Resolve, "resolve"),
@@ -37,6 +40,8 @@ const CALLS: [(Call, &str); 21] = [
     (Call::Start, "start"),
     (Call::Step, "step"),
     (Call::Run, "run"),
+    (Call::Sweep, "sweep"),
+    (Call::SweepAsRun, "sweep as run"),
     (Call::Mask, "mask"),
     (Call::TargetMarks, "target marks"),
     (Call::Overlaps, "overlaps"),
@@ -57,6 +62,7 @@ impl Call {
     /// The document that defines it.
     fn document(self) -> &'static str {
         match self {
+            Call::Sweep | Call::SweepAsRun => "document 02",
             Call::ReadBack | Call::MapBuild | Call::MapTest | Call::MapCount => "document 02",
             Call::MapFirstData | Call::MapUpdate => "document 02",
             _ => "document 01",
@@ -101,6 +107,22 @@ pub struct Traces {
     pub capped: u64,
 }
 
+/// What the sweeps came to.
+#[derive(Default)]
+pub struct Sweeps {
+    /// That found nothing to take, that took all at once, and that turned back.
+    pub none: u64,
+    pub one: u64,
+    pub more: u64,
+    /// The most sweeps that one image took.
+    pub most: i64,
+    /// With a position left waiting.
+    pub waiting: u64,
+    /// Of images with B8 0D 21, and those of them with other marks than a run leaves that is not cut off.
+    pub flashing: u64,
+    pub other: u64,
+}
+
 /// The lines of the listings, by their letters.
 #[derive(Default)]
 struct Listings {
@@ -133,6 +155,7 @@ pub struct Tally {
     by_number: [[Counts; NUMBERS]; CALLS.len()],
     by_form: [[Counts; CALLS.len()]; FORMS],
     pub traces: Traces,
+    pub sweeps: Sweeps,
     taken: [u64; FORMS],
     listed: [u64; FORMS],
     listings: Listings,
@@ -147,6 +170,7 @@ impl Tally {
             by_number: [[Counts::default(); NUMBERS]; CALLS.len()],
             by_form: [[Counts::default(); CALLS.len()]; FORMS],
             traces: Traces::default(),
+            sweeps: Sweeps::default(),
             taken: [0; FORMS],
             listed: [0; FORMS],
             listings: Listings::default(),
@@ -216,6 +240,12 @@ impl Tally {
         self.all.differ += 1;
     }
 
+    /// Notes that the plain engine does not sweep as often as an image was made for.
+    pub fn sweeps_differ(&mut self, what: impl FnOnce() -> String) {
+        self.show(|| format!("the plain sweeps against the image's plan: {}", what()));
+        self.all.differ += 1;
+    }
+
     fn show(&self, text: impl FnOnce() -> String) {
         if self.all.differ < SHOWN {
             println!("differ: {}", text());
@@ -227,6 +257,7 @@ impl Tally {
         self.report_forms();
         self.report_numbers();
         self.traces.report();
+        self.sweeps.report();
         self.listings.report();
         self.backs.report();
         self.texts.report();
@@ -285,6 +316,24 @@ impl Traces {
         let (unfollowed, followed, capped) = (self.unfollowed, self.followed, self.capped);
         println!("runs with a Jmpf after B8 0D: not followed {unfollowed}, followed {followed}");
         println!("runs given up in the original (document 01 judges): {capped}");
+    }
+}
+
+impl Sweeps {
+    fn report(&self) {
+        let Sweeps {
+            none,
+            one,
+            more,
+            most,
+            waiting,
+            flashing,
+            other,
+        } = self;
+        println!(
+            "sweeps: that took nothing {none}, all at once {one}, in several {more}, the most for one image {most}; with a position left waiting {waiting}"
+        );
+        println!("sweeps with B8 0D 21: {flashing}, with other marks than a run {other}");
     }
 }
 

@@ -49,15 +49,8 @@ impl Traces<'_> {
         }
     }
 
-    /// Every image of some length over an alphabet.
     fn every_string(&mut self, alphabet: &[u8], length: u32, lists: &[&[u32]]) {
-        for number in 0..alphabet.len().pow(length) {
-            let mut rest = number;
-            let mut image = vec![];
-            for _ in 0..length {
-                image.push(alphabet[rest % alphabet.len()]);
-                rest /= alphabet.len();
-            }
+        for image in images::strings(alphabet, length) {
             self.each(&image, lists);
         }
     }

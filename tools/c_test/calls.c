@@ -11,7 +11,7 @@
 #define VIEW (SIZES | BIT(PW_DAMAGED) | BIT(PW_NO_ROOM))
 #define QUERY (BIT(PW_LONG_IMAGE) | BIT(PW_NO_ROOM) | BIT(PW_OUTSIDE))
 
-/* Every call with its refusals: each must be seen, and an answer that is none. */
+/* Every call that has an answer, with its refusals: each must be seen, and an answer that is none. */
 static struct {
     const char *name;
     uint32_t refusals;
@@ -24,6 +24,7 @@ static struct {
     {"pw_start", SIZES, 0},
     {"pw_step", SIZES | BIT(PW_NOT_WAITING) | BIT(PW_DAMAGED) | BIT(PW_CUT_OFF), 0},
     {"pw_run", SIZES | BIT(PW_SHORT_ORDER) | BIT(PW_CUT_OFF), 0},
+    {"pw_sweep", SIZES, 0},
     {"pw_mask", VIEW, 0},
     {"pw_target_marks", VIEW, 0},
     {"pw_overlaps", VIEW, 0},

@@ -8,6 +8,7 @@ int main(void)
 {
     void (*const parts[])(void) = {codec, tracing, viewing, listed, mapped};
 
+    HOLDS(pw_version() == PW_VERSION);
     for (size_t index = 0; index < sizeof parts / sizeof parts[0]; index++) {
         parts[index]();
         give_back();

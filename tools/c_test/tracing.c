@@ -1,4 +1,4 @@
-/* Tracing: start, step, run. */
+/* Tracing: start, step, run, sweep. */
 #include "check.h"
 #include "parts.h"
 #include "samples.h"
@@ -92,6 +92,48 @@ static void running_over_flash(void)
     LEFT(order, uint32_t, 2, 0, 9, 9, 9);
 }
 
+/* A br ahead, which the same sweep meets, then one back, which the next does; the third sweep takes none. */
+static void sweeping(void)
+{
+    uint8_t *image = BYTES(0x01, 0x03, 0x64, 0x80, 0x02, 0x01, 0xFB, 0xA0);
+    uint8_t *marks = BYTES(9, 9, 9, 9, 9, 9, 9, 9, 9);
+    uint32_t *entries = LIST(uint32_t, 0, 0, 8, UINT32_MAX);
+
+    ANSWERS(PW_DONE, pw_sweep(image, 8, marks, 9, entries, 4, answer), 3, 5);
+    LEFT(marks, uint8_t, 2, 0, 2, 2, 0, 2, 0, 2, 9);
+    ANSWERS(PW_DONE, pw_sweep(image, 8, marks, 8, NONE(uint32_t), 0, answer), 1, 0);
+    LEFT(marks, uint8_t, 0, 0, 0, 0, 0, 0, 0, 0, 9);
+    ANSWERS(PW_DONE, pw_sweep(NONE(uint8_t), 0, marks, 9, entries, 4, answer), 1, 0);
+    ANSWERS(PW_LONG_IMAGE, pw_sweep(too_long, TOO_LONG, marks, 9, entries, 4, answer), TOO_LONG);
+    ANSWERS(PW_SHORT_MARKS, pw_sweep(image, 8, marks, 7, entries, 4, answer), 7);
+    LEFT(marks, uint8_t, 0, 0, 0, 0, 0, 0, 0, 0, 9);
+}
+
+/* What is cut off is left waiting, and the rest is traced. */
+static void sweeping_into_the_end(void)
+{
+    uint8_t *marks = BYTES(9, 9, 9, 9);
+    uint32_t *entries = LIST(uint32_t, 3, 0);
+
+    ANSWERS(PW_DONE, pw_sweep(BYTES(0x00, 0x80, 0x00, 0x68), 4, marks, 4, entries, 2, answer), 2, 2);
+    LEFT(marks, uint8_t, 2, 2, 0, PW_WAITING);
+}
+
+/* Upward, whatever the order of the entries: from 2, 0 a run takes up 2 first, and a sweep 0. */
+static void sweeping_over_flash(void)
+{
+    uint8_t *marks = BYTES(9, 9, 9, 9, 9);
+    uint32_t *order = LIST(uint32_t, 9, 9, 9, 9, 9);
+    uint32_t *entries = LIST(uint32_t, 2, 0);
+
+    ANSWERS(PW_DONE, pw_run(FLASH, 5, marks, 5, order, 5, entries, 2, 5, answer), PW_FINISHED, 2, 2);
+    LEFT(marks, uint8_t, 2, 0, PW_TRACED, 0, 0);
+    ANSWERS(PW_DONE, pw_sweep(FLASH, 5, marks, 5, entries, 2, answer), 2, 2);
+    LEFT(marks, uint8_t, 2, 0, PW_FLASH, 0, 0);
+    ANSWERS(PW_DONE, pw_sweep(FLASH, 5, marks, 5, entries, 1, answer), 3, 2);
+    LEFT(marks, uint8_t, 2, 0, PW_TRACED, 0, 0);
+}
+
 void tracing(void)
 {
     starting();
@@ -100,4 +142,7 @@ void tracing(void)
     running();
     running_into_the_end();
     running_over_flash();
+    sweeping();
+    sweeping_into_the_end();
+    sweeping_over_flash();
 }

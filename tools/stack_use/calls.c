@@ -14,6 +14,7 @@ static uint64_t words[PW_IMAGE_LIMIT / PW_WORD_BITS];
 /* Each first byte with operands at their highest, and past them. */
 #define EACH_FIRST for (int first = 0; first < 256; first++)
 
+static void version(void) { pw_version(); }
 static void decode(void)
 {
     EACH_FIRST {
@@ -57,6 +58,7 @@ static void run(void)
 {
     pw_run(IMAGE, marks, PW_IMAGE_LIMIT, places, PW_IMAGE_LIMIT, input.entries, input.count, PW_IMAGE_LIMIT, answer);
 }
+static void sweep(void) { pw_sweep(IMAGE, marks, PW_IMAGE_LIMIT, input.entries, input.count, answer); }
 static void mask(void) { pw_mask(IMAGE, MARKS, bytes, TEXT_ROOM, answer); }
 static void target_marks(void) { pw_target_marks(IMAGE, MARKS, bytes, TEXT_ROOM, answer); }
 static void overlaps(void) { pw_overlaps(IMAGE, MARKS, input.position, places, PW_MOST_OVERLAPS, answer); }
@@ -81,6 +83,7 @@ static void map_update(void) { pw_map_update(IMAGE, MARKS, words, PW_IMAGE_LIMIT
 
 /* A call is made after those above it: a step after a start, a query after a build. */
 const struct call calls[] = {
+    {"pw_version", version},
     {"pw_decode", decode},
     {"pw_encode", encode},
     {"pw_resolve", resolve},
@@ -88,6 +91,7 @@ const struct call calls[] = {
     {"pw_start", start},
     {"pw_step", step},
     {"pw_run", run},
+    {"pw_sweep", sweep},
     {"pw_mask", mask},
     {"pw_target_marks", target_marks},
     {"pw_overlaps", overlaps},

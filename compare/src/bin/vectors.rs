@@ -1,4 +1,5 @@
-//! Prints answers of the original, one case a line, for a program of the repository to replay.
+//! Prints answers of the original, and of the plain engine that sweeps, one case a line, for a program of the repository
+//! to replay.
 //!
 //! A line is a letter for the call and eleven fields: five inputs, the number of the answer and its
 //! five values. A field is a space, a sign and ten hexadecimal digits, so all lines are of one length.
@@ -12,17 +13,24 @@
 //! - `G`: a whole trace of an image of up to ten bytes: its length, two numbers of five bytes (0 past its
 //!   length), two entries. The values are three of the run's, then the order list and the marks, of ten
 //!   each, as hexadecimal digits; before, the list is all 15 and the marks are all 9.
+//! - `W`: sweeps, given and told as a whole trace is. The values are the sweeps, the steps, 0, the order list, which is
+//!   lent to no sweep and stays, and the marks.
 //!
 //! The cases are those that the original answers: no register out of range, no field that encode is to
 //! refuse, no room too short, no base above 65,536, no target below 0. Of a trace it tells how it ends,
-//! the first visits and the traced set; what was noted and not taken up is document 01's.
+//! the first visits and the traced set; what was noted and not taken up is document 01's. It does not sweep: that is
+//! document 02's, by the plain engine, and what it traced is compared where no B8 0D 21 stands.
 
 #[path = "vectors/decoded.rs"]
 mod decoded;
 #[path = "vectors/encoded.rs"]
 mod encoded;
+#[path = "vectors/packed.rs"]
+mod packed;
 #[path = "vectors/resolved.rs"]
 mod resolved;
+#[path = "vectors/swept.rs"]
+mod swept;
 #[path = "vectors/targeted.rs"]
 mod targeted;
 #[path = "vectors/traced.rs"]
@@ -64,7 +72,8 @@ fn main() {
     resolved::cases(&mut lines);
     targeted::cases(&mut lines);
     traced::cases(&mut lines);
+    swept::cases(&mut lines);
     print!("{}", lines.text);
     let count = lines.seen.len();
-    eprintln!("{count} answers of the original, made by 'compare/run --vectors SRC'");
+    eprintln!("{count} answers, made by 'compare/run --vectors SRC'");
 }

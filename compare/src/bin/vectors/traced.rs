@@ -2,20 +2,12 @@
 //! a trace can go, and some by chance.
 
 use crate::Lines;
-use compare::answer::Answer;
+use crate::packed::{self, LONGEST, OLD_MARK, OLD_PLACE};
 use compare::images::{self, KINDS};
 use compare::original::traced;
 use compare::paper::tracer;
 use compare::random::Random;
 use compare::seen::Seen;
-
-/// The longest image, and the lengths of the lent marks and order list.
-const LONGEST: usize = 10;
-/// Two entries are always given; those past the list lie outside of every image.
-const OUTSIDE: u32 = u32::MAX;
-/// What stands in the lent memory before.
-const OLD_MARK: u8 = 9;
-const OLD_PLACE: u32 = 15;
 
 const NO_LIMIT: u32 = u32::MAX;
 /// More visits than any image here costs the original.
@@ -81,31 +73,13 @@ pub fn cases(lines: &mut Lines) {
 
 /// What was noted and not taken up is document 01's; all that the original tells must be as there.
 fn one(lines: &mut Lines, image: &[u8], listed: &[u32]) {
-    let entries = [0, 1].map(|at| listed.get(at).copied().unwrap_or(OUTSIDE));
+    let entries = packed::entries(listed);
     let (mut marks, mut order) = ([OLD_MARK; LONGEST], [OLD_PLACE; LONGEST]);
     let answer = tracer::run(image, &mut marks, &mut order, &entries, NO_LIMIT);
     let told = traced::trace(&entries, image, ENOUGH).expect("few visits are enough");
     let known = told.unfollowed.is_some();
     let seen = Seen::of(&answer, &marks[..image.len()], &order, known);
     assert_eq!(seen, told.under(NO_LIMIT), "{image:02X?} {entries:?}");
-    let [a, b, c, ..] = answer.values;
-    let places = packed(order.iter().map(|place| i64::from(*place)), 16);
-    let values = packed(marks.iter().map(|mark| i64::from(*mark)), 16);
-    let left = Answer::new(answer.number, &[a, b, c, places, values]);
-    lines.case('G', given(image, entries), left);
-}
-
-fn given(image: &[u8], entries: [u32; 2]) -> [i64; 5] {
-    let byte = |at: usize| i64::from(image.get(at).copied().unwrap_or(0));
-    let (first, second) = (
-        packed((0..5).map(byte), 256),
-        packed((5..10).map(byte), 256),
-    );
-    let [a, b] = entries.map(i64::from);
-    [image.len() as i64, first, second, a, b]
-}
-
-/// The numbers as the digits of one, the first the highest.
-fn packed(digits: impl Iterator<Item = i64>, base: i64) -> i64 {
-    digits.fold(0, |number, digit| number * base + digit)
+    let left = packed::left(&answer, &order, &marks);
+    lines.case('G', packed::given(image, entries), left);
 }

@@ -1,0 +1,258 @@
+//! The engine that sweeps. The original has none: a plain one by document 02 judges. Where no B8 0D 21 stands in the
+//! image, so do what the original traced and what our own run leaves: the marks of a trace that finishes are the same,
+//! and a position is left waiting exactly where it is cut off.
+
+mod planned;
+
+use crate::lent::Lent;
+use crate::ours;
+use crate::run;
+use crate::steps;
+use crate::tally::{Call, Judge, Tally};
+use compare::answer::Answer;
+use compare::images::{self, Kind};
+use compare::original::traced::Told;
+use compare::paper::sweep as paper;
+use compare::random::Random;
+
+/// Numbers of their own, so that the other comparisons are the same with this one and without.
+const OWN: u64 = 0x5EED_50E3;
+/// Of the traced images up to a length, one of so many is swept.
+const SOME: [(usize, u64); 3] = [(40, 12), (300, 4), (70_000, 1)];
+/// What may stand around B8 0D 21: its own bytes, a Br and a Bz, which F9 leads back, and what ends or goes on.
+const AROUND: [u8; 8] = [0xB8, 0x0D, 0x21, 0x00, 0x01, 0x80, 0xF9, 0xA0];
+/// Images by chance that are rich in B8 0D 21.
+const FLASHING: u64 = 40_000;
+/// Images whose sweeps are counted beforehand.
+const PLANNED: u64 = 6_000;
+const WAITING: u8 = 1;
+const TRACED: u8 = 2;
+
+/// Images and entries with nothing to sweep, nothing to take, or something cut off.
+const EDGES: [&[u8]; 7] = [
+    &[],
+    &[0x00],
+    &[0xA0],
+    &[0x68],
+    &[0x01, 0xFE],
+    &[0x01, 0x7F],
+    &[0x00, 0x80, 0x00, 0x68],
+];
+const EDGE_ENTRIES: [&[u32]; 9] = [
+    &[],
+    &[0],
+    &[1],
+    &[0, 0],
+    &[3, 0],
+    &[4],
+    &[65_535],
+    &[65_536],
+    &[u32::MAX],
+];
+
+/// What an engine is given.
+struct Given<'a> {
+    image: &'a [u8],
+    entries: &'a [u32],
+    marks: Lent<u8>,
+}
+
+/// What an engine answers and leaves.
+#[derive(PartialEq, Debug)]
+struct Outcome(Answer, Lent<u8>);
+
+/// What a run says of sweeps: whether a position is left waiting, and where it finished, the steps and the marks.
+#[derive(PartialEq, Debug)]
+struct AsRun {
+    waiting: bool,
+    finished: Option<(i64, Lent<u8>)>,
+}
+
+/// A function that sweeps, ours or the plain one.
+type Sweep = fn(&[u8], &mut [u8], &[u32]) -> Answer;
+
+/// An image whose run is compared too.
+pub fn of_trace(
+    tally: &mut Tally,
+    random: &Random,
+    image: &[u8],
+    entries: &[u32],
+    told: Option<&Told>,
+) {
+    let mut random = Random(random.0 ^ OWN);
+    let of_length = SOME.iter().find(|(most, _)| image.len() <= *most);
+    let (_, of) = *of_length.expect("an image that was traced");
+    if random.below(of) == 0 {
+        Given::new(&mut random, image, entries).compare(tally, told);
+    }
+}
+
+pub fn compare(tally: &mut Tally, random: &mut Random) {
+    for image in EDGES {
+        for entries in EDGE_ENTRIES {
+            for _ in 0..16 {
+                Given::new(random, image, entries).compare(tally, None);
+            }
+        }
+    }
+    lengths(tally, random);
+    around(tally, random);
+    for _ in 0..FLASHING {
+        let length = random.below(64) as usize;
+        let image = images::image(Kind::Flashing, length, random);
+        let entries = images::entries(length, random);
+        Given::new(random, &image, &entries).compare(tally, None);
+    }
+    for turn in 0..PLANNED {
+        planned(tally, random, turn);
+    }
+}
+
+/// Refusals 1 and 2, and both at once, on both sides of each limit.
+fn lengths(tally: &mut Tally, random: &mut Random) {
+    for length in [0, 1, 2, 300, 65_535, 65_536, 65_537, 65_540] {
+        let image = &images::image(Kind::Uniform, length, random);
+        for lent in [0, 1, length.saturating_sub(1), length, length + 1, 65_537] {
+            let entries = &images::entries(length, random);
+            let marks = Lent::filled(lent, random, |mixed| mixed as u8);
+            let given = Given {
+                image,
+                entries,
+                marks,
+            };
+            given.compare(tally, None);
+        }
+    }
+}
+
+/// B8 0D 21 to each position of ten bytes, with every four bytes around it.
+fn around(tally: &mut Tally, random: &mut Random) {
+    for bytes in images::strings(&AROUND, 4) {
+        let [a, b, c, d] = bytes[..] else {
+            unreachable!("strings of four");
+        };
+        for to in 0..10 {
+            let image = [a, b, 0xB8, 0x0D, 0x21, 0x00, to, c, d, 0xA0];
+            for entries in [&[0][..], &[4], &[7, 4], &[4, 2]] {
+                Given::new(random, &image, entries).compare(tally, None);
+            }
+        }
+    }
+}
+
+/// An image of which it is known how often it is swept.
+fn planned(tally: &mut Tally, random: &mut Random, turn: u64) {
+    let (image, entry, sweeps) = planned::image(random, turn);
+    let entries = [entry];
+    let given = Given::new(random, &image, &entries);
+    let answer = given.compare(tally, None);
+    if answer.done() && answer.values[0] != sweeps {
+        tally.sweeps_differ(|| format!("{sweeps} of {}", given.shown()));
+    }
+}
+
+impl<'a> Given<'a> {
+    fn new(random: &mut Random, image: &'a [u8], entries: &'a [u32]) -> Given<'a> {
+        let marks = Lent::filled(run::lent(random, image), random, |mixed| mixed as u8);
+        Given {
+            image,
+            entries,
+            marks,
+        }
+    }
+
+    /// Ours with the plain engine, with what the original traced, if it was asked, and with our run: what is to be
+    /// answered.
+    fn compare(&self, tally: &mut Tally, told: Option<&Told>) -> Answer {
+        let (expected, ours) = (self.swept(paper::sweep), self.swept(ours::sweep));
+        let answer = expected.0;
+        let told = told.filter(|_| answer.done() && !images::has_flash(self.image));
+        if told.is_some_and(|told| !agrees(told, self.marks_of(&expected))) {
+            tally.table_differs(|| self.shown());
+        }
+        let judge = match told.map(|told| told.cut_off) {
+            Some(None) => Judge::Original,
+            _ => Judge::Document,
+        };
+        let what = (Call::Sweep, judge);
+        tally.judge(what, None, (answer.number, &expected), &ours, || {
+            self.shown()
+        });
+        if answer.done() {
+            self.count(tally, &expected);
+            self.compare_with_run(tally, &ours);
+        }
+        answer
+    }
+
+    fn swept(&self, sweep: Sweep) -> Outcome {
+        let mut marks = self.marks.clone();
+        Outcome(sweep(self.image, marks.lend(), self.entries), marks)
+    }
+
+    /// The marks of the image's own positions.
+    fn marks_of<'b>(&self, outcome: &'b Outcome) -> &'b [u8] {
+        &outcome.1.part()[..self.image.len()]
+    }
+
+    fn is_waiting(&self, outcome: &Outcome) -> bool {
+        self.marks_of(outcome).contains(&WAITING)
+    }
+
+    fn count(&self, tally: &mut Tally, expected: &Outcome) {
+        let sweeps = expected.0.values[0];
+        let counts = &mut tally.sweeps;
+        match sweeps {
+            1 => counts.none += 1,
+            2 => counts.one += 1,
+            _ => counts.more += 1,
+        }
+        counts.most = counts.most.max(sweeps);
+        counts.waiting += u64::from(self.is_waiting(expected));
+    }
+
+    /// Our run from the same entries over the same lent marks. Where B8 0D 21 stands, it may leave others.
+    fn compare_with_run(&self, tally: &mut Tally, swept: &Outcome) {
+        let (mut marks, mut order) = (self.marks.clone(), vec![0; self.image.len()]);
+        let limit = self.image.len() as u32;
+        let answer = ours::run(self.image, marks.lend(), &mut order, self.entries, limit);
+        let finished = answer.done();
+        if images::has_flash(self.image) {
+            tally.sweeps.flashing += 1;
+            tally.sweeps.other += u64::from(finished && marks != swept.1);
+            return;
+        }
+        let expected = AsRun {
+            waiting: answer.number == Answer::CUT_OFF,
+            finished: finished.then_some((answer.values[1], marks)),
+        };
+        let ours = AsRun {
+            waiting: self.is_waiting(swept),
+            finished: finished.then(|| (swept.0.values[1], swept.1.clone())),
+        };
+        let what = (Call::SweepAsRun, Judge::Document);
+        tally.judge(what, None, (answer.number, &expected), &ours, || {
+            self.shown()
+        });
+    }
+
+    fn shown(&self) -> String {
+        format!(
+            "sweeps of {} entries {:?}",
+            steps::shown(self.image),
+            self.entries
+        )
+    }
+}
+
+/// Whether marks say what the original traced.
+fn agrees(told: &Told, marks: &[u8]) -> bool {
+    if told.cut_off.is_some() {
+        return marks.contains(&WAITING);
+    }
+    let mut expected = vec![0; marks.len()];
+    told.taken
+        .iter()
+        .for_each(|at| expected[*at as usize] = TRACED);
+    marks == expected
+}
