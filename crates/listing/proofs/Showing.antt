@@ -8,6 +8,7 @@ use Prim.Native.Char.{code}
 use native.Mathlib.Omega.{arith}
 use borrow.Author.Tests.{lt-ltb, le-ltb}
 use lib.Dec.{ltb}
+use lib.IntN.{natAbs}
 use lib.ListN.{length, length-append}
 use Rattle.instruction.specs.Kinds.{kindsOf, threeOf}
 use Rattle.instruction.specs.declared.kind.Kind.{Kind}
@@ -19,7 +20,6 @@ use Rattle.instruction.specs.Encode.{formIn}
 use Rattle.instruction.specs.Parts.{partsOf}
 use Rattle.instruction.specs.declared.instr.Instr.{Instr}
 use Rattle.instruction.specs.declared.instr.Parts.{Parts}
-use Rattle.targets.specs.At.{placeOf}
 use Rattle.instruction.specs.Kinds.{isGiven}
 use Rattle.listing.specs.Hex.{hex1, hex2, hex3, hex4}
 use Rattle.listing.specs.Line.{fieldsText}
@@ -127,13 +127,13 @@ by-shape t ImmR8 a b c = refl
 by-shape t RiImmR8 a b c = refl
 
 module _ (t : ℕ) (i : Instr) (v : Parts) (k : Kinds) where
-  pub is-operands : v ≡ partsOf i → k ≡ threeOf (formIn i .shape) → (a b c : ℕ) → a ≡ placeOf (v .a) → b ≡ placeOf (v .b) → c ≡ placeOf (v .c) → three t k a b c ≡ fieldsText (operandsBy t i)
+  pub is-operands : v ≡ partsOf i → k ≡ threeOf (formIn i .shape) → (a b c : ℕ) → a ≡ natAbs (v .a) → b ≡ natAbs (v .b) → c ≡ natAbs (v .c) → three t k a b c ≡ fieldsText (operandsBy t i)
   unfolding operandsBy
   is-operands e f a b c x y z =
-      let g : three t k a b c ≡ three t k (placeOf (v .a)) (placeOf (v .b)) (placeOf (v .c)) = rw (x, y, z) in
+      let g : three t k a b c ≡ three t k (natAbs (v .a)) (natAbs (v .b)) (natAbs (v .c)) = rw (x, y, z) in
       g
-      ∙ ap₂ (λ (w : Parts) (j : Kinds). three t j (placeOf (w .a)) (placeOf (w .b)) (placeOf (w .c))) e f
-      ∙ by-shape t (formIn i .shape) (placeOf (partsOf i .a)) (placeOf (partsOf i .b)) (placeOf (partsOf i .c))
+      ∙ ap₂ (λ (w : Parts) (j : Kinds). three t j (natAbs (w .a)) (natAbs (w .b)) (natAbs (w .c))) e f
+      ∙ by-shape t (formIn i .shape) (natAbs (partsOf i .a)) (natAbs (partsOf i .b)) (natAbs (partsOf i .c))
 
 three-length : (t : ℕ) (k : Kinds) (a b c : ℕ) → length (three t k a b c) ≤ 16
 three-length t k a b c =
@@ -144,4 +144,4 @@ pub operands-length : (t : ℕ) (i : Instr) → length (fieldsText (operandsBy t
 operands-length t i =
     let v = partsOf i in
     let k = threeOf (formIn i .shape) in
-    omega (arith, ap length (is-operands t i v k refl refl (placeOf (v .a)) (placeOf (v .b)) (placeOf (v .c)) refl refl refl), three-length t k (placeOf (v .a)) (placeOf (v .b)) (placeOf (v .c)))
+    omega (arith, ap length (is-operands t i v k refl refl (natAbs (v .a)) (natAbs (v .b)) (natAbs (v .c)) refl refl refl), three-length t k (natAbs (v .a)) (natAbs (v .b)) (natAbs (v .c)))

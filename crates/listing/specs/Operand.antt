@@ -6,7 +6,7 @@ use Prim.Native.Char.{code}
 use mathlib.Core.Bool.{cond}
 use mathlib.Core.List.{List, [], _∷_}
 use lib.Dec.{ltb}
-use lib.IntN.{ℤ}
+use lib.IntN.{ℤ, natAbs}
 use Rattle.instruction.specs.Answer.{Answer, accepted, refused}
 use Rattle.instruction.specs.Kinds.{kindsOf, isGiven}
 use Rattle.instruction.specs.declared.kind.Kind.{Kind}
@@ -40,9 +40,9 @@ shownAll t [] ns = []
 shownAll t (k ∷ ks) [] = []
 shownAll t (k ∷ ks) (n ∷ ns) = shown t k n ∷ shownAll t ks ns
 
--- the numbers of the operands are not below 0, but for offsets, which are not shown
+-- by the operands' numbers, of which those that are shown are not below 0
 unfoldable pub operandsBy : ℕ → Instr → List (List ℕ)
-operandsBy t i = shownAll t (kindsOf (formIn i .shape)) (placeOf (partsOf i .a) ∷ placeOf (partsOf i .b) ∷ placeOf (partsOf i .c) ∷ [])
+operandsBy t i = shownAll t (kindsOf (formIn i .shape)) (natAbs (partsOf i .a) ∷ natAbs (partsOf i .b) ∷ natAbs (partsOf i .c) ∷ [])
 
 -- the position of the first target, which is the one that a jump, a branch or a call names
 abbrev pub firstOf : Answer (List ℤ) → ℕ

@@ -2,6 +2,7 @@
 ghost use mathlib.Core.Path.{_≡_};
 ghost use mathlib.Core.List.{[], _∷_};
 ghost use Prim.Native.Nat.{_^_, _<_};
+ghost use lib.IntN.{natAbs};
 ghost use Rattle.targets.specs.Targets.{targetsOf};
 ghost use Rattle.listing.specs.Hex.{hex1, hex2};
 ghost use Rattle.listing.specs.Line.{fieldsText};
@@ -84,6 +85,16 @@ fn put_field(out: &mut [u8], at: usize, kind: Kind, n: u32, t: u32) -> usize
     put_operand(out, a, kind, n, t)
 }
 
+// An operand's number without its sign; of those that are shown none is below 0.
+fn number(z: i32) -> u32
+    ensures { λ r. ⌜ r ≡ natAbs z ⌝ }
+{
+    if z < 0 {
+        return (-1 - z) as u32 + 1;
+    }
+    z as u32
+}
+
 // The operands in the order shown, and the end of the line.
 pub fn put_operands(out: &mut [u8], at: usize, instr: Instr, t: u32) -> usize
     requires { ⌜ at < 2 ^ 57 ⌝ }
@@ -94,9 +105,9 @@ pub fn put_operands(out: &mut [u8], at: usize, instr: Instr, t: u32) -> usize
     let ka = k.a;
     let kb = k.b;
     let kc = k.c;
-    let na = place::place(v.a);
-    let nb = place::place(v.b);
-    let nc = place::place(v.c);
+    let na = number(v.a);
+    let nb = number(v.b);
+    let nc = number(v.c);
     let a = put_field(out, at, ka, na, t);
     let b = put_field(out, a, kb, nb, t);
     let c = put_field(out, b, kc, nc, t);

@@ -4,7 +4,7 @@ use mathlib.Core.Path.{ap, _∙_}
 use Prim.Native.Nat.{_≤_, _<_, _+_, _^_}
 use native.Mathlib.Omega.{arith}
 use borrow.Author.Needs.{needs}
-use Rattle.targets.specs.At.{placeOf}
+use lib.IntN.{natAbs}
 use Rattle.targets.proofs.ReadBack.{Read}
 use Rattle.text.proofs.Putting.{puts-as, puts-most, puts-then}
 use Rattle.listing.proofs.Showing.{field-length, is-operands}
@@ -30,14 +30,14 @@ kinds j = j .before .before .before .before .before .before .before .before
 one : (j : tie.After-put-field) → j .put-field .result ≤ 2 ^ 57 + 5
 one j =
     let p : start j .args .at < 2 ^ 57 = start j .pre in
-    let h : j .put-field .result ≤ start j .args .at + 5 = puts-most (j .put-field .ensures) (field-length (start j .args .t) (kinds j .kinds .result .a) (j .before .before .before .before .before .before .place .result)) in
+    let h : j .put-field .result ≤ start j .args .at + 5 = puts-most (j .put-field .ensures) (field-length (start j .args .t) (kinds j .kinds .result .a) (j .before .before .before .before .before .before .number .result)) in
     omega arith
 
 two : (k : tie.After-put-field2) → k .put-field2 .result ≤ 2 ^ 57 + 10
 two k =
     let j = k .before .before .before .before in
     let p = one j in
-    let h : k .put-field2 .result ≤ j .put-field .result + 5 = puts-most (k .put-field2 .ensures) (field-length (start j .args .t) (kinds j .kinds .result .b) (j .before .before .before .before .place2 .result)) in
+    let h : k .put-field2 .result ≤ j .put-field .result + 5 = puts-most (k .put-field2 .ensures) (field-length (start j .args .t) (kinds j .kinds .result .b) (j .before .before .before .before .number2 .result)) in
     omega arith
 
 three : (l : tie.After-put-field3) → l .put-field3 .result ≤ 2 ^ 57 + 15
@@ -45,7 +45,7 @@ three l =
     let k = l .before .before .before .before in
     let j = k .before .before .before .before in
     let p = two k in
-    let h : l .put-field3 .result ≤ k .put-field2 .result + 5 = puts-most (l .put-field3 .ensures) (field-length (start j .args .t) (kinds j .kinds .result .c) (j .before .before .place3 .result)) in
+    let h : l .put-field3 .result ≤ k .put-field2 .result + 5 = puts-most (l .put-field3 .ensures) (field-length (start j .args .t) (kinds j .kinds .result .c) (j .before .before .number3 .result)) in
     omega arith
 
 returns : tie.Need-returns
@@ -61,8 +61,8 @@ returns c =
     let v = w .before in
     let a = start j .args in
     puts-as
-    (is-operands (a .t) (a .instr) (v .apart .result) (w .kinds .result) (v .apart .ensures) (w .kinds .ensures) (x .place .result) (y .place2 .result) (z .place3 .result)
-    (x .place .ensures ∙ ap placeOf (read-a w)) (y .place2 .ensures ∙ ap placeOf (read-b w)) (z .place3 .ensures ∙ ap placeOf (read-c w)))
+    (is-operands (a .t) (a .instr) (v .apart .result) (w .kinds .result) (v .apart .ensures) (w .kinds .ensures) (x .number .result) (y .number2 .result) (z .number3 .result)
+    (x .number .ensures ∙ ap natAbs (read-a w)) (y .number2 .ensures ∙ ap natAbs (read-b w)) (z .number3 .ensures ∙ ap natAbs (read-c w)))
     (puts-then (j .put-field .ensures) (puts-then (k .put-field2 .ensures) (puts-then (l .put-field3 .ensures) (n .put-byte .ensures))))
 
 pub put-operands-spec : {M : Type 1} → statement M
