@@ -52,8 +52,8 @@ shown-fits (refused n vs) f g = omega (arith, g n vs refl)
 listed : (image entries out : List ℕ) → length image ≤ 16384 → Bytes image → tracedText image entries ≡ accepted out → length out ≤ 983040
 unfolding tracedText
 listed image entries out h B e =
-    let m = runMarks image lentRoom lentRoom entries (length image) in
-    let a = or-accepted (runAnswer image lentRoom lentRoom entries (length image)) (judge (viewRefusals image m) (listingOf image m Declined)) out e in
+    let m = runMarks image (lentRoom image) (lentRoom image) entries (length image) in
+    let a = or-accepted (runAnswer image (lentRoom image) (lentRoom image) entries (length image)) (judge (viewRefusals image m) (listingOf image m Declined)) out e in
     let f : listingOf image m Declined ≡ out = accepts (viewRefusals image m) (listingOf image m Declined) out (a .1) in
     omega (arith, ap length f, listing-bound image m B)
 

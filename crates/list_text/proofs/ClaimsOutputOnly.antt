@@ -36,7 +36,7 @@ use Rattle.listing.specs.declared.tabbed.Arrivals.the-variants.{Declined}
 use Rattle.list_text.specs.ClaimsOutput.{ListedMissing, OnlyTwo}
 use Rattle.list_text.specs.Output.{lentRoom, tracedText, textListed}
 use Rattle.list_text.proofs.ImageBytes.{image-bytes}
-use Rattle.list_text.proofs.Images.{lent-is, marks-sound}
+use Rattle.list_text.proofs.Images.{marks-sound}
 use Rattle.list_text.proofs.Parts.{or-refused}
 use Rattle.list_text.proofs.Sounding.{judged-on}
 
@@ -52,19 +52,19 @@ run-length image marks entries limit h =
     ∙ length-note (length image) entries (cleared (length image) marks)
     ∙ length-cleared (length image) marks h
 
-lent-length : length lentRoom ≡ 16384
-lent-length = ap length (sym lent-is) ∙ length-replicate {A = ℕ} 16384 0
-
 module _ (image entries : List ℕ) (small : length image ≤ 16384) where
-  judged : runJudged image lentRoom lentRoom ≡ accepted tt
+  lent-length : length (lentRoom image) ≡ length image
+  lent-length = length-replicate (length image) 0
+
+  judged : runJudged image (lentRoom image) (lentRoom image) ≡ accepted tt
   judged =
       let l = lent-length in
-      right-sizes image lentRoom _ tt (omega arith) (omega arith) ∙ pass _ _ _ (le-ltb (length lentRoom) (length image) (omega arith)) ∙ done tt
+      right-sizes image (lentRoom image) _ tt (omega arith) (omega arith) ∙ pass _ _ _ (le-ltb (length (lentRoom image)) (length image) (omega arith)) ∙ done tt
 
-  run-five : (n : ℕ) (vs : List ℤ) → runAnswer image lentRoom lentRoom entries (length image) ≡ refused n vs → n ≡ 5
+  run-five : (n : ℕ) (vs : List ℤ) → runAnswer image (lentRoom image) (lentRoom image) entries (length image) ≡ refused n vs → n ≡ 5
   unfolding runAnswer
   run-five n vs e =
-      let out = outcomeOf image lentRoom entries (length image) in
+      let out = outcomeOf image (lentRoom image) entries (length image) in
       by (out .end) (steps out) (length (noted out)) (ap (λ (q : Answer (Unit {0})). andThen q (ranAnswer image out)) (sym judged) ∙ e)
     where
       by : (d : End) (s k : ℕ) → endOf image d s k ≡ refused n vs → n ≡ 5
@@ -73,25 +73,25 @@ module _ (image entries : List ℕ) (small : length image ≤ 16384) where
       by (cutOff p) s k f = let g : 5 ≡ n = cc in sym g
 
   -- what is refused, the run refused
-  run-refused : (n : ℕ) (vs : List ℤ) → tracedText image entries ≡ refused n vs → runAnswer image lentRoom lentRoom entries (length image) ≡ refused n vs
+  run-refused : (n : ℕ) (vs : List ℤ) → tracedText image entries ≡ refused n vs → runAnswer image (lentRoom image) (lentRoom image) entries (length image) ≡ refused n vs
   unfolding tracedText
-  run-refused n vs e = by (or-refused (runAnswer image lentRoom lentRoom entries (length image)) _ n vs e)
+  run-refused n vs e = by (or-refused (runAnswer image (lentRoom image) (lentRoom image) entries (length image)) _ n vs e)
     where
       m : List ℕ
-      m = runMarks image lentRoom lentRoom entries (length image)
+      m = runMarks image (lentRoom image) (lentRoom image) entries (length image)
 
-      by : (runAnswer image lentRoom lentRoom entries (length image) ≡ refused n vs) ⊎ (((s : RunResult) × (runAnswer image lentRoom lentRoom entries (length image) ≡ accepted s)) × (judge (viewRefusals image m) (listingOf image m Declined) ≡ refused n vs)) → runAnswer image lentRoom lentRoom entries (length image) ≡ refused n vs
+      by : (runAnswer image (lentRoom image) (lentRoom image) entries (length image) ≡ refused n vs) ⊎ (((s : RunResult) × (runAnswer image (lentRoom image) (lentRoom image) entries (length image) ≡ accepted s)) × (judge (viewRefusals image m) (listingOf image m Declined) ≡ refused n vs)) → runAnswer image (lentRoom image) (lentRoom image) entries (length image) ≡ refused n vs
       by (inl r) = r
       by (inr a) =
           let s = a .0 .0 in
-          let f : runAnswer image lentRoom lentRoom entries (length image) ≡ accepted s = a .0 .1 in
-          let l : length m ≡ length lentRoom = ap length (marks-are image lentRoom lentRoom entries (length image) s f) ∙ run-length image lentRoom entries (length image) (let k = lent-length in omega arith) in
+          let f : runAnswer image (lentRoom image) (lentRoom image) entries (length image) ≡ accepted s = a .0 .1 in
+          let l : length m ≡ length (lentRoom image) = ap length (marks-are image (lentRoom image) (lentRoom image) entries (length image) s f) ∙ run-length image (lentRoom image) entries (length image) (let k = lent-length in omega arith) in
           let S : Sound image m = marks-sound image entries small s f l in
           absurd (differ (sym (a .1) ∙ judged-on (viewRefusals image m) S (listingOf image m Declined)))
 
 -- a line refuses with 13, or the lines are good and the run refuses
 abbrev Why : List ℕ → ℕ → List ℤ → Type 0
-Why text n vs = (n ≡ 13) ⊎ ((length (imageOf text) ≤ 16384) × (runAnswer (imageOf text) lentRoom lentRoom (entriesOf text) (length (imageOf text)) ≡ refused n vs))
+Why text n vs = (n ≡ 13) ⊎ ((length (imageOf text) ≤ 16384) × (runAnswer (imageOf text) (lentRoom (imageOf text)) (lentRoom (imageOf text)) (entriesOf text) (length (imageOf text)) ≡ refused n vs))
 
 why : (text : List ℕ) (n : ℕ) (vs : List ℤ) → textListed text ≡ refused n vs → Why text n vs
 unfolding textListed
@@ -122,4 +122,4 @@ listed-missing text vs e = by (why text 5 vs e)
   where
     by : Why text 5 vs → OneOrTwo vs
     by (inl f) = absurd (omega (arith, f))
-    by (inr r) = run-missing (imageOf text) lentRoom lentRoom (entriesOf text) (length (imageOf text)) vs (image-bytes text) (r .1)
+    by (inr r) = run-missing (imageOf text) (lentRoom (imageOf text)) (lentRoom (imageOf text)) (entriesOf text) (length (imageOf text)) vs (image-bytes text) (r .1)

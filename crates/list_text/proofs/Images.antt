@@ -5,7 +5,7 @@ use mathlib.Core.List.{List, []}
 use Prim.Native.Nat.{ℕ, _≤_}
 use native.Mathlib.Omega.{arith}
 use lib.IntN.{ℤ}
-use lib.ListN.{length, replicate, length-replicate}
+use lib.ListN.{length, length-replicate}
 use Rattle.instruction.specs.Answer.{Answer, accepted, refused, judge}
 use Rattle.trace.specs.Run.{RunResult, andThen, runAnswer, runMarks}
 use Rattle.views.specs.View.{Sound, viewRefusals, viewAnswer, viewRoom, roomAnswer, roomAfter}
@@ -17,48 +17,43 @@ use Rattle.listing.specs.declared.tabbed.Arrivals.the-variants.{Declined}
 use Rattle.list_text.specs.Output.{lentRoom, outputText, tracedText, refusalLine}
 use Rattle.list_text.proofs.Sounding.{sound, judged-on, answer-on, room-on}
 
--- the rooms of a run hold what the definition says
-pub lent-is : replicate 16384 0 ≡ lentRoom
-unfolding lentRoom
-lent-is = refl
-
 -- the same line printed
 pub said : (x y : List ℕ) → x ≡ y → (r : Answer ℕ) (t room : List ℕ) → (r ≡ roomAnswer [] x room) × (t ≡ roomAfter [] x room) → (r ≡ roomAnswer [] y room) × (t ≡ roomAfter [] y room)
 said x y e r t room p = subst (λ (z : List ℕ). (r ≡ roomAnswer [] z room) × (t ≡ roomAfter [] z room)) e p
 
 module _ (image entries : List ℕ) where
   abbrev answer : Answer RunResult
-  answer = runAnswer image lentRoom lentRoom entries (length image)
+  answer = runAnswer image (lentRoom image) (lentRoom image) entries (length image)
 
   abbrev marks : List ℕ
-  marks = runMarks image lentRoom lentRoom entries (length image)
+  marks = runMarks image (lentRoom image) (lentRoom image) entries (length image)
 
   abbrev out : List ℕ
   out = listingOf image marks Declined
 
   -- a run that is refused
-  pub refused-text : (b o : List ℕ) → b ≡ lentRoom → o ≡ lentRoom → (n : ℕ) (vs : List ℤ) → refused n vs ≡ runAnswer image b o entries (length image) → refusalLine n vs ≡ outputText (tracedText image entries)
+  pub refused-text : (b o : List ℕ) → b ≡ lentRoom image → o ≡ lentRoom image → (n : ℕ) (vs : List ℤ) → refused n vs ≡ runAnswer image b o entries (length image) → refusalLine n vs ≡ outputText (tracedText image entries)
   unfolding tracedText
   refused-text b o e f n vs g =
       let h : answer ≡ refused n vs = sym (g ∙ ap₂ (λ (x y : List ℕ). runAnswer image x y entries (length image)) e f) in
       sym (ap (λ (r : Answer RunResult). outputText (andThen r (judge (viewRefusals image marks) out))) h)
 
   module _ (small : length image ≤ 16384) (s : RunResult) (a : answer ≡ accepted s) where
-    pub covered : length image ≤ length lentRoom
-    covered = let e : length lentRoom ≡ 16384 = ap length (sym lent-is) ∙ length-replicate {A = ℕ} 16384 0 in omega arith
+    pub covered : length image ≤ length (lentRoom image)
+    covered = omega (arith, length-replicate {A = ℕ} (length image) 0)
 
     -- its marks are sound
-    pub marks-sound : length marks ≡ length lentRoom → Sound image marks
+    pub marks-sound : length marks ≡ length (lentRoom image) → Sound image marks
     marks-sound l =
         sound image marks (omega arith) (let c = covered in omega arith)
-        (subst (Undamaged image) (sym (marks-are image lentRoom lentRoom entries (length image) s a)) (run-undamaged image lentRoom entries (length image) covered))
+        (subst (Undamaged image) (sym (marks-are image (lentRoom image) (lentRoom image) entries (length image) s a)) (run-undamaged image (lentRoom image) entries (length image) covered))
 
     listed-text : Sound image marks → out ≡ outputText (tracedText image entries)
     unfolding tracedText
     listed-text S =
         sym (ap (λ (r : Answer RunResult). outputText (andThen r (judge (viewRefusals image marks) out))) a ∙ ap outputText (judged-on (viewRefusals image marks) S out))
 
-    pub listed : length marks ≡ length lentRoom → (r : Answer ℕ) (t room : List ℕ) → (r ≡ viewAnswer image marks out room) × (t ≡ viewRoom image marks out room) → (r ≡ roomAnswer [] (outputText (tracedText image entries)) room) × (t ≡ roomAfter [] (outputText (tracedText image entries)) room)
+    pub listed : length marks ≡ length (lentRoom image) → (r : Answer ℕ) (t room : List ℕ) → (r ≡ viewAnswer image marks out room) × (t ≡ viewRoom image marks out room) → (r ≡ roomAnswer [] (outputText (tracedText image entries)) room) × (t ≡ roomAfter [] (outputText (tracedText image entries)) room)
     unfolding viewAnswer viewRoom
     listed l r t room p =
         let S = marks-sound l in
@@ -68,7 +63,7 @@ module _ (image entries : List ℕ) where
         )
 
   -- the same for rooms that hold what the run was lent, and marks that it left
-  pub listed-run : length image ≤ 16384 → (b o : List ℕ) → b ≡ lentRoom → o ≡ lentRoom → (s : RunResult) → accepted s ≡ runAnswer image b o entries (length image) → (m : List ℕ) → m ≡ runMarks image b o entries (length image) → length m ≡ length b → (r : Answer ℕ) (t room : List ℕ) → (r ≡ viewAnswer image m (listingOf image m Declined) room) × (t ≡ viewRoom image m (listingOf image m Declined) room) → (r ≡ roomAnswer [] (outputText (tracedText image entries)) room) × (t ≡ roomAfter [] (outputText (tracedText image entries)) room)
+  pub listed-run : length image ≤ 16384 → (b o : List ℕ) → b ≡ lentRoom image → o ≡ lentRoom image → (s : RunResult) → accepted s ≡ runAnswer image b o entries (length image) → (m : List ℕ) → m ≡ runMarks image b o entries (length image) → length m ≡ length b → (r : Answer ℕ) (t room : List ℕ) → (r ≡ viewAnswer image m (listingOf image m Declined) room) × (t ≡ viewRoom image m (listingOf image m Declined) room) → (r ≡ roomAnswer [] (outputText (tracedText image entries)) room) × (t ≡ roomAfter [] (outputText (tracedText image entries)) room)
   listed-run h b o e f s g m k l r t room p =
       let q : m ≡ marks = k ∙ ap₂ (λ (x y : List ℕ). runMarks image x y entries (length image)) e f in
       listed h s (sym (g ∙ ap₂ (λ (x y : List ℕ). runAnswer image x y entries (length image)) e f)) (ap length (sym q) ∙ l ∙ ap length e) r t room

@@ -19,15 +19,16 @@ use Rattle.list_text.specs.Refusal.{numberLine, valueLine}
 abbrev pub refusalLine : ℕ → List ℤ → List ℕ
 refusalLine n vs = cond (eqb n 5) (valueLine n (natAbs (getD vs 2 (pos 0)))) (numberLine n)
 
--- the marks and the order list that a run is lent: as many places as an image may have
-unfoldable pub lentRoom : List ℕ
-lentRoom = replicate 16384 0
+-- the marks and the order list that a run is lent: one for each byte of the image
+abbrev pub lentRoom : List ℕ → List ℕ
+lentRoom image = replicate (length image) 0
 
 -- the listing of a run in this image from these entries, with no arrivals; or a refusal
 unfoldable pub tracedText : List ℕ → List ℕ → Answer (List ℕ)
 tracedText image entries =
-    let m = runMarks image lentRoom lentRoom entries (length image) in
-    andThen (runAnswer image lentRoom lentRoom entries (length image)) (judge (viewRefusals image m) (listingOf image m Declined))
+    let room = lentRoom image in
+    let m = runMarks image room room entries (length image) in
+    andThen (runAnswer image room room entries (length image)) (judge (viewRefusals image m) (listingOf image m Declined))
 
 -- the same of a text; a line that is malformed first
 unfoldable pub textListed : List ℕ → Answer (List ℕ)

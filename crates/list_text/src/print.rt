@@ -19,11 +19,12 @@ fn list_image(image: &[u8], entries: &[u32], room: &mut [u8]) -> Viewed
     ensures { λ r. ⌜ viewedOf r ≡ roomAnswer [] (outputText (tracedText (now (image .entry)) (now (entries .entry)))) (now (room .entry)) ⌝ }
     ensures { λ _. ⌜ now (room .exit) ≡ roomAfter [] (outputText (tracedText (now (image .entry)) (now (entries .entry)))) (now (room .entry)) ⌝ }
 {
+    let n = image.len();
     let mut marks = rooms::bytes();
     let mut order = rooms::positions();
-    match trace::run::run(image, &mut marks, &mut order, entries, image.len() as u32) {
-        Ran::Finished(_) => listing::listing_with(image, &marks, Arrivals::Declined, room),
-        Ran::Stopped(_) => listing::listing_with(image, &marks, Arrivals::Declined, room),
+    match trace::run::run(image, &mut marks[..n], &mut order[..n], entries, n as u32) {
+        Ran::Finished(_) => listing::listing_with(image, &marks[..n], Arrivals::Declined, room),
+        Ran::Stopped(_) => listing::listing_with(image, &marks[..n], Arrivals::Declined, room),
         Ran::LongImage(_) => refusal::put_number(1, room),
         Ran::ShortMarks(_) => refusal::put_number(2, room),
         Ran::ShortOrder(_) => refusal::put_number(3, room),

@@ -21,11 +21,6 @@ use Rattle.read_back.specs.Sheet.{Sheet, emptySheet, listedOn, sheetWith
 use Rattle.read_back.specs.declared.back.Restored.{Restored}
 use Rattle.read_back.specs.declared.back.Restored.the-variants.{Written, LongImage, ShortMarks, NoRoom, Malformed, PastEnd}
 
-pub take-replicate : (n m : ℕ) → n ≤ m → take {A = ℕ} n (replicate m 0) ≡ replicate n 0
-take-replicate zero m h = refl
-take-replicate (suc n) zero h = absurd (omega arith)
-take-replicate (suc n) (suc m) h = ap (λ (l : List ℕ). 0 ∷ l) (take-replicate n m (omega arith))
-
 -- ---- the bytes of cells
 
 abbrev pub bytesIn : List ℕ → List ℕ

@@ -1,31 +1,78 @@
 -- `print::list_image` meets its contract.
 -- Assumes nothing.
 use mathlib.Core.Path.{_≡_, sym, ap, _∙_}
-use mathlib.Core.List.{List}
-use Prim.Native.Nat.{ℕ}
+use mathlib.Core.List.{List, _++_}
+use Prim.Native.Nat.{ℕ, _≤_}
+use native.Mathlib.Omega.{arith}
 use borrow.Author.Needs.{needs}
+use lib.ListN.{length, take, drop, length-append, length-replicate}
+use lib.Seq.{take-at}
 use Rattle.trace.specs.Run.{ranOf}
+use Rattle.views.proofs.Fronts.{take-replicate}
 use Rattle.list_text.specs.Refusal.{numberLine, valueLine}
 use Rattle.list_text.specs.Output as output
-use Rattle.list_text.proofs.Images.{lent-is, refused-text, listed-run, said}
+use Rattle.list_text.proofs.Images.{refused-text, listed-run, said}
 use Rattle.list_text.proofs.print.list_image.Statement.{statement}
 use Rattle.list_text.proofs.print.list_image.Tie as tie
 
+abbrev entry : tie.After-positions → tie.Start
+entry s = s .before .before .before .before .before
+
+abbrev image : tie.After-positions → List ℕ
+image s = entry s .args .image .now
+
+-- the part of each room that is lent: one for each byte of the image
+abbrev lent-marks : tie.After-positions → List ℕ
+lent-marks s = take (length (image s)) (s .before .bytes .result)
+
+abbrev lent-order : tie.After-positions → List ℕ
+lent-order s = take (length (image s)) (s .positions .result)
+
+marks-are : (s : tie.After-positions) → lent-marks s ≡ output.lentRoom (image s)
+marks-are s = ap (take (length (image s))) (s .before .bytes .ensures) ∙ take-replicate (length (image s)) 16384 (entry s .pre)
+
+order-are : (s : tie.After-positions) → lent-order s ≡ output.lentRoom (image s)
+order-are s = ap (take (length (image s))) (s .positions .ensures) ∙ take-replicate (length (image s)) 16384 (entry s .pre)
+
+marks-long : (s : tie.After-positions) → length (image s) ≡ length (lent-marks s)
+marks-long s = sym (ap length (marks-are s) ∙ length-replicate (length (image s)) 0)
+
+order-long : (s : tie.After-positions) → length (image s) ≡ length (lent-order s)
+order-long s = sym (ap length (order-are s) ∙ length-replicate (length (image s)) 0)
+
+abbrev made : tie.After-run → tie.After-positions
+made r = r .before .before .before
+
 abbrev start : tie.After-run → tie.Start
-start c = c .before .before .before .before .before .before .before .before
+start r = entry (made r)
 
 abbrev lent : tie.After-run → List ℕ
-lent c = c .before .before .before .before .bytes .result
+lent r = lent-marks (made r)
 
 abbrev order : tie.After-run → List ℕ
-order c = c .before .before .before .positions .result
+order r = lent-order (made r)
 
--- both rooms are as the definition says
-bytes-are : (c : tie.After-run) → lent c ≡ output.lentRoom
-bytes-are c = c .before .before .before .before .bytes .ensures ∙ lent-is
+bytes-are : (r : tie.After-run) → lent r ≡ output.lentRoom (start r .args .image .now)
+bytes-are r = marks-are (made r)
 
-order-is : (c : tie.After-run) → order c ≡ output.lentRoom
-order-is c = c .before .before .before .positions .ensures ∙ lent-is
+order-is : (r : tie.After-run) → order r ≡ output.lentRoom (start r .args .image .now)
+order-is r = order-are (made r)
+
+-- the marks that the run left, lent again
+abbrev left : tie.After-run → List ℕ
+left r = r .run .last .1 .0 ++ drop (length (image (made r))) (made r .before .bytes .result)
+
+left-long : (r : tie.After-run) → length (r .run .last .1 .0) ≡ length (image (made r))
+left-long r = r .run .kept .1 .0 ∙ sym (marks-long (made r))
+
+again : (r : tie.After-run) → take (length (image (made r))) (left r) ≡ r .run .last .1 .0
+again r = take-at (r .run .last .1 .0) _ (length (image (made r))) (left-long r)
+
+within : (r : tie.After-run) → length (image (made r)) ≤ length (left r)
+within r = omega (arith, left-long r, length-append (r .run .last .1 .0) (drop (length (image (made r))) (made r .before .bytes .result)))
+
+sized : (r : tie.After-run) → length (image (made r)) ≡ length (take (length (image (made r))) (left r))
+sized r = sym (ap length (again r) ∙ left-long r)
 
 returns : tie.Need-returns
 returns c =
@@ -33,7 +80,7 @@ returns c =
     let e = w .before .before .before in
     let r = e .before .before .before .before in
     let a = start r .args in
-    listed-run (a .image .now) (a .entries .now) (start r .pre) (lent r) (order r) (bytes-are r) (order-is r) _ (ap ranOf (sym (e .enum-told .given .1)) ∙ r .run .ensures .0) (r .run .last .1 .0) (r .run .ensures .1 .0) (r .run .kept .1 .0) _ _ (a .room .now) (w .listing-with .ensures)
+    listed-run (a .image .now) (a .entries .now) (start r .pre) (lent r) (order r) (bytes-are r) (order-is r) _ (ap ranOf (sym (e .enum-told .given .1)) ∙ r .run .ensures .0) _ (again r ∙ r .run .ensures .1 .0) (ap length (again r) ∙ r .run .kept .1 .0) _ _ (a .room .now) (w .listing-with .ensures)
 
 returns-2 : tie.Need-returns-2
 returns-2 c =
@@ -41,7 +88,7 @@ returns-2 c =
     let e = w .before .before .before in
     let r = e .before .before .before .before in
     let a = start r .args in
-    listed-run (a .image .now) (a .entries .now) (start r .pre) (lent r) (order r) (bytes-are r) (order-is r) _ (ap ranOf (sym (e .enum-told2 .given .1)) ∙ r .run .ensures .0) (r .run .last .1 .0) (r .run .ensures .1 .0) (r .run .kept .1 .0) _ _ (a .room .now) (w .listing-with2 .ensures)
+    listed-run (a .image .now) (a .entries .now) (start r .pre) (lent r) (order r) (bytes-are r) (order-is r) _ (ap ranOf (sym (e .enum-told2 .given .1)) ∙ r .run .ensures .0) _ (again r ∙ r .run .ensures .1 .0) (ap length (again r) ∙ r .run .kept .1 .0) _ _ (a .room .now) (w .listing-with2 .ensures)
 
 returns-3 : tie.Need-returns-3
 returns-3 c =
@@ -78,8 +125,9 @@ returns-6 c =
 pub list-image-spec : {M : Type 1} → statement M
 list-image-spec =
     tie.close
-    (tie.spec (λ c κs. search needs) (λ c κs. search needs) (λ c. search needs) (λ c. search needs) (λ c. search needs) (λ c κs. search needs)
-    (λ c. search needs) (λ c. search needs) (λ c κs. search needs) (λ c. search needs) (λ c. search needs) (λ c κs. search needs)
+    (tie.spec (λ c κs. search needs) (λ c κs. search needs) (λ c. search needs) (λ c. marks-long (c .before)) (λ c. search needs) (λ c. order-long (c .before .before)) (λ c. search needs) (λ c κs. search needs)
+    (λ c. search needs) (λ c. within (c .before .before .before .before)) (λ c. sized (c .before .before .before .before .before)) (λ c κs. search needs)
+    (λ c. search needs) (λ c. within (c .before .before .before .before)) (λ c. sized (c .before .before .before .before .before)) (λ c κs. search needs)
     (λ c. search needs) (λ c κs. search needs) (λ c. search needs) (λ c κs. search needs) (λ c. search needs) (λ c κs. search needs)
     (λ c. search needs) (λ c. search needs) (λ c κs. search needs) (λ c. search needs) returns (λ c. search needs) returns-2 (λ c. search needs) returns-3
     (λ c. search needs) returns-4 (λ c. search needs) returns-5 (λ c. search needs) returns-6)

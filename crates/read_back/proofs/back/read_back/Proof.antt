@@ -9,7 +9,8 @@ use lib.ListN.{length, take, drop, replicate, length-append, length-replicate}
 use lib.Seq.{take-at}
 use Rattle.instruction.proofs.Parted.{parted}
 use Rattle.text.proofs.Cases.{none-other}
-use Rattle.read_back.proofs.Backs.{bytesIn, take-replicate, too-long, short-marks, no-room, is-bad, bounded, is-done}
+use Rattle.views.proofs.Fronts.{take-replicate}
+use Rattle.read_back.proofs.Backs.{bytesIn, too-long, short-marks, no-room, is-bad, bounded, is-done}
 use Rattle.read_back.proofs.back.read_back.Statement.{statement}
 use Rattle.read_back.proofs.back.read_back.Tie as tie
 
