@@ -117,14 +117,14 @@ module _ (text : List ℕ) (n : ℕ) (image marks : List ℕ) where
       no-room g = is-refused 11 (pos n ∷ []) (rw (le-ltb 65536 n h, le-ltb (length marks) n k, lt-ltb (length image) n g))
 
       module _ (g : n ≤ length image) where
-        here : judge (lineRefusals n start (emptySheet n) (lines text)) (length (lines text)) ≡ backAnswer text n image marks
+        pub by-lines : judge (lineRefusals n start (emptySheet n) (lines text)) (length (lines text)) ≡ backAnswer text n image marks
         unfolding backAnswer judge
-        here = rw (le-ltb 65536 n h, le-ltb (length marks) n k, le-ltb (length image) n g)
+        by-lines = rw (le-ltb 65536 n h, le-ltb (length marks) n k, le-ltb (length image) n g)
 
         -- the lines were read over cells and marks of zeros
         module _ (cells seen new told : List ℕ) (c : cells ≡ replicate n 0) (s : seen ≡ replicate n 0) (x : Restored) (r : LinesLeave text cells seen new told (restoredOf x)) where
           said : restoredOf x ≡ backAnswer text n image marks
-          said = r .answer ∙ rw (c, s, length-replicate {A = ℕ} n 0) here
+          said = r .answer ∙ rw (c, s, length-replicate {A = ℕ} n 0) by-lines
 
           pub is-bad : ((j : ℕ) → x ≡ Written j → ⊥) → Is (restoredOf x) image marks
           is-bad f = by x said f

@@ -9,4 +9,5 @@ pub mod Notes
 pub mod Turning
 pub mod Going
 pub mod Backs
+pub mod BackLengths
 pub mod Counting

@@ -32,7 +32,7 @@ lines-first (b ∷ l) t e = by (eqb b 10) e (lines-first l t)
     by true f r = let z : _≡_ {A = ℕ} 0 (suc (length l)) = ap length f in absurd (omega arith)
     by false f r = let g : upTo 10 l ≡ l = cc in ap (before b) (r g)
 
-pub bytes-take : (n : ℕ) (l : List ℕ) → Bytes l → Bytes (take n l)
+bytes-take : (n : ℕ) (l : List ℕ) → Bytes l → Bytes (take n l)
 bytes-take zero l B p = omega arith
 bytes-take (suc n) [] B p = omega arith
 bytes-take (suc n) (b ∷ l) B zero = B 0

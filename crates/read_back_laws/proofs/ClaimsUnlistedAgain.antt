@@ -2,11 +2,10 @@
 -- Assumes nothing.
 use mathlib.Core.Path.{_≡_, sym, ap, subst, _∙_}
 use mathlib.Core.Bool.{true, not}
-use mathlib.Core.List.{List, _∷_, _++_}
+use mathlib.Core.List.{List, _∷_, _++_, append-nil}
 use Prim.Native.Nat.{ℕ, _≤_}
 use native.Mathlib.Omega.{arith}
-use lib.ListN.{length, take, drop, length-take, length-replicate}
-use lib.Seq.{take-append-seam}
+use lib.ListN.{length, drop-of-length-le, length-replicate}
 use Rattle.instruction.specs.Bytes.{Bytes}
 use Rattle.instruction.specs.Answer.{judge}
 use Rattle.text.specs.Cut.{lines}
@@ -16,12 +15,13 @@ use Rattle.list_text.specs.Entries.{isEntries, entriesIn}
 use Rattle.list_text.specs.Text.{first, others, bad, imageRefusals, countsOf, inputRefusals}
 use Rattle.listing.specs.Walk.{listingOf}
 use Rattle.read_back.specs.Back.{backImage}
+use Rattle.read_back.proofs.BackLengths.{back-length}
 use Rattle.read_back.proofs.Backs.{zeros-small, back-bytes}
 use Rattle.read_back_laws.proofs.ClaimsBackRestored.{listing-restores}
 use Rattle.unlist_text.specs.Unlisted.{imageText, emptyRoom, printed, unlistedOf}
 use Rattle.read_back_laws.specs.ClaimsUnlisted.{Says, ReadAgain, UnlistedAgain, ListedUnlisted}
 use Rattle.read_back_laws.proofs.EntryLines.{entry-line}
-use Rattle.read_back_laws.proofs.Again.{lines-first, bytes-take, read-bytes, all-good}
+use Rattle.read_back_laws.proofs.Again.{lines-first, read-bytes, all-good}
 
 module _ (e image : List ℕ) (E : isEntries e ≡ true) (B : Bytes image) (h : length image ≤ 16384) where
   abbrev input : List ℕ
@@ -41,26 +41,21 @@ read-again e image E B h =
     let c = cut e image E B h in
     (valid e image E B h, ap (λ (ls : List (List ℕ)). entriesIn (first ls)) c, ap (λ (ls : List (List ℕ)). bytesInLines (others ls)) c ∙ read-bytes image B)
 
-zeros-bytes : Bytes emptyRoom
-unfolding emptyRoom
-zeros-bytes = zeros-small 65536
-
 pub unlisted-again : UnlistedAgain
 unfolding unlistedOf
 unlisted-again e text n k E h a =
-    let image = take n (backImage text n emptyRoom emptyRoom) in
-    let p : imageText image ≡ unlistedOf text n = sym (ap (printed n (backImage text n emptyRoom emptyRoom)) a) in
-    let B : Bytes (backImage text n emptyRoom emptyRoom) = back-bytes text n emptyRoom emptyRoom zeros-bytes in
-    subst (λ (t : List ℕ). Says (e ++ 10 ∷ t) (entriesIn e) image) p (read-again e image E (bytes-take n (backImage text n emptyRoom emptyRoom) B) (omega (arith, length-take n (backImage text n emptyRoom emptyRoom))))
-
-zeros-long : length emptyRoom ≡ 65536
-unfolding emptyRoom
-zeros-long = length-replicate {A = ℕ} 65536 0
+    let room = emptyRoom n in
+    let image = backImage text n room room in
+    let p : imageText image ≡ unlistedOf text n = sym (ap (printed image) a) in
+    let long : length room ≡ n = length-replicate n 0 in
+    subst (λ (t : List ℕ). Says (e ++ 10 ∷ t) (entriesIn e) image) p
+    (read-again e image E (back-bytes text n room room (zeros-small n)) (omega (arith, long, back-length text n room room (omega (arith, long)))))
 
 pub listed-unlisted : ListedUnlisted
 unfolding unlistedOf
 listed-unlisted image m choice B h k U =
-    let r = listing-restores image m choice emptyRoom emptyRoom B h k U (omega (arith, zeros-long)) (omega (arith, zeros-long)) in
-    ap (printed (length image) (backImage (listingOf image m choice) (length image) emptyRoom emptyRoom)) (r .answer)
-    ∙ ap (λ (t : List ℕ). imageText (take (length image) t)) (r .bytes)
-    ∙ ap imageText (take-append-seam image (drop (length image) emptyRoom))
+    let room = emptyRoom (length image) in
+    let long : length room ≡ length image = length-replicate (length image) 0 in
+    let r = listing-restores image m choice room room B h k U (omega (arith, long)) (omega (arith, long)) in
+    ap (printed (backImage (listingOf image m choice) (length image) room room)) (r .answer)
+    ∙ ap imageText (r .bytes ∙ ap (λ (l : List ℕ). image ++ l) (drop-of-length-le room {i = length image} (omega (arith, long))) ∙ append-nil image)

@@ -9,7 +9,7 @@ use native.Mathlib.Omega.{arith}
 use lib.Dec.{ltb}
 use borrow.Author.Tests.{lt-ltb}
 use lib.IntN.{ℤ, pos}
-use lib.ListN.{length, take, length-take, length-replicate}
+use lib.ListN.{length, length-replicate}
 use Rattle.instruction.specs.Answer.{Answer, accepted, refused, refuse}
 use Rattle.text.specs.Cut.{before, lines}
 use Rattle.read_back.specs.Back.{lineRefusals, backAnswer, backImage}
@@ -17,6 +17,7 @@ use Rattle.read_back.specs.Line.{recordOf}
 use Rattle.read_back.specs.Order.{start, placeAfter}
 use Rattle.read_back.specs.Sheet.{Sheet, emptySheet, sheetWith}
 use Rattle.read_back.specs.declared.place.Place.{Place}
+use Rattle.read_back.proofs.BackLengths.{back-length}
 use Rattle.read_back.proofs.Counting.{lines-few, after-most, accepted-short}
 use Rattle.instruction.proofs.Carried.{Each, carries}
 use Rattle.list_text.specs.Decimal.{width}
@@ -39,10 +40,6 @@ width-below (suc k) (suc j) n h = by (ltb n 10) (width-below k j (n / 10) less)
     by true g = omega arith
     by false g = omega arith
 
-zeros-length : length emptyRoom ≡ 65536
-unfolding emptyRoom
-zeros-length = length-replicate {A = ℕ} 65536 0
-
 -- each line's number is at most one more than that of the line before
 after-line : (place : Place) (n : ℕ) (line : List ℕ) → placeAfter place n (recordOf line) .line ≤ suc (place .line)
 unfolding placeAfter
@@ -59,20 +56,26 @@ lines-each n place sheet (l ∷ ls) h =
     ((omega arith, omega arith), ((omega arith, omega arith), lines-each n (placeAfter place (length l) (recordOf l)) (sheetWith sheet l) ls (omega (arith, h, after-line place (length l) l))))
 
 module _ (text : List ℕ) (n : ℕ) (t : length text < 2 ^ 63) (h : n < 2 ^ 63) where
-  each : Each Word (refuse (ltb 65536 n) 1 (pos n ∷ []) ∷ refuse (ltb (length emptyRoom) n) 2 (pos (length emptyRoom) ∷ []) ∷ refuse (ltb (length emptyRoom) n) 11 (pos n ∷ []) ∷ lineRefusals n start (emptySheet n) (lines text))
+  abbrev room : List ℕ
+  room = emptyRoom n
+
+  long : length room ≡ n
+  long = length-replicate n 0
+
+  each : Each Word (refuse (ltb 65536 n) 1 (pos n ∷ []) ∷ refuse (ltb (length room) n) 2 (pos (length room) ∷ []) ∷ refuse (ltb (length room) n) 11 (pos n ∷ []) ∷ lineRefusals n start (emptySheet n) (lines text))
   each =
-      let z = zeros-length in
+      let z = long in
       ((omega arith, omega arith), ((omega arith, omega (arith, z)), ((omega arith, omega arith), lines-each n start (emptySheet n) (lines text) (omega (arith, t, lines-few text)))))
 
-  fits : (a : Answer ℕ) → backAnswer text n emptyRoom emptyRoom ≡ a → length (printed n (backImage text n emptyRoom emptyRoom) a) ≤ 133120
+  fits : (a : Answer ℕ) → backAnswer text n room room ≡ a → length (printed (backImage text n room room) a) ≤ 133120
   unfolding backAnswer
   fits (accepted k) e =
-      let image = backImage text n emptyRoom emptyRoom in
-      omega (arith, image-length (take n image), length-take n image, accepted-short text n emptyRoom emptyRoom k e)
+      let image = backImage text n room room in
+      omega (arith, image-length image, back-length text n room room (omega (arith, long)), long, accepted-short text n room room k e)
   fits (refused r vs) e =
       let g = carries Word _ _ r vs each (sym e) in
       omega (arith, value-length r (valueOf vs) (width r r) (width (valueOf vs) (valueOf vs)) refl refl, width-below 19 r r (omega (arith, g .0)), width-below 19 (valueOf vs) (valueOf vs) (omega (arith, g .1)))
 
 pub unlisted-fits : UnlistedFits
 unfolding unlistedOf
-unlisted-fits text n t h = fits text n t h (backAnswer text n emptyRoom emptyRoom) refl
+unlisted-fits text n t h = let room = emptyRoom n in fits text n t h (backAnswer text n room room) refl

@@ -5,7 +5,7 @@ use Prim.Native.Nat.{ℕ, _^_, _≤_, _<_}
 use mathlib.Core.Bool.{true}
 use mathlib.Core.List.{List, _∷_, _++_}
 use mathlib.Core.Path.{_≡_}
-use lib.ListN.{length, take}
+use lib.ListN.{length}
 use Rattle.instruction.specs.Bytes.{Bytes}
 use Rattle.instruction.specs.Answer.{accepted}
 use Rattle.list_text.specs.ClaimsInput.{Valid}
@@ -28,8 +28,8 @@ ReadAgain = (e image : List ℕ) → isEntries e ≡ true → Bytes image → le
 -- so is what is printed of a listing that is accepted
 abbrev pub UnlistedAgain : Type 0
 UnlistedAgain =
-    (e text : List ℕ) (n k : ℕ) → isEntries e ≡ true → n ≤ 16384 → backAnswer text n emptyRoom emptyRoom ≡ accepted k
-    → Says (e ++ 10 ∷ unlistedOf text n) (entriesIn e) (take n (backImage text n emptyRoom emptyRoom))
+    (e text : List ℕ) (n k : ℕ) → isEntries e ≡ true → n ≤ 16384 → backAnswer text n (emptyRoom n) (emptyRoom n) ≡ accepted k
+    → Says (e ++ 10 ∷ unlistedOf text n) (entriesIn e) (backImage text n (emptyRoom n) (emptyRoom n))
 
 -- of a listing as the writer prints it, with or without arrivals, it is the image itself
 abbrev pub ListedUnlisted : Type 0

@@ -25,14 +25,14 @@ abbrev pub valueOf : List ℤ → ℕ
 valueOf [] = 0
 valueOf (v ∷ vs) = natAbs v
 
--- the image and the marks that a listing is read into: as many places as an image may have
-unfoldable pub emptyRoom : List ℕ
-emptyRoom = replicate 65536 0
+-- the image and the marks that a listing of n bytes is read into
+abbrev pub emptyRoom : ℕ → List ℕ
+emptyRoom n = replicate n 0
 
--- of an image of n bytes, or of the refusal
-abbrev pub printed : ℕ → List ℕ → Answer ℕ → List ℕ
-printed n image (accepted k) = imageText (take n image)
-printed n image (refused r vs) = valueLine r (valueOf vs)
+-- of this image, or of the refusal
+abbrev pub printed : List ℕ → Answer ℕ → List ℕ
+printed image (accepted k) = imageText image
+printed image (refused r vs) = valueLine r (valueOf vs)
 
 unfoldable pub unlistedOf : List ℕ → ℕ → List ℕ
-unlistedOf text n = printed n (backImage text n emptyRoom emptyRoom) (backAnswer text n emptyRoom emptyRoom)
+unlistedOf text n = let room = emptyRoom n in printed (backImage text n room room) (backAnswer text n room room)

@@ -6,24 +6,23 @@ use native.Mathlib.Omega.{arith}
 use borrow.Author.Needs.{needs}
 use lib.ListN.{length, length-replicate}
 use Rattle.read_back.specs.Back.{restoredOf}
-use Rattle.unlist_text.specs.Unlisted.{emptyRoom}
 use Rattle.list_text.proofs.Images.{said}
-use Rattle.unlist_text.proofs.Prints.{zeros-is, refused-print, accepted-print, first-few}
+use Rattle.unlist_text.proofs.Prints.{refused-print, accepted-print, first-few}
 use Rattle.unlist_text.proofs.print.unlist_text.Statement.{statement}
 use Rattle.unlist_text.proofs.print.unlist_text.Tie as tie
 
 abbrev start : tie.After-read-back → tie.Start
 start r = r .before .before .before .before .before .before .before
 
--- both rooms are as the definition says
-image-is : (r : tie.After-read-back) → r .before .before .before .before .bytes .result ≡ emptyRoom
-image-is r = r .before .before .before .before .bytes .ensures ∙ zeros-is
+-- both rooms are for the longest image
+image-is : (r : tie.After-read-back) → length (r .before .before .before .before .bytes .result) ≡ 65536
+image-is r = ap length (r .before .before .before .before .bytes .ensures) ∙ length-replicate {A = ℕ} 65536 0
 
-marks-are : (r : tie.After-read-back) → r .before .before .before .bytes2 .result ≡ emptyRoom
-marks-are r = r .before .before .before .bytes2 .ensures ∙ zeros-is
+marks-are : (r : tie.After-read-back) → length (r .before .before .before .bytes2 .result) ≡ 65536
+marks-are r = ap length (r .before .before .before .bytes2 .ensures) ∙ length-replicate {A = ℕ} 65536 0
 
 image-long : (r : tie.After-read-back) → length (r .read-back .last .1 .1 .0) ≡ 65536
-image-long r = r .read-back .kept .1 .1 .0 ∙ ap length (r .before .before .before .before .bytes .ensures) ∙ length-replicate {A = ℕ} 65536 0
+image-long r = r .read-back .kept .1 .1 .0 ∙ image-is r
 
 abbrev read : tie.After-first → tie.After-read-back
 read c = c .before .before .before .before .before .before
