@@ -11,9 +11,9 @@ use lib.ListN.{length, take, drop}
 use borrow.Author.Tests.{le-leb, lt-leb, ltb-true, ltb-false}
 use Rattle.instruction.proofs.Ands.{not-second}
 use Rattle.text.specs.Cut.{before, cut, upTo, fields}
-use Rattle.text.specs.Four.{isFour}
+use Rattle.text.specs.Four.{isFour, allFour}
 use Rattle.text.proofs.Cuts.{piece-inside, field-next, field-last}
-use Rattle.list_text.specs.Entries.{allEntries, isEntries, entriesLine}
+use Rattle.list_text.specs.Entries.{isEntries, entriesLine}
 use Rattle.list_text.specs.declared.line.Line.{Line}
 use Rattle.list_text.specs.declared.line.Line.the-variants.{Good, Bad}
 
@@ -44,26 +44,26 @@ some-field (b ∷ l) = by (eqb b 9) (cut 9 ([] ∷ []) l)
 
 -- what n entries and these fields make
 unfoldable pub lineFrom : ℕ → List (List ℕ) → Line
-lineFrom n fs = cond (allEntries fs && leb (n + length fs) 256) (Good (n + length fs)) Bad
+lineFrom n fs = cond (allFour fs && leb (n + length fs) 256) (Good (n + length fs)) Bad
 
 from-good : (n : ℕ) (f : List ℕ) (fs : List (List ℕ)) → isFour f ≡ true → lineFrom n (f ∷ fs) ≡ lineFrom (n + 1) fs
-unfolding lineFrom allEntries
+unfolding lineFrom allFour
 from-good n f fs e = let q : n + suc (length fs) ≡ n + 1 + length fs = omega arith in rw (e, q)
 
 from-bad : (n : ℕ) (f : List ℕ) (fs : List (List ℕ)) → isFour f ≡ false → lineFrom n (f ∷ fs) ≡ Bad
-unfolding lineFrom allEntries
+unfolding lineFrom allFour
 from-bad n f fs e = rw e
 
 from-full : (n : ℕ) (fs : List (List ℕ)) → 256 ≤ n → 1 ≤ length fs → lineFrom n fs ≡ Bad
 unfolding lineFrom
-from-full n fs h k = rw (lt-leb (n + length fs) 256 (omega arith), not-second (allEntries fs) false refl)
+from-full n fs h k = rw (lt-leb (n + length fs) 256 (omega arith), not-second (allFour fs) false refl)
 
 from-none : (n : ℕ) → n ≤ 256 → lineFrom n [] ≡ Good n
-unfolding lineFrom allEntries
+unfolding lineFrom allFour
 from-none n h = let q : n + 0 ≡ n = omega arith in rw (q, le-leb n 256 h)
 
 pub empty-line : (l : List ℕ) → length l ≡ 0 → Good 0 ≡ entriesLine l
-unfolding entriesLine isEntries allEntries
+unfolding entriesLine isEntries allFour
 empty-line [] h = refl
 empty-line (b ∷ l) h = absurd (omega arith)
 

@@ -9,10 +9,10 @@ use lib.Dec.{eqb, leb}
 use lib.ListN.{length}
 use borrow.Author.Tests.{leb-true}
 use Rattle.text.specs.Cut.{before, cut, fields}
-use Rattle.text.specs.Four.{isFour}
+use Rattle.text.specs.Four.{isFour, allFour}
 use Rattle.instruction.proofs.Ands.{first-part, second-part}
 use Rattle.text.proofs.Fours.{four-parts}
-use Rattle.list_text.specs.Entries.{allEntries, isEntries}
+use Rattle.list_text.specs.Entries.{isEntries}
 use Rattle.list_text.specs.Text.{first, others}
 
 abbrev pub total : List (List ℕ) → ℕ
@@ -38,12 +38,12 @@ pub with-first : (ls : List (List ℕ)) → total ls ≤ length (first ls) + 1 +
 with-first [] = omega arith
 with-first (l ∷ ls) = omega arith
 
-fives : (fs : List (List ℕ)) → allEntries fs ≡ true → total fs ≡ length fs * 5
-unfolding allEntries
+fives : (fs : List (List ℕ)) → allFour fs ≡ true → total fs ≡ length fs * 5
+unfolding allFour
 fives [] e = refl
 fives (f ∷ fs) e =
-    let h = four-parts f (first-part (isFour f) (allEntries fs) e) .0 in
-    let k = fives fs (second-part (isFour f) (allEntries fs) e) in omega arith
+    let h = four-parts f (first-part (isFour f) (allFour fs) e) .0 in
+    let k = fives fs (second-part (isFour f) (allFour fs) e) in omega arith
 
 -- the longest line of entries
 pub longest-first : (l : List ℕ) → isEntries l ≡ true → (length l ≤ 1279) × (length (fields l) ≤ 256)
@@ -51,6 +51,6 @@ unfolding isEntries
 longest-first [] e = (omega arith, omega arith)
 longest-first (b ∷ l) e =
     let fs = cut 9 ([] ∷ []) (b ∷ l) in
-    let h = fives fs (first-part (allEntries fs) (leb (length fs) 256) e) in
-    let k = leb-true (length fs) 256 (second-part (allEntries fs) (leb (length fs) 256) e) in
+    let h = fives fs (first-part (allFour fs) (leb (length fs) 256) e) in
+    let k = leb-true (length fs) 256 (second-part (allFour fs) (leb (length fs) 256) e) in
     let m = all-there 9 ([] ∷ []) (b ∷ l) in (omega arith, k)

@@ -1,23 +1,18 @@
 -- The line of entries. Document 01, 'The listing': 'line 1 entries (none to 256, four upper-case hex digits each, tab-parted)'.
 -- Assumes nothing.
 use Prim.Native.Nat.{ℕ}
-use mathlib.Core.Bool.{Bool, true, cond, _&&_}
-use mathlib.Core.List.{List, [], _∷_, map}
+use mathlib.Core.Bool.{Bool, cond, _&&_}
+use mathlib.Core.List.{List, map}
 use lib.Dec.{leb}
 use lib.ListN.{length}
 use Rattle.text.specs.Cut.{fields}
-use Rattle.text.specs.Four.{isFour, fourOf}
+use Rattle.text.specs.Four.{allFour, fourOf}
 use Rattle.list_text.specs.declared.line.Line.{Line}
 use Rattle.list_text.specs.declared.line.Line.the-variants.{Good, Bad}
 
--- every field is four digits
-unfoldable pub allEntries : List (List ℕ) → Bool
-allEntries [] = true
-allEntries (f ∷ fs) = isFour f && allEntries fs
-
--- none to 256 entries
+-- none to 256 entries, each four digits
 unfoldable pub isEntries : List ℕ → Bool
-isEntries l = allEntries (fields l) && leb (length (fields l)) 256
+isEntries l = allFour (fields l) && leb (length (fields l)) 256
 
 -- their numbers, in their order
 abbrev pub entriesIn : List ℕ → List ℕ

@@ -15,7 +15,7 @@ use Rattle.text.specs.Cut.{lines}
 use Rattle.text.proofs.Pairs.{bytes-small}
 use Rattle.read_back.specs.Back.{restoredOf, lineRefusals, sheetAfter, backAnswer, backImage, backMarks}
 use Rattle.read_back.specs.LinesLeave.{sheet, LinesLeave}
-use Rattle.read_back.specs.Line.{letterOn, positionOn, digitsOn, hasBytes}
+use Rattle.read_back.specs.Line.{fieldOn, letterOn, positionOn, hasBytes}
 use Rattle.read_back.specs.Order.{start}
 use Rattle.read_back.specs.Sheet.{Sheet, emptySheet, listedOn, sheetWith}
 use Rattle.read_back.specs.declared.back.Restored.{Restored}
@@ -50,8 +50,8 @@ sets-bounded (x ∷ bs) l p s b = sets-bounded bs (set l p (suc x)) (suc p) (λ 
 listed-small : (l : List ℕ) (k : ℕ) → getD (listedOn l) k 0 < 256
 listed-small l k = by (hasBytes (letterOn l))
   where
-    by : (b : Bool) → getD (cond b (bytesOf (digitsOn l)) []) k 0 < 256
-    by true = bytes-small (digitsOn l) k
+    by : (b : Bool) → getD (cond b (bytesOf (fieldOn 2 l)) []) k 0 < 256
+    by true = bytes-small (fieldOn 2 l) k
     by false = omega arith
 
 after-bounded : (ls : List (List ℕ)) (s : Sheet) → Bounded (s .cells) → Bounded (sheetAfter s ls .cells)

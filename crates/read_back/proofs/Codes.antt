@@ -14,7 +14,8 @@ use Rattle.text.specs.Bytes.{bytesOf}
 use Rattle.text.specs.Cut.{upTo}
 use Rattle.text.proofs.Cuts.{take-first}
 use Rattle.text.proofs.Pairs.{pairs, bytes-small}
-use Rattle.read_back.specs.Line.{positionOn, digitsOn, bytesOn, same, isCode}
+use Rattle.read_back.specs.Line.{same, isCode}
+use Rattle.read_back.specs.Offsets.{positionAt, digitsAt, bytesAt}
 use Rattle.read_back.proofs.Sames.{other-length, same-false, same-but-last}
 
 -- what is written from the start on stands at the start
@@ -28,7 +29,7 @@ take-sets (a ∷ s) [] h = absurd (omega arith)
 take-sets (a ∷ s) (x ∷ room) h = ap (take (suc (length s))) (sets-cons room a 0 s) ∙ ap (λ (l : List ℕ). a ∷ l) (take-sets s room (omega arith))
 
 -- a field is no longer than its line
-pub digits-short : (line : List ℕ) → length (digitsOn line) ≤ length line
+pub digits-short : (line : List ℕ) → length (digitsAt line) ≤ length line
 digits-short line = omega (arith, first-short (drop 7 line), length-drop 7 line)
   where
     first-short : (t : List ℕ) → length (upTo 9 t) ≤ length t
@@ -36,33 +37,33 @@ digits-short line = omega (arith, first-short (drop 7 line), length-drop 7 line)
 
 module _ (line : List ℕ) where
   abbrev written : List ℕ
-  written = codeLine (positionOn line) (bytesOn line)
+  written = codeLine (positionAt line) (bytesAt line)
 
   width : length written ≤ 31
-  width = alone-width (bytesOn line) [] (bytes-small (digitsOn line)) (positionOn line)
+  width = alone-width (bytesAt line) [] (bytes-small (digitsAt line)) (positionAt line)
 
   longer : length (line ++ 10 ∷ []) ≡ length line + 1
   longer = length-append line (10 ∷ [])
 
-  pub too-wide : 30 < length line → false ≡ isCode line
+  pub too-wide : 30 < length line → false ≡ isCode (positionAt line) (bytesAt line) line
   unfolding isCode
   too-wide h = sym (other-length (line ++ 10 ∷ []) written (λ e. absurd (omega (arith, e, longer, width))))
 
   -- its bytes, as they were read into a room of 16
-  pub read-bytes : (d : List ℕ) → d ≡ digitsOn line → (room : List ℕ) → length room ≡ 16 → length d ≤ 30 → take (length d / 2) (sets room 0 (bytesOf d)) ≡ bytesOn line
+  pub read-bytes : (d : List ℕ) → d ≡ digitsAt line → (room : List ℕ) → length room ≡ 16 → length d ≤ 30 → take (length d / 2) (sets room 0 (bytesOf d)) ≡ bytesAt line
   read-bytes d e room l h =
       let p : length (bytesOf d) ≡ length d / 2 = pairs d (length d / 2) refl in
       ap (λ (k : ℕ). take k (sets room 0 (bytesOf d))) (sym p) ∙ take-sets (bytesOf d) room (omega (arith, p)) ∙ ap bytesOf e
 
   -- the line as it was written again
-  module _ (p : ℕ) (bytes room new : List ℕ) (k : ℕ) (q : p ≡ positionOn line) (f : bytes ≡ bytesOn line) (l : length room ≡ 32) (w : Puts (codeLine p bytes) 0 room new k) where
+  module _ (p : ℕ) (bytes room new : List ℕ) (k : ℕ) (q : p ≡ positionAt line) (f : bytes ≡ bytesAt line) (l : length room ≡ 32) (w : Puts (codeLine p bytes) 0 room new k) where
     is-written : codeLine p bytes ≡ written
     is-written = rw (q, f)
 
     size : k ≡ length written
     size = omega (arith, w .next, ap length is-written)
 
-    pub other-width : (k ≡ length line + 1 → ⊥) → false ≡ isCode line
+    pub other-width : (k ≡ length line + 1 → ⊥) → false ≡ isCode (positionAt line) (bytesAt line) line
     unfolding isCode
     other-width n = sym (other-length (line ++ 10 ∷ []) written (λ e. n (omega (arith, e, longer, size))))
 
@@ -73,7 +74,7 @@ module _ (line : List ℕ) where
       last : getD written (length line) 0 ≡ getD new (length line) 0
       last = ap (λ (t : List ℕ). getD t (length line) 0) (sym shown) ∙ getD-take (length written) new (length line) 0 (omega (arith, size, g))
 
-      pub other-end : (getD new (length line) 0 ≡ 10 → ⊥) → false ≡ isCode line
+      pub other-end : (getD new (length line) 0 ≡ 10 → ⊥) → false ≡ isCode (positionAt line) (bytesAt line) line
       unfolding isCode
       other-end n = sym (same-false (line ++ 10 ∷ []) written (λ e. n (sym last ∙ sym (ap (λ (t : List ℕ). getD t (length line) 0) e) ∙ at-end line)))
         where
@@ -81,7 +82,7 @@ module _ (line : List ℕ) where
           at-end [] = refl
           at-end (a ∷ s) = at-end s
 
-      pub compared : getD new (length line) 0 ≡ 10 → same line (take (length line) new) ≡ isCode line
+      pub compared : getD new (length line) 0 ≡ 10 → same line (take (length line) new) ≡ isCode (positionAt line) (bytesAt line) line
       unfolding isCode
       compared e =
           ap (same line) (sym (take-take (length line) (length written) new (omega (arith, size, g))) ∙ ap (take (length line)) shown)

@@ -2,6 +2,10 @@ pub mod Letters
 pub mod NoLetters
 pub mod Lines
 pub mod Sames
+pub mod Pieces
+pub mod Rests
+pub mod Shapes
+pub mod ByFields
 pub mod Codes
 pub mod Records
 pub mod Reading

@@ -10,7 +10,7 @@ use lib.Dec.{eqb}
 use lib.ListN.{length, getD, take, drop, length-drop, drop-of-length-le}
 use lib.Seq.{getD-drop, drop-drop}
 use Rattle.text.specs.Hex.{allHex}
-use Rattle.read_back.specs.Line.{arePlaces, isLabelRest, isDataRest, isStart, byLetter, isLine}
+use Rattle.read_back.specs.Offsets.{arePlaces, isLabelRest, isDataRest, isStartAt, byLetterAt, isLineAt}
 
 -- nothing is no tab
 pub no-tab : (l : List ℕ) → length l ≡ 0 → false ≡ isDataRest l
@@ -18,7 +18,7 @@ no-tab [] h = refl
 no-tab (b ∷ l) h = absurd (omega arith)
 
 -- positions, from a place on
-few : (l : List ℕ) → 0 < length l → length l < 5 → arePlaces l ≡ false
+pub few : (l : List ℕ) → 0 < length l → length l < 5 → arePlaces l ≡ false
 unfolding arePlaces
 few [] h k = absurd (omega arith)
 few (t ∷ []) h k = refl
@@ -27,7 +27,7 @@ few (t ∷ a ∷ b ∷ []) h k = refl
 few (t ∷ a ∷ b ∷ c ∷ []) h k = refl
 few (t ∷ a ∷ b ∷ c ∷ d ∷ l) h k = absurd (omega arith)
 
-five : (l : List ℕ) → 5 ≤ length l → arePlaces l ≡ (eqb (getD l 0 0) 9 && (allHex (take 4 (drop 1 l)) && arePlaces (drop 5 l)))
+pub five : (l : List ℕ) → 5 ≤ length l → arePlaces l ≡ (eqb (getD l 0 0) 9 && (allHex (take 4 (drop 1 l)) && arePlaces (drop 5 l)))
 unfolding arePlaces
 five [] h = absurd (omega arith)
 five (t ∷ []) h = absurd (omega arith)
@@ -70,22 +70,22 @@ module _ (s : List ℕ) (i : ℕ) where
 
 -- how each line begins
 module _ (line : List ℕ) where
-  pub start-short : length line < 6 → false ≡ isLine line
-  unfolding isLine isStart
+  pub start-short : length line < 6 → false ≡ isLineAt line
+  unfolding isLineAt isStartAt
   start-short h = rw (lt-leb 6 (length line) h)
 
   module _ (h : 6 ≤ length line) where
-    pub start-tab : (getD line 1 0 ≡ 9 → ⊥) → false ≡ isLine line
-    unfolding isLine isStart
+    pub start-tab : (getD line 1 0 ≡ 9 → ⊥) → false ≡ isLineAt line
+    unfolding isLineAt isStartAt
     start-tab n = rw (le-leb 6 (length line) h, ne-eqb (getD line 1 0) 9 n)
 
     module _ (t : getD line 1 0 ≡ 9) (b : Bool) (e : b ≡ allHex (take 4 (drop 2 line))) where
-      pub start-hex : b ≡ false → false ≡ isLine line
-      unfolding isLine isStart
+      pub start-hex : b ≡ false → false ≡ isLineAt line
+      unfolding isLineAt isStartAt
       start-hex f = rw (le-leb 6 (length line) h, eq-eqb (getD line 1 0) 9 t, ← e, f)
 
-      pub started : b ≡ true → byLetter (getD line 0 0) line ≡ isLine line
-      unfolding isLine isStart
+      pub started : b ≡ true → byLetterAt (getD line 0 0) line ≡ isLineAt line
+      unfolding isLineAt isStartAt
       started f = rw (le-leb 6 (length line) h, eq-eqb (getD line 1 0) 9 t, ← e, f)
 
     -- nothing after the position

@@ -6,26 +6,19 @@ use mathlib.Core.List.{List, [], _∷_}
 use Prim.Native.Nat.{ℕ, suc, _+_, _-_, _≤_, _<_}
 use native.Mathlib.Nat.{le-of-lt}
 use native.Mathlib.Omega.{arith}
-use borrow.Author.Tests.{leb-true, le-leb, lt-leb}
-use lib.Dec.{leb}
+use borrow.Author.Tests.{le-leb, lt-leb}
 use lib.IntN.{pos}
 use lib.ListN.{length, take, drop, length-drop}
 use lib.Seq.{length-take-le}
 use Rattle.instruction.specs.Answer.{accepted, refused, refuse, judge}
 use Rattle.text.specs.Cut.{upTo}
-use Rattle.instruction.proofs.Ands.{first-part}
 use Rattle.text.proofs.Cuts.{the-piece, piece-inside}
-use Rattle.read_back.specs.Line.{isStart, isLine, recordOf}
+use Rattle.read_back.specs.Line.{isLine, recordOf}
 use Rattle.read_back.specs.Order.{follows, lineAfter, placeAfter}
 use Rattle.read_back.specs.Read.{Found, listed, ended, isGood, lineAnswer, readAnswer}
 use Rattle.read_back.specs.declared.place.Place.{Place}
 use Rattle.read_back.specs.declared.place.Record.{Record}
 use Rattle.read_back.proofs.Records.{placed}
-
--- a line has a letter, a tab and a position
-pub line-long : (l : List ℕ) → isLine l ≡ true → 6 ≤ length l
-unfolding isLine isStart
-line-long l e = leb-true 6 (length l) (first-part (leb 6 (length l)) _ (first-part (isStart l) _ e))
 
 pub past : (text : List ℕ) (place : Place) → length text ≤ place .at → accepted ended ≡ readAnswer text place
 unfolding readAnswer

@@ -6,7 +6,8 @@ use mathlib.Core.List.{List}
 use Prim.Native.Nat.{ℕ, _-_, _/_, _≤_}
 use lib.ListN.{length, getD, length-drop}
 use Rattle.text.proofs.Pairs.{pairs}
-use Rattle.read_back.specs.Line.{positionOn, digitsOn, hasBytes, recordOf}
+use Rattle.read_back.specs.Line.{hasBytes}
+use Rattle.read_back.specs.Offsets.{positionAt, digitsAt, recordAt}
 use Rattle.read_back.specs.declared.place.Place.{Place}
 use Rattle.read_back.specs.declared.place.Record.{Record}
 
@@ -17,12 +18,12 @@ pub made : (r : Record) (c p n : ℕ) → (r .letter ≡ c) × (r .position ≡ 
 made r c p n e = rw (← e .0, ← e .1, ← e .2)
 
 module _ (line : List ℕ) where
-  pub with-bytes : (p : ℕ) → p ≡ positionOn line → hasBytes (getD line 0 0) ≡ true → (d : List ℕ) → d ≡ digitsOn line → the (getD line 0 0) p (length d / 2) ≡ recordOf line
-  unfolding recordOf
-  with-bytes p e h d f = rw (h, pairs (digitsOn line) (length (digitsOn line) / 2) refl, e, f)
+  pub with-bytes : (p : ℕ) → p ≡ positionAt line → hasBytes (getD line 0 0) ≡ true → (d : List ℕ) → d ≡ digitsAt line → the (getD line 0 0) p (length d / 2) ≡ recordAt line
+  unfolding recordAt
+  with-bytes p e h d f = rw (h, pairs (digitsAt line) (length (digitsAt line) / 2) refl, e, f)
 
-  pub with-places : 6 ≤ length line → (p : ℕ) → p ≡ positionOn line → hasBytes (getD line 0 0) ≡ false → the (getD line 0 0) p ((length line - 6) / 5) ≡ recordOf line
-  unfolding recordOf
+  pub with-places : 6 ≤ length line → (p : ℕ) → p ≡ positionAt line → hasBytes (getD line 0 0) ≡ false → the (getD line 0 0) p ((length line - 6) / 5) ≡ recordAt line
+  unfolding recordAt
   with-places k p e h = rw (h, e, length-drop 6 line)
 
 -- a place, put together

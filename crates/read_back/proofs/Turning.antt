@@ -11,11 +11,12 @@ use lib.IntN.{pos}
 use lib.ListN.{length, take, drop}
 use lib.Seq.{sets}
 use Rattle.instruction.specs.Answer.{Answer, accepted, refused, refuse, judge, after}
+use Rattle.instruction.proofs.Ands.{first-part}
 use Rattle.instruction.proofs.Sign.{never}
 use Rattle.text.specs.Cut.{upTo}
 use Rattle.text.proofs.Cuts.{end-inside, take-first}
-use Rattle.read_back.specs.Line.{positionOn, recordOf}
-use Rattle.read_back.specs.Order.{placeAfter}
+use Rattle.read_back.specs.Line.{positionOn, isLine, recordOf}
+use Rattle.read_back.specs.Order.{follows, placeAfter}
 use Rattle.read_back.specs.Read.{Found, listed, ended, readOf, isGood, lineAnswer, readAnswer}
 use Rattle.read_back.specs.Sheet.{listedOn, agree, reach, markedBy}
 use Rattle.read_back.specs.Turn.{turnAnswer, turnCells, turnMarks}
@@ -96,6 +97,9 @@ module _ (text : List ℕ) (place : Place) (h : place .at < length text) where
     its-line =
         let k : n .at - 1 - place .at ≡ length line = omega (arith, end) in
         ap (λ (m : ℕ). take m (drop (place .at) text)) k ∙ take-first 10 (drop (place .at) text)
+
+    pub its-good : isLine (take (n .at - 1 - place .at) (drop (place .at) text)) ≡ true
+    its-good = ap isLine its-line ∙ first-part (isLine line) (follows place (recordOf line)) (t .good)
 
     pub its-record : r ≡ recordOf (take (n .at - 1 - place .at) (drop (place .at) text))
     its-record = t .is ∙ ap recordOf (sym its-line)

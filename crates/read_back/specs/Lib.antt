@@ -1,5 +1,6 @@
 pub mod Order
 pub mod Line
+pub mod Offsets
 pub mod Read
 pub mod Sheet
 pub mod Turn

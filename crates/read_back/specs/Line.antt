@@ -1,58 +1,58 @@
--- One line of a listing, without its byte 10. Document 02, W1: `L`, `O` and `A` are judged by form only; an `I` line has the mnemonic and
--- the fields of its bytes; `D` holds 1 to 16 bytes.
+-- One line of a listing, without its byte 10. Document 01, 'The listing': tab-parted; each line has a letter and a position, and then by its
+-- letter. Document 02, W1: `L`, `O` and `A` are judged by form only; an `I` line has the mnemonic and the fields of its bytes; `D` holds 1
+-- to 16 bytes.
 -- Assumes nothing.
-use Prim.Native.Nat.{ℕ, _/_}
+use Prim.Native.Nat.{ℕ}
 use Prim.Native.Char.{code}
 use mathlib.Core.Bool.{Bool, true, false, cond, _&&_}
 use mathlib.Core.List.{List, [], _∷_, _++_}
-use lib.Dec.{eqb, leb}
-use lib.ListN.{length, getD, take, drop}
+use lib.Dec.{eqb}
+use lib.ListN.{length, getD, drop}
 use Rattle.text.specs.Bytes.{bytesOf, isBytes}
-use Rattle.text.specs.Cut.{upTo}
-use Rattle.text.specs.Four.{fourOf}
-use Rattle.text.specs.Hex.{allHex}
+use Rattle.text.specs.Cut.{fields}
+use Rattle.text.specs.Four.{isFour, allFour, fourOf}
 use Rattle.listing.specs.Lines.{codeLine}
 use Rattle.read_back.specs.declared.place.Record.{Record}
 
--- its letter
+-- its field with the number k, from 0; an empty one where there is none
+abbrev pub fieldOn : ℕ → List ℕ → List ℕ
+fieldOn k line = getD (fields line) k []
+
+-- its letter: the first byte
 abbrev pub letterOn : List ℕ → ℕ
 letterOn line = getD line 0 0
 
--- its position
+-- its position: the field after the letter
 abbrev pub positionOn : List ℕ → ℕ
-positionOn line = fourOf (drop 2 line)
+positionOn line = fourOf (fieldOn 1 line)
 
--- its bytes: the digits from its eighth byte to a tab or the end
-abbrev pub digitsOn : List ℕ → List ℕ
-digitsOn line = upTo 9 (drop 7 line)
-
+-- its bytes: the field after the position
 abbrev pub bytesOn : List ℕ → List ℕ
-bytesOn line = bytesOf (digitsOn line)
+bytesOn line = bytesOf (fieldOn 2 line)
 
--- each line begins with a letter, a tab and a position of four digits
+-- all its fields after the position
+abbrev pub furtherOn : List ℕ → List (List ℕ)
+furtherOn line = drop 2 (fields line)
+
+-- each line begins with a letter alone and a position of four digits
 unfoldable pub isStart : List ℕ → Bool
-isStart line = leb 6 (length line) && (eqb (getD line 1 0) 9 && allHex (take 4 (drop 2 line)))
-
--- a tab and four digits, for each further position
-unfoldable pub arePlaces : List ℕ → Bool
-arePlaces [] = true
-arePlaces (t ∷ []) = false
-arePlaces (t ∷ a ∷ []) = false
-arePlaces (t ∷ a ∷ b ∷ []) = false
-arePlaces (t ∷ a ∷ b ∷ c ∷ []) = false
-arePlaces (t ∷ a ∷ b ∷ c ∷ d ∷ rest) = eqb t 9 && (allHex (a ∷ b ∷ c ∷ d ∷ []) && arePlaces rest)
+isStart line = eqb (length (fieldOn 0 line)) 1 && isFour (fieldOn 1 line)
 
 -- what stands after the position: nothing in `L`
-abbrev pub isLabelRest : List ℕ → Bool
-isLabelRest rest = eqb (length rest) 0
+abbrev pub isLabel : List (List ℕ) → Bool
+isLabel [] = true
+isLabel (f ∷ fs) = false
 
 -- one position or more in `O` and `A`
-abbrev pub isFoundRest : List ℕ → Bool
-isFoundRest rest = leb 1 (length rest) && arePlaces rest
+abbrev pub isFound : List (List ℕ) → Bool
+isFound [] = false
+isFound (f ∷ fs) = allFour (f ∷ fs)
 
--- a tab and 1 to 16 bytes in `D`
-abbrev pub isDataRest : List ℕ → Bool
-isDataRest rest = eqb (getD rest 0 0) 9 && isBytes 16 (drop 1 rest)
+-- one field of 1 to 16 bytes in `D`
+abbrev pub isData : List (List ℕ) → Bool
+isData [] = false
+isData (f ∷ []) = isBytes 16 f
+isData (f ∷ g ∷ fs) = false
 
 -- two texts are the same
 unfoldable pub same : List ℕ → List ℕ → Bool
@@ -61,18 +61,18 @@ same [] (b ∷ t) = false
 same (a ∷ s) [] = false
 same (a ∷ s) (b ∷ t) = eqb a b && same s t
 
--- `I`, judged whole: the line is the one that the writer prints for its bytes at its position
-unfoldable pub isCode : List ℕ → Bool
-isCode line = same (line ++ 10 ∷ []) (codeLine (positionOn line) (bytesOn line))
+-- `I`, judged whole: the line is the one that the writer prints for these bytes at this position
+unfoldable pub isCode : ℕ → List ℕ → List ℕ → Bool
+isCode p bytes line = same (line ++ 10 ∷ []) (codeLine p bytes)
 
 -- by the letter
 abbrev pub byLetter : ℕ → List ℕ → Bool
 byLetter c line =
-    cond (eqb c (code "L")) (isLabelRest (drop 6 line))
-    (cond (eqb c (code "O")) (isFoundRest (drop 6 line))
-    (cond (eqb c (code "A")) (isFoundRest (drop 6 line))
-    (cond (eqb c (code "I")) (isCode line)
-    (cond (eqb c (code "D")) (isDataRest (drop 6 line)) false))))
+    cond (eqb c (code "L")) (isLabel (furtherOn line))
+    (cond (eqb c (code "O")) (isFound (furtherOn line))
+    (cond (eqb c (code "A")) (isFound (furtherOn line))
+    (cond (eqb c (code "I")) (isCode (positionOn line) (bytesOn line) line)
+    (cond (eqb c (code "D")) (isData (furtherOn line)) false))))
 
 unfoldable pub isLine : List ℕ → Bool
 isLine line = isStart line && byLetter (letterOn line) line
@@ -81,10 +81,10 @@ isLine line = isStart line && byLetter (letterOn line) line
 abbrev pub hasBytes : ℕ → Bool
 hasBytes c = cond (eqb c (code "I")) true (eqb c (code "D"))
 
--- the letter, the position, and how many bytes or further positions there are
+-- the letter, the position, and how many bytes or further fields there are
 unfoldable pub recordOf : List ℕ → Record
 recordOf line = record {
   letter = letterOn line;
   position = positionOn line;
-  count = cond (hasBytes (letterOn line)) (length (bytesOn line)) (length (drop 6 line) / 5);
+  count = cond (hasBytes (letterOn line)) (length (bytesOn line)) (length (furtherOn line));
 }

@@ -1,8 +1,10 @@
 // One line, without its byte 10.
 ghost use mathlib.Core.Path.{_≡_};
+ghost use mathlib.Core.Bool.{true};
 ghost use Prim.Native.Nat.{_≤_};
 ghost use lib.ListN.{length};
-ghost use Rattle.read_back.specs.Line.{arePlaces, isFoundRest, isDataRest, hasBytes, digitsOn, same, isCode, isLine, recordOf};
+ghost use Rattle.read_back.specs.Line.{hasBytes, same, isCode, isLine, recordOf};
+ghost use Rattle.read_back.specs.Offsets.{arePlaces, isFoundRest, isDataRest, positionAt, digitsAt, bytesAt};
 use crate::place::Record;
 use text::bytes;
 use text::cut;
@@ -68,7 +70,7 @@ pub fn has_bytes(letter: u8) -> bool
 
 // The digits of the bytes on a line: its third field.
 pub fn digits(line: &[u8]) -> &[u8]
-    ensures { λ r. ⌜ now r ≡ digitsOn (now (line .entry)) ⌝ }
+    ensures { λ r. ⌜ now r ≡ digitsAt (now (line .entry)) ⌝ }
 {
     if line.len() <= START {
         return &line[0..0];
@@ -96,7 +98,7 @@ fn same(a: &[u8], b: &[u8]) -> bool
 // `I`: the line is written again, from its bytes and its position, and compared.
 fn is_code(line: &[u8]) -> bool
     requires { ⌜ 6 ≤ length (now line) ⌝ }
-    ensures { λ r. ⌜ r ≡ isCode (now (line .entry)) ⌝ }
+    ensures { λ r. ⌜ r ≡ isCode (positionAt (now (line .entry))) (bytesAt (now (line .entry))) (now (line .entry)) ⌝ }
 {
     let n = line.len();
     if WIDEST < n {
@@ -140,7 +142,7 @@ pub fn is_line(line: &[u8]) -> bool
 
 // What a line says.
 pub fn record(line: &[u8]) -> Record
-    requires { ⌜ 6 ≤ length (now line) ⌝ }
+    requires { ⌜ isLine (now line) ≡ true ⌝ }
     ensures { λ r. ⌜ r ≡ recordOf (now (line .entry)) ⌝ }
 {
     let letter = line[0];

@@ -95,13 +95,13 @@ module _ (image m : List ℕ) (B : Bytes image) (small : length image ≤ 65536)
         let L = lays image listed p (sheet .cells) (S .sound) P (omega arith) in
         let i : Instr = instrHere image p in
         let name : List ℕ = mnemonicOf (partsOf i .form) in
+        let a : allAbove (hexes listed ∷ name ∷ operands p i) ≡ true = rw (bytes-above listed, name-above (partsOf i .form) (code-form image B p inside f)) (operands-above p i) in
         rw (
           code-text image B p inside f,
-          cuts-line rest (code "I") (hex4 p ∷ hexes listed ∷ name ∷ operands p i) refl
-              (rw (four-above p, bytes-above listed, name-above (partsOf i .form) (code-form image B p inside f)) (operands-above p i)),
+          cuts-line rest (code "I") (hex4 p ∷ hexes listed ∷ name ∷ operands p i) refl (rw (four-above p) a),
         )
         (read-line image _ place sheet (body (code "I") p (hexes listed ∷ name ∷ operands p i)) (lines rest) (code "I") p 4 listed
-        (said-code p listed name (operands p i) (omega (arith, inside)) (part-small image B listed p P) (code-own image B p inside f small)) O
+        (said-code p listed name (operands p i) (omega (arith, inside)) a (part-small image B listed p P) (code-own image B p inside f small)) O
         (lit≤ tt) (λ h. lit< tt) (part-agrees image listed p (sheet .cells) (S .sound) P) (part-inside image listed p (omega arith))
         (λ after O. go after (wrote sheet (code "I") p listed) (open-past (omega arith) O)
         (stand-next image m p 0 (length listed) sheet (wrote sheet (code "I") p listed) S L (omega (arith, b, there image B p inside f .least)) (λ t. omega arith)

@@ -9,10 +9,10 @@ use lib.Dec.{eqb, leb}
 use lib.ListN.{length}
 use borrow.Author.Tests.{eqb-true, ne-eqb}
 use Rattle.text.specs.Cut.{before, cut, upTo, fields}
-use Rattle.text.specs.Four.{isFour}
+use Rattle.text.specs.Four.{isFour, allFour}
 use Rattle.text.specs.Hex.{isDigit, allHex}
 use Rattle.instruction.proofs.Ands.{first-part, second-part}
-use Rattle.list_text.specs.Entries.{allEntries, isEntries}
+use Rattle.list_text.specs.Entries.{isEntries}
 use Rattle.read_back_laws.proofs.ByteDigits.{not-ten}
 
 -- every piece is digits
@@ -20,11 +20,11 @@ abbrev All : List (List ℕ) → Type 0
 All [] = Unit {0}
 All (f ∷ fs) = (allHex f ≡ true) × All fs
 
-all-four : (fs : List (List ℕ)) → allEntries fs ≡ true → All fs
-unfolding allEntries isFour
+all-four : (fs : List (List ℕ)) → allFour fs ≡ true → All fs
+unfolding allFour isFour
 all-four [] e = tt
 all-four (f ∷ fs) e =
-    (second-part (eqb (length f) 4) (allHex f) (first-part (isFour f) (allEntries fs) e), all-four fs (second-part (isFour f) (allEntries fs) e))
+    (second-part (eqb (length f) 4) (allHex f) (first-part (isFour f) (allFour fs) e), all-four fs (second-part (isFour f) (allFour fs) e))
 
 without : (b : ℕ) (fs : List (List ℕ)) → All (before b fs) → (isDigit b ≡ true) × All fs
 unfolding allHex
@@ -45,4 +45,4 @@ unfolding isEntries upTo
 entry-line [] g = refl
 entry-line (b ∷ l) g =
     let fs = fields (b ∷ l) in
-    pieces-whole (b ∷ l) (all-four fs (first-part (allEntries fs) (leb (length fs) 256) g))
+    pieces-whole (b ∷ l) (all-four fs (first-part (allFour fs) (leb (length fs) 256) g))

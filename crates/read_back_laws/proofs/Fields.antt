@@ -1,4 +1,4 @@
--- A line's fields hold no tab and no byte 10, so a line is cut off whole, and a field ends at the next tab.
+-- A line's fields hold no tab and no byte 10, so a line is cut off whole, and its fields are those that it was put together of.
 -- Assumes nothing.
 use mathlib.Core.Path.{_≡_, refl, ap}
 use mathlib.Core.Bool.{Bool, true, false, _&&_}
@@ -7,21 +7,17 @@ use Prim.Native.Nat.{ℕ, _<_}
 use native.Mathlib.Omega.{arith}
 use lib.Dec.{ltb, eqb}
 use borrow.Author.Tests.{ltb-true, ne-eqb}
-use Rattle.text.specs.Cut.{before, cut, upTo, lines}
+use Rattle.text.specs.Cut.{before, cut, lines}
 use Rattle.instruction.proofs.Ands.{first-part, second-part}
 use Rattle.listing.specs.Hex.{hex2, hex3, hex4, hexes}
 use Rattle.listing.specs.Line.{fieldsText, line}
+use Rattle.read_back.proofs.Pieces.{tabbed, NoTab, NoTabs}
 use Rattle.read_back_laws.proofs.Digits.{digit-above}
 
 -- every byte is above 10
 abbrev pub above : List ℕ → Bool
 above [] = true
 above (b ∷ l) = ltb 10 b && above l
-
--- a tab and the field, for each field
-abbrev pub tabbed : List (List ℕ) → List ℕ
-tabbed [] = []
-tabbed (f ∷ fs) = 9 ∷ f ++ tabbed fs
 
 abbrev pub allAbove : List (List ℕ) → Bool
 allAbove [] = true
@@ -43,13 +39,14 @@ bytes-above (b ∷ bs) = simp digit-above (bytes-above bs)
 other : (b : ℕ) (s : ℕ) → s < 11 → ltb 10 b ≡ true → eqb b s ≡ false
 other b s h e = let k : 10 < b = ltb-true 10 b e in ne-eqb b s (λ q. omega arith)
 
--- a field up to its tab, or to the end
-pub field-ends : (f t : List ℕ) → above f ≡ true → upTo 9 t ≡ [] → upTo 9 (f ++ t) ≡ f
-unfolding upTo
-field-ends [] t h e = e
-field-ends (b ∷ f) t h e =
-    rw (other b 9 (omega arith) (first-part (ltb 10 b) (above f) h))
-    (ap (λ (l : List ℕ). b ∷ l) (field-ends f t (second-part (ltb 10 b) (above f) h) e))
+-- no field has a tab
+no-tab : (f : List ℕ) → above f ≡ true → NoTab f
+no-tab [] h = tt
+no-tab (b ∷ f) h = (other b 9 (omega arith) (first-part (ltb 10 b) (above f) h), no-tab f (second-part (ltb 10 b) (above f) h))
+
+pub no-tabs : (fs : List (List ℕ)) → allAbove fs ≡ true → NoTabs fs
+no-tabs [] h = tt
+no-tabs (f ∷ fs) h = (no-tab f (first-part (above f) (allAbove fs) h), no-tabs fs (second-part (above f) (allAbove fs) h))
 
 module _ (rest : List ℕ) where
   -- this text is this line, with its byte 10

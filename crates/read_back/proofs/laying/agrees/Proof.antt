@@ -17,7 +17,7 @@ returns c =
     let h = c .before in
     let s = h .before .before .before in
     let a = s .args in
-    ap (agree (a .cells .now) (positionOn (a .line .now))) (none-listed (a .line .now) (a .r) (s .pre) _ (h .has-bytes .ensures) (not-true _ (c .if1 .taken)))
+    ap (agree (a .cells .now) (positionOn (a .line .now))) (none-listed (a .line .now) (a .r) (s .pre .1) _ (h .has-bytes .ensures) (not-true _ (c .if1 .taken)))
 
 returns-2 : tie.Need-returns-2
 returns-2 c =
@@ -27,8 +27,8 @@ returns-2 c =
     let s = h .before .before .before in
     let a = s .args in
     c .agree .ensures
-    ∙ ap (λ (p : ℕ). agree (a .cells .now) p (bytesOf (d .digits .result .now))) (position-is (a .line .now) (a .r) (s .pre))
-    ∙ ap (agree (a .cells .now) (positionOn (a .line .now))) (bytes-listed (a .line .now) (a .r) (s .pre) _ (h .has-bytes .ensures) (not-false _ (f .if1 .left)) (d .digits .result .now) (d .digits .ensures))
+    ∙ ap (λ (p : ℕ). agree (a .cells .now) p (bytesOf (d .digits .result .now))) (position-is (a .line .now) (a .r) (s .pre .1))
+    ∙ ap (agree (a .cells .now) (positionOn (a .line .now))) (bytes-listed (a .line .now) (a .r) (s .pre .1) _ (h .has-bytes .ensures) (not-false _ (f .if1 .left)) (s .pre .0) (d .digits .result .now) (d .digits .ensures))
 
 pub agrees-spec : {M : Type 1} → statement M
 agrees-spec =

@@ -20,15 +20,15 @@ returns c =
     let s = h .before .before .before in
     let a = s .args in
     u .put .ensures
-    ∙ ap (λ (p : ℕ). sets (a .cells .now) p (map suc (bytesOf (d .digits .result .now)))) (position-is (a .line .now) (a .r) (s .pre))
-    ∙ ap (λ (bs : List ℕ). sets (a .cells .now) (positionOn (a .line .now)) (map suc bs)) (bytes-listed (a .line .now) (a .r) (s .pre) _ (h .has-bytes .ensures) (t .if1 .taken) (d .digits .result .now) (d .digits .ensures))
+    ∙ ap (λ (p : ℕ). sets (a .cells .now) p (map suc (bytesOf (d .digits .result .now)))) (position-is (a .line .now) (a .r) (s .pre .1))
+    ∙ ap (λ (bs : List ℕ). sets (a .cells .now) (positionOn (a .line .now)) (map suc bs)) (bytes-listed (a .line .now) (a .r) (s .pre .1) _ (h .has-bytes .ensures) (t .if1 .taken) (s .pre .0) (d .digits .result .now) (d .digits .ensures))
 
 returns-2 : tie.Need-returns-2
 returns-2 c =
     let h = c .before in
     let s = h .before .before .before in
     let a = s .args in
-    ap (λ (bs : List ℕ). sets (a .cells .now) (positionOn (a .line .now)) (map suc bs)) (none-listed (a .line .now) (a .r) (s .pre) _ (h .has-bytes .ensures) (c .if1 .left))
+    ap (λ (bs : List ℕ). sets (a .cells .now) (positionOn (a .line .now)) (map suc bs)) (none-listed (a .line .now) (a .r) (s .pre .1) _ (h .has-bytes .ensures) (c .if1 .left))
 
 pub list-spec : {M : Type 1} → statement M
 list-spec = tie.close (tie.spec (λ c κs. search needs) (λ c κs. search needs) (λ c. search needs) (λ c κs. search needs) (λ c. search needs) returns returns-2)

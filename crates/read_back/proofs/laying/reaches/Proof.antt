@@ -22,7 +22,7 @@ returns : tie.Need-returns
 returns c =
     let h = c .before in
     let a = start h .args in
-    ap (reach (a .n) (positionOn (a .line .now))) (none-listed (a .line .now) (a .r) (start h .pre) _ (h .has-bytes .ensures) (not-true _ (c .if1 .taken)))
+    ap (reach (a .n) (positionOn (a .line .now))) (none-listed (a .line .now) (a .r) (start h .pre .1) _ (h .has-bytes .ensures) (not-true _ (c .if1 .taken)))
 
 -- half as many bytes as digits
 half : (d : tie.After-digits) → length (listedOn (start (d .before .before) .args .line .now)) ≡ length (d .digits .result .now) / 2
@@ -30,7 +30,7 @@ half d =
     let f = d .before in
     let h = f .before in
     let a = start h .args in
-    ap length (sym (bytes-listed (a .line .now) (a .r) (start h .pre) _ (h .has-bytes .ensures) (not-false _ (f .if1 .left)) (d .digits .result .now) (d .digits .ensures)))
+    ap length (sym (bytes-listed (a .line .now) (a .r) (start h .pre .1) _ (h .has-bytes .ensures) (not-false _ (f .if1 .left)) (start h .pre .0) (d .digits .result .now) (d .digits .ensures)))
     ∙ pairs (d .digits .result .now) _ refl
 
 returns-2 : tie.Need-returns-2
@@ -42,7 +42,7 @@ returns-3 c =
     let d = e .before in
     let s = start (d .before .before) in
     let a = s .args in
-    ap (λ (p : ℕ). ltb (a .n) (p + length (d .digits .result .now) / 2)) (position-is (a .line .now) (a .r) (s .pre))
+    ap (λ (p : ℕ). ltb (a .n) (p + length (d .digits .result .now) / 2)) (position-is (a .line .now) (a .r) (s .pre .1))
     ∙ reach-some (a .n) _ _ (listedOn (a .line .now)) (half d) (e .if2 .left)
 
 add : tie.Need-add-result

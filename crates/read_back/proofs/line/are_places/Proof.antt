@@ -6,7 +6,7 @@ use native.Mathlib.Omega.{arith}
 use borrow.Author.Needs.{needs}
 use borrow.Author.Tests.{not-true, not-false}
 use lib.ListN.{length, drop}
-use Rattle.read_back.specs.Line.{arePlaces}
+use Rattle.read_back.specs.Offsets.{arePlaces}
 use Rattle.read_back.proofs.Lines.{places-few, places-bad, places-off, places-on, places-end}
 use Rattle.read_back.proofs.line.are_places.Statement.{statement}
 use Rattle.read_back.proofs.line.are_places.Tie as tie

@@ -11,7 +11,7 @@ use Rattle.text.specs.Bytes.{bytesOf}
 use Rattle.text.specs.Four.{fourOf}
 use Rattle.targets.proofs.HereIs.{to-end}
 use Rattle.text.proofs.Putting.{puts-length}
-use Rattle.read_back.specs.Line.{positionOn, bytesOn}
+use Rattle.read_back.specs.Offsets.{positionAt, bytesAt}
 use Rattle.read_back.proofs.Codes.{digits-short, too-wide, read-bytes, other-width, other-end, compared}
 use Rattle.read_back.proofs.line.is_code.Statement.{statement}
 use Rattle.read_back.proofs.line.is_code.Tie as tie
@@ -61,10 +61,10 @@ put k = k .before .before .before .before .before .before
 abbrev from : tie.After-code-line → tie.Else1
 from k = put k .before .before .before
 
-position : (k : tie.After-code-line) → k .before .before .before .four-of .result ≡ positionOn (line (from k))
+position : (k : tie.After-code-line) → k .before .before .before .four-of .result ≡ positionAt (line (from k))
 position k = k .before .before .before .four-of .ensures ∙ ap fourOf (to-end (line (from k)) 2)
 
-bytes : (k : tie.After-code-line) → take (length (got (put k .before .before)) / 2) (put k .put .last .1 .0) ≡ bytesOn (line (from k))
+bytes : (k : tie.After-code-line) → take (length (got (put k .before .before)) / 2) (put k .put .last .1 .0) ≡ bytesAt (line (from k))
 bytes k =
     let u = put k in
     let d = u .before .before in

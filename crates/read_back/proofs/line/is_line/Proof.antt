@@ -9,7 +9,9 @@ use borrow.Author.Needs.{needs}
 use borrow.Author.Tests.{not-true, not-false}
 use lib.ListN.{getD}
 use Rattle.targets.proofs.HereIs.{to-end}
-use Rattle.read_back.specs.Line.{isFoundRest, isDataRest, byLetter, isLine}
+use Rattle.read_back.specs.Line.{isLine}
+use Rattle.read_back.specs.Offsets.{isFoundRest, isDataRest, byLetterAt}
+use Rattle.read_back.proofs.ByFields.{line-is}
 use Rattle.read_back.proofs.NoLetters.{no-line}
 use Rattle.read_back.proofs.Lines.{start-short, start-tab, start-hex, started, ended}
 use Rattle.read_back.proofs.line.is_line.Statement.{statement}
@@ -19,32 +21,32 @@ abbrev line : tie.Else1 → List ℕ
 line e = e .before .before .args .line .now
 
 returns : tie.Need-returns
-returns c = start-short (c .before .before .args .line .now) (c .if1 .taken)
+returns c = let l = c .before .before .args .line .now in start-short l (c .if1 .taken) ∙ line-is l
 
 returns-2 : tie.Need-returns-2
-returns-2 c = let e = c .before .before in start-tab (line e) (e .if1 .left) (c .if2 .taken)
+returns-2 c = let e = c .before .before in start-tab (line e) (e .if1 .left) (c .if2 .taken) ∙ line-is (line e)
 
 returns-3 : tie.Need-returns-3
 returns-3 c =
     let h = c .before in
     let f = h .before .before in
     let e = f .before .before in
-    start-hex (line e) (e .if1 .left) (f .if2 .left) _ (h .is-hex .ensures) (not-true _ (c .if3 .taken))
+    start-hex (line e) (e .if1 .left) (f .if2 .left) _ (h .is-hex .ensures) (not-true _ (c .if3 .taken)) ∙ line-is (line e)
 
 abbrev there : tie.After-shared-slice-known3 → tie.Else1
 there k = k .before .before .before .before .before .before
 
 -- what the letter says is what the line is
-rest : (k : tie.After-shared-slice-known3) → byLetter (getD (line (there k)) 0 0) (line (there k)) ≡ isLine (line (there k))
+rest : (k : tie.After-shared-slice-known3) → byLetterAt (getD (line (there k)) 0 0) (line (there k)) ≡ isLine (line (there k))
 rest k =
     let g = k .before in
     let h = g .before in
     let f = h .before .before in
     let e = f .before .before in
-    started (line e) (e .if1 .left) (f .if2 .left) _ (h .is-hex .ensures) (not-false _ (g .if3 .left))
+    started (line e) (e .if1 .left) (f .if2 .left) _ (h .is-hex .ensures) (not-false _ (g .if3 .left)) ∙ line-is (line e)
 
-lettered : (k : tie.After-shared-slice-known3) (c : ℕ) → getD (line (there k)) 0 0 ≡ c → (b : Bool) → b ≡ byLetter c (line (there k)) → b ≡ isLine (line (there k))
-lettered k c e b f = f ∙ ap (λ (x : ℕ). byLetter x (line (there k))) (sym e) ∙ rest k
+lettered : (k : tie.After-shared-slice-known3) (c : ℕ) → getD (line (there k)) 0 0 ≡ c → (b : Bool) → b ≡ byLetterAt c (line (there k)) → b ≡ isLine (line (there k))
+lettered k c e b f = f ∙ ap (λ (x : ℕ). byLetterAt x (line (there k))) (sym e) ∙ rest k
 
 returns-4 : tie.Need-returns-4
 returns-4 c = let k = c .before in lettered k (code "L") (c .match .keys1) _ (ended (line (there k)) (there k .if1 .left))

@@ -9,7 +9,7 @@ use borrow.Author.Needs.{needs}
 use borrow.Author.Tests.{not-true, not-false}
 use lib.ListN.{take, drop}
 use Rattle.read_back.specs.Line.{isLine}
-use Rattle.read_back.proofs.Reading.{line-long, past, inside, bad-line, bad-order, good}
+use Rattle.read_back.proofs.Reading.{past, inside, bad-line, bad-order, good}
 use Rattle.read_back.proofs.read.read_line.Statement.{statement}
 use Rattle.read_back.proofs.read.read_line.Tie as tie
 
@@ -36,7 +36,7 @@ is : (f : tie.Else2) → let e = f .before .before .before in isLine (take (e .e
 is f = sym (f .before .is-line .ensures) ∙ not-false _ (f .if2 .left)
 
 record-requires : tie.Need-record-requires
-record-requires f κs = line-long _ (is f)
+record-requires f κs = is f
 
 returns-3 : tie.Need-returns-3
 returns-3 c =

@@ -10,12 +10,12 @@ use lib.ListN.{length, take, drop}
 use lib.Seq.{sets}
 use Rattle.instruction.proofs.Parted.{parted}
 use Rattle.text.proofs.Cases.{neither}
-use Rattle.read_back.specs.Line.{positionOn, recordOf}
+use Rattle.read_back.specs.Line.{positionOn, isLine, recordOf}
 use Rattle.read_back.specs.Read.{isGood}
 use Rattle.read_back.specs.Sheet.{listedOn, agree, reach, markedBy}
 use Rattle.read_back.specs.declared.place.Place.{Place}
 use Rattle.read_back.specs.declared.place.Record.{Record}
-use Rattle.read_back.proofs.Turning.{line, Taken, taken, untaken, after-0, starts, ends, its-line, its-record, left-bad, left-past, left-on}
+use Rattle.read_back.proofs.Turning.{line, Taken, taken, untaken, after-0, starts, ends, its-line, its-good, its-record, left-bad, left-past, left-on}
 use Rattle.read_back.proofs.turn.read_on.Statement.{statement}
 use Rattle.read_back.proofs.turn.read_on.Tie as tie
 
@@ -57,8 +57,10 @@ got s = let k = before s in taken (text k) (place k) (start k .pre) (k .read-lin
 is : (s : tie.After-struct-known) → let k = before s in take (next s .at - 1 - place k .at) (drop (place k .at) (text k)) ≡ it k
 is s = let k = before s in its-line (text k) (place k) (start k .pre) (rec s) (next s) (got s)
 
-given : (s : tie.After-struct-known) → let k = before s in rec s ≡ recordOf (take (next s .at - 1 - place k .at) (drop (place k .at) (text k)))
-given s = let k = before s in its-record (text k) (place k) (start k .pre) (rec s) (next s) (got s)
+given : (s : tie.After-struct-known) → let k = before s in let l = take (next s .at - 1 - place k .at) (drop (place k .at) (text k)) in (isLine l ≡ true) × (rec s ≡ recordOf l)
+given s =
+    let k = before s in
+    (its-good (text k) (place k) (start k .pre) (rec s) (next s) (got s), its-record (text k) (place k) (start k .pre) (rec s) (next s) (got s))
 
 begins : (s : tie.After-struct-known) → place (before s) .at ≤ next s .at - 1
 begins s = let k = before s in starts (text k) (place k) (start k .pre) (rec s) (next s) (got s)

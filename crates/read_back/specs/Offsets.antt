@@ -1,0 +1,66 @@
+-- A line by the places of its bytes: serves inner functions alone. The letter is the first, the position stands from the third on, and what
+-- follows it from the seventh.
+-- Assumes nothing.
+use Prim.Native.Nat.{ℕ, _/_}
+use Prim.Native.Char.{code}
+use mathlib.Core.Bool.{Bool, true, false, cond, _&&_}
+use mathlib.Core.List.{List, [], _∷_}
+use lib.Dec.{eqb, leb}
+use lib.ListN.{length, getD, take, drop}
+use Rattle.text.specs.Bytes.{bytesOf, isBytes}
+use Rattle.text.specs.Cut.{upTo}
+use Rattle.text.specs.Four.{fourOf}
+use Rattle.text.specs.Hex.{allHex}
+use Rattle.read_back.specs.Line.{letterOn, isCode, hasBytes}
+use Rattle.read_back.specs.declared.place.Record.{Record}
+
+abbrev pub positionAt : List ℕ → ℕ
+positionAt line = fourOf (drop 2 line)
+
+-- the digits from its eighth byte to a tab or the end
+abbrev pub digitsAt : List ℕ → List ℕ
+digitsAt line = upTo 9 (drop 7 line)
+
+abbrev pub bytesAt : List ℕ → List ℕ
+bytesAt line = bytesOf (digitsAt line)
+
+-- a byte, a tab and four digits
+unfoldable pub isStartAt : List ℕ → Bool
+isStartAt line = leb 6 (length line) && (eqb (getD line 1 0) 9 && allHex (take 4 (drop 2 line)))
+
+-- a tab and four digits, for each further position
+unfoldable pub arePlaces : List ℕ → Bool
+arePlaces [] = true
+arePlaces (t ∷ []) = false
+arePlaces (t ∷ a ∷ []) = false
+arePlaces (t ∷ a ∷ b ∷ []) = false
+arePlaces (t ∷ a ∷ b ∷ c ∷ []) = false
+arePlaces (t ∷ a ∷ b ∷ c ∷ d ∷ rest) = eqb t 9 && (allHex (a ∷ b ∷ c ∷ d ∷ []) && arePlaces rest)
+
+-- what stands after the position, by the letter
+abbrev pub isLabelRest : List ℕ → Bool
+isLabelRest rest = eqb (length rest) 0
+
+abbrev pub isFoundRest : List ℕ → Bool
+isFoundRest rest = leb 1 (length rest) && arePlaces rest
+
+abbrev pub isDataRest : List ℕ → Bool
+isDataRest rest = eqb (getD rest 0 0) 9 && isBytes 16 (drop 1 rest)
+
+abbrev pub byLetterAt : ℕ → List ℕ → Bool
+byLetterAt c line =
+    cond (eqb c (code "L")) (isLabelRest (drop 6 line))
+    (cond (eqb c (code "O")) (isFoundRest (drop 6 line))
+    (cond (eqb c (code "A")) (isFoundRest (drop 6 line))
+    (cond (eqb c (code "I")) (isCode (positionAt line) (bytesAt line) line)
+    (cond (eqb c (code "D")) (isDataRest (drop 6 line)) false))))
+
+unfoldable pub isLineAt : List ℕ → Bool
+isLineAt line = isStartAt line && byLetterAt (letterOn line) line
+
+unfoldable pub recordAt : List ℕ → Record
+recordAt line = record {
+  letter = letterOn line;
+  position = positionAt line;
+  count = cond (hasBytes (letterOn line)) (length (bytesAt line)) (length (drop 6 line) / 5);
+}
