@@ -10,6 +10,7 @@ use lib.ListN.{length, getD}
 use borrow.Author.Tests.{ltb-true, eqb-true, eqb-false}
 use Rattle.instruction.proofs.Sign.{never}
 use Rattle.instruction.proofs.Ands.{first-part, second-part}
+use Rattle.instruction.specs.declared.mode.Mode.{Mode}
 use Rattle.arrivals.specs.Arrivals.{heldAt, arrives, nextArrival}
 use Rattle.arrivals.specs.ClaimsIndex.{FirstIndexed, NextIndexed}
 use Rattle.arrivals.specs.Index.{targetOf, afterBy, indexOf, nextIn}
@@ -18,39 +19,39 @@ use Rattle.arrivals.proofs.Asking.{any-default, by-first, by-second}
 use Rattle.arrivals.proofs.Indexing.{index-length, head-at, one-at, two-at}
 
 pub first-indexed : FirstIndexed
-first-indexed image m p h = any-default (indexOf image m) p 65536 0 (omega (arith, index-length image m)) ∙ head-at image m p h
+first-indexed mode image m p h = any-default (indexOf mode image m) p 65536 0 (omega (arith, index-length mode image m)) ∙ head-at mode image m p h
 
-module _ (image m : List ℕ) (p q : ℕ) (fits : length image ≤ 65536) (h : q < length image) where
+module _ (mode : Mode) (image m : List ℕ) (p q : ℕ) (fits : length image ≤ 65536) (h : q < length image) where
   -- p is a target that q had: its first, or its second
-  by-one : p ≡ targetOf image m 0 q → getD (indexOf image m) (length image + q) 65536 ≡ nextArrival image m p (q + 1)
+  by-one : p ≡ targetOf mode image m 0 q → getD (indexOf mode image m) (length image + q) 65536 ≡ nextArrival mode image m p (q + 1)
   unfolding afterBy
   by-one e =
-      any-default (indexOf image m) (length image + q) 65536 0 (omega (arith, index-length image m)) ∙ one-at image m q h ∙ ap (λ (t : ℕ). nextArrival image m t (q + 1)) (sym e)
+      any-default (indexOf mode image m) (length image + q) 65536 0 (omega (arith, index-length mode image m)) ∙ one-at mode image m q h ∙ ap (λ (t : ℕ). nextArrival mode image m t (q + 1)) (sym e)
 
-  by-other : p ≡ targetOf image m 1 q → getD (indexOf image m) (2 * length image + q) 65536 ≡ nextArrival image m p (q + 1)
+  by-other : p ≡ targetOf mode image m 1 q → getD (indexOf mode image m) (2 * length image + q) 65536 ≡ nextArrival mode image m p (q + 1)
   unfolding afterBy
   by-other e =
-      any-default (indexOf image m) (2 * length image + q) 65536 0 (omega (arith, index-length image m)) ∙ two-at image m q h ∙ ap (λ (t : ℕ). nextArrival image m t (q + 1)) (sym e)
+      any-default (indexOf mode image m) (2 * length image + q) 65536 0 (omega (arith, index-length mode image m)) ∙ two-at mode image m q h ∙ ap (λ (t : ℕ). nextArrival mode image m t (q + 1)) (sym e)
 
-  inside : arrives image m p q ≡ true → p < length image
+  inside : arrives mode image m p q ≡ true → p < length image
   unfolding arrives
   inside e = ltb-true p (length image) (first-part (ltb p (length image)) _ e)
 
-  one-of : arrives image m p q ≡ true → (eqb p (targetOf image m 0 q) || eqb p (targetOf image m 1 q)) ≡ true
-  one-of e = second-part (ltb p (length image)) _ (sym (by-two image m p q (omega (arith, inside e))) ∙ e)
+  one-of : arrives mode image m p q ≡ true → (eqb p (targetOf mode image m 0 q) || eqb p (targetOf mode image m 1 q)) ≡ true
+  one-of e = second-part (ltb p (length image)) _ (sym (by-two mode image m p q (omega (arith, inside e))) ∙ e)
 
-  after-q : arrives image m p q ≡ true → nextIn (indexOf image m) (length image) (heldAt image m q) p q ≡ nextArrival image m p (q + 1)
-  after-q e = by (eqb p (targetOf image m 0 q)) refl (eqb p (targetOf image m 1 q)) refl (one-of e)
+  after-q : arrives mode image m p q ≡ true → nextIn (indexOf mode image m) (length image) (heldAt mode image m q) p q ≡ nextArrival mode image m p (q + 1)
+  after-q e = by (eqb p (targetOf mode image m 0 q)) refl (eqb p (targetOf mode image m 1 q)) refl (one-of e)
     where
-      by : (a : Bool) → eqb p (targetOf image m 0 q) ≡ a → (b : Bool) → eqb p (targetOf image m 1 q) ≡ b → (a || b) ≡ true
-          → nextIn (indexOf image m) (length image) (heldAt image m q) p q ≡ nextArrival image m p (q + 1)
+      by : (a : Bool) → eqb p (targetOf mode image m 0 q) ≡ a → (b : Bool) → eqb p (targetOf mode image m 1 q) ≡ b → (a || b) ≡ true
+          → nextIn (indexOf mode image m) (length image) (heldAt mode image m q) p q ≡ nextArrival mode image m p (q + 1)
       by true f b g o =
-          let e = eqb-true p (targetOf image m 0 q) f in
-          sym (by-first (indexOf image m) (heldAt image m q) (length image) p q fits e) ∙ by-one e
+          let e = eqb-true p (targetOf mode image m 0 q) f in
+          sym (by-first (indexOf mode image m) (heldAt mode image m q) (length image) p q fits e) ∙ by-one e
       by false f true g o =
-          let e = eqb-true p (targetOf image m 1 q) g in
-          sym (by-second (indexOf image m) (heldAt image m q) (length image) p q fits (eqb-false p (targetOf image m 0 q) f) e) ∙ by-other e
+          let e = eqb-true p (targetOf mode image m 1 q) g in
+          sym (by-second (indexOf mode image m) (heldAt mode image m q) (length image) p q fits (eqb-false p (targetOf mode image m 0 q) f) e) ∙ by-other e
       by false f false g o = absurd (never (sym o))
 
 pub next-indexed : NextIndexed
-next-indexed image m p q fits h e = after-q image m p q fits h e
+next-indexed mode image m p q fits h e = after-q mode image m p q fits h e

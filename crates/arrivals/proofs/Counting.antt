@@ -8,6 +8,7 @@ use native.Mathlib.Omega.{arith}
 use lib.Dec.{eqb, ltb}
 use lib.ListN.{length}
 use borrow.Author.Tests.{eqb-true, ne-eqb}
+use Rattle.instruction.specs.declared.mode.Mode.{Mode}
 use Rattle.views.specs.Positions.{upFrom, some, kept, bit}
 use Rattle.arrivals.specs.Arrivals.{heldAt, arrives, arrivalsOf}
 use Rattle.arrivals.proofs.HeldTargets.{held-few}
@@ -69,12 +70,12 @@ each-once (a ∷ l) k p =
 
 -- ---- all arrivals
 
-module _ (image m : List ℕ) where
+module _ (mode : Mode) (image m : List ℕ) where
   -- of one position
-  from-one : (q k p : ℕ) → total (λ (x : ℕ). bit (arrives image m x q)) k p ≤ 2
+  from-one : (q k p : ℕ) → total (λ (x : ℕ). bit (arrives mode image m x q)) k p ≤ 2
   unfolding arrives
   from-one q k p =
-      omega (arith, total-less (λ (x : ℕ). bit (ltb x (length image) && some (eqb x) (heldAt image m q))) (λ (x : ℕ). bit (some (eqb x) (heldAt image m q))) (λ x. bit-and (ltb x (length image)) (some (eqb x) (heldAt image m q))) k p, each-once (heldAt image m q) k p, held-few image m q)
+      omega (arith, total-less (λ (x : ℕ). bit (ltb x (length image) && some (eqb x) (heldAt mode image m q))) (λ (x : ℕ). bit (some (eqb x) (heldAt mode image m q))) (λ x. bit-and (ltb x (length image)) (some (eqb x) (heldAt mode image m q))) k p, each-once (heldAt mode image m q) k p, held-few mode image m q)
 
   kept-cons : (f : ℕ → Bool) (q : ℕ) (l : List ℕ) → length (kept f (q ∷ l)) ≡ bit (f q) + length (kept f l)
   unfolding kept
@@ -84,19 +85,19 @@ module _ (image m : List ℕ) where
       by true = omega arith
       by false = omega arith
 
-  from-none : (q k p : ℕ) → total (λ (x : ℕ). length (kept (arrives image m x) (upFrom 0 q))) k p ≡ 0 * k
+  from-none : (q k p : ℕ) → total (λ (x : ℕ). length (kept (arrives mode image m x) (upFrom 0 q))) k p ≡ 0 * k
   unfolding upFrom kept
   from-none q k p = total-same 0 k p
 
   -- of the j positions from q on
-  from-many : (j q k p : ℕ) → total (λ (x : ℕ). length (kept (arrives image m x) (upFrom j q))) k p ≤ 2 * j
+  from-many : (j q k p : ℕ) → total (λ (x : ℕ). length (kept (arrives mode image m x) (upFrom j q))) k p ≤ 2 * j
   unfolding upFrom
   from-many zero q k p = omega (arith, from-none q k p)
   from-many (suc j) q k p =
-      let rest : ℕ → ℕ = λ (x : ℕ). length (kept (arrives image m x) (upFrom j (suc q))) in
-      let one : ℕ → ℕ = λ (x : ℕ). bit (arrives image m x q) in
-      omega (arith, total-less (λ (x : ℕ). length (kept (arrives image m x) (q ∷ upFrom j (suc q)))) (λ (x : ℕ). one x + rest x) (λ x. omega (arith, kept-cons (arrives image m x) q (upFrom j (suc q)))) k p, total-add one rest k p, from-one q k p, from-many j (suc q) k p)
+      let rest : ℕ → ℕ = λ (x : ℕ). length (kept (arrives mode image m x) (upFrom j (suc q))) in
+      let one : ℕ → ℕ = λ (x : ℕ). bit (arrives mode image m x q) in
+      omega (arith, total-less (λ (x : ℕ). length (kept (arrives mode image m x) (q ∷ upFrom j (suc q)))) (λ (x : ℕ). one x + rest x) (λ x. omega (arith, kept-cons (arrives mode image m x) q (upFrom j (suc q)))) k p, total-add one rest k p, from-one q k p, from-many j (suc q) k p)
 
-  pub arrivals-few : (k p : ℕ) → total (λ (x : ℕ). length (arrivalsOf image m x)) k p ≤ 2 * length image
+  pub arrivals-few : (k p : ℕ) → total (λ (x : ℕ). length (arrivalsOf mode image m x)) k p ≤ 2 * length image
   unfolding arrivalsOf
   arrivals-few k p = from-many (length image) 0 k p

@@ -8,6 +8,7 @@ use native.Mathlib.Omega.{arith}
 use lib.Dec.{eqb, ltb}
 use lib.ListN.{length, getD}
 use borrow.Author.Tests.{ne-eqb}
+use Rattle.instruction.specs.declared.mode.Mode.{Mode}
 use Rattle.targets.specs.At.{waysHere}
 use Rattle.targets.specs.Ways.{isWhole, placesIn, placesNamed}
 use Rattle.targets.specs.declared.place.Places.{Places}
@@ -25,16 +26,16 @@ places-few Nothing = omega arith
 places-few (First a) = omega arith
 places-few (Both a b) = omega arith
 
-ways-few : (image : List ℕ) (q : ℕ) → length (waysHere image q) ≤ 2
-ways-few image q = omega (arith, ap length (two-at-most image q), places-few (placesNamed (waysHere image q)))
+ways-few : (mode : Mode) (image : List ℕ) (q : ℕ) → length (waysHere mode image q) ≤ 2
+ways-few mode image q = omega (arith, ap length (two-at-most mode image q), places-few (placesNamed (waysHere mode image q)))
 
-pub held-few : (image m : List ℕ) (q : ℕ) → length (heldAt image m q) ≤ 2
+pub held-few : (mode : Mode) (image m : List ℕ) (q : ℕ) → length (heldAt mode image m q) ≤ 2
 unfolding heldAt held
-held-few image m q = by (tracedAt image m q && isWhole image q) (eqb (getD m q 0) flash)
+held-few mode image m q = by (tracedAt image m q && isWhole image q) (eqb (getD m q 0) flash)
   where
-    by : (t f : Bool) → length (cond t (cond f [] (waysHere image q)) []) ≤ 2
+    by : (t f : Bool) → length (cond t (cond f [] (waysHere mode image q)) []) ≤ 2
     by true true = omega arith
-    by true false = ways-few image q
+    by true false = ways-few mode image q
     by false f = omega arith
 
 -- a position among at most two
@@ -45,6 +46,6 @@ among p (a ∷ []) h g = rw (ne-eqb p 65536 (λ e. omega arith))
 among p (a ∷ b ∷ []) h g = ap (λ (t : Bool). eqb p a || t) (or-start (eqb p b) false refl)
 among p (a ∷ b ∷ c ∷ l) h g = absurd (omega arith)
 
-pub by-two : (image m : List ℕ) (p q : ℕ) → p < 65536 → arrives image m p q ≡ (ltb p (length image) && (eqb p (targetOf image m 0 q) || eqb p (targetOf image m 1 q)))
+pub by-two : (mode : Mode) (image m : List ℕ) (p q : ℕ) → p < 65536 → arrives mode image m p q ≡ (ltb p (length image) && (eqb p (targetOf mode image m 0 q) || eqb p (targetOf mode image m 1 q)))
 unfolding arrives
-by-two image m p q h = ap (λ (t : Bool). ltb p (length image) && t) (among p (heldAt image m q) (held-few image m q) h)
+by-two mode image m p q h = ap (λ (t : Bool). ltb p (length image) && t) (among p (heldAt mode image m q) (held-few mode image m q) h)

@@ -7,6 +7,7 @@ use mathlib.Core.List.{List, [], _∷_}
 use lib.Dec.{eqb, ltb}
 use lib.ListN.{length}
 use Rattle.instruction.specs.Answer.{Answer}
+use Rattle.instruction.specs.declared.mode.Mode.{Mode}
 use Rattle.views.specs.View.{viewAnswer, viewRoom}
 use Rattle.targets.specs.Ways.{isWhole}
 use Rattle.reach.specs.Tracer.{held}
@@ -15,22 +16,22 @@ use Rattle.views.specs.Positions.{upFrom, positions, some, kept, tracedAt}
 
 -- the targets that the traced position q had when it was taken up. No step takes up an instruction that is cut off, nor any in an image
 -- past its limit
-unfoldable pub heldAt : List ℕ → List ℕ → ℕ → List ℕ
-heldAt image m q = cond (tracedAt image m q && isWhole image q) (held (tracerOf image) m q) []
+unfoldable pub heldAt : Mode → List ℕ → List ℕ → ℕ → List ℕ
+heldAt mode image m q = cond (tracedAt image m q && isWhole image q) (held (tracerOf mode image) m q) []
 
 -- p is inside, and among the targets that q had
-unfoldable pub arrives : List ℕ → List ℕ → ℕ → ℕ → Bool
-arrives image m p q = ltb p (length image) && some (eqb p) (heldAt image m q)
+unfoldable pub arrives : Mode → List ℕ → List ℕ → ℕ → ℕ → Bool
+arrives mode image m p q = ltb p (length image) && some (eqb p) (heldAt mode image m q)
 
-unfoldable pub arrivalsOf : List ℕ → List ℕ → ℕ → List ℕ
-arrivalsOf image m p = kept (arrives image m p) (positions image)
+unfoldable pub arrivalsOf : Mode → List ℕ → List ℕ → ℕ → List ℕ
+arrivalsOf mode image m p = kept (arrives mode image m p) (positions image)
 
 -- what the view answers, and what it leaves in the room
-abbrev pub arrivalsAnswer : List ℕ → List ℕ → ℕ → List ℕ → Answer ℕ
-arrivalsAnswer image m p room = viewAnswer image m (arrivalsOf image m p) room
+abbrev pub arrivalsAnswer : Mode → List ℕ → List ℕ → ℕ → List ℕ → Answer ℕ
+arrivalsAnswer mode image m p room = viewAnswer image m (arrivalsOf mode image m p) room
 
-abbrev pub arrivalsRoom : List ℕ → List ℕ → ℕ → List ℕ → List ℕ
-arrivalsRoom image m p room = viewRoom image m (arrivalsOf image m p) room
+abbrev pub arrivalsRoom : Mode → List ℕ → List ℕ → ℕ → List ℕ → List ℕ
+arrivalsRoom mode image m p room = viewRoom image m (arrivalsOf mode image m p) room
 
 -- the first of these positions, or else n
 abbrev pub firstOr : ℕ → List ℕ → ℕ
@@ -38,5 +39,5 @@ firstOr n [] = n
 firstOr n (q ∷ qs) = q
 
 -- the lowest arrival at p from q on; where there is none 65,536, which is outside every image
-unfoldable pub nextArrival : List ℕ → List ℕ → ℕ → ℕ → ℕ
-nextArrival image m p q = firstOr 65536 (kept (arrives image m p) (upFrom (length image - q) q))
+unfoldable pub nextArrival : Mode → List ℕ → List ℕ → ℕ → ℕ → ℕ
+nextArrival mode image m p q = firstOr 65536 (kept (arrives mode image m p) (upFrom (length image - q) q))

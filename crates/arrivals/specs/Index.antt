@@ -6,30 +6,31 @@ use mathlib.Core.Bool.{Bool, cond, _&&_}
 use mathlib.Core.List.{List, _++_, map}
 use lib.Dec.{eqb, leb, ltb}
 use lib.ListN.{length, getD}
+use Rattle.instruction.specs.declared.mode.Mode.{Mode}
 use Rattle.views.specs.Positions.{positions}
 use Rattle.arrivals.specs.Arrivals.{heldAt, nextArrival}
 
 -- the first target that q had is number 0, the second number 1; where it had none, 65,536, which is outside every image
-abbrev pub targetOf : List ℕ → List ℕ → ℕ → ℕ → ℕ
-targetOf image m j q = getD (heldAt image m q) j 65536
+abbrev pub targetOf : Mode → List ℕ → List ℕ → ℕ → ℕ → ℕ
+targetOf mode image m j q = getD (heldAt mode image m q) j 65536
 
 -- the lowest arrival after q where q went by its target number j
-unfoldable pub afterBy : List ℕ → List ℕ → ℕ → ℕ → ℕ
-afterBy image m j q = nextArrival image m (targetOf image m j q) (q + 1)
+unfoldable pub afterBy : Mode → List ℕ → List ℕ → ℕ → ℕ → ℕ
+afterBy mode image m j q = nextArrival mode image m (targetOf mode image m j q) (q + 1)
 
 -- of all positions: the lowest arrivals, the next by the first target, the next by the second
-unfoldable pub indexOf : List ℕ → List ℕ → List ℕ
-indexOf image m =
-    map (λ (p : ℕ). nextArrival image m p 0) (positions image)
-    ++ (map (afterBy image m 0) (positions image) ++ map (afterBy image m 1) (positions image))
+unfoldable pub indexOf : Mode → List ℕ → List ℕ → List ℕ
+indexOf mode image m =
+    map (λ (p : ℕ). nextArrival mode image m p 0) (positions image)
+    ++ (map (afterBy mode image m 0) (positions image) ++ map (afterBy mode image m 1) (positions image))
 
 -- a room of the index's own length, of an image that is not past its limit
 abbrev pub isIndexRoom : List ℕ → List ℕ → Bool
 isIndexRoom image room = leb (length image) 65536 && eqb (length room) (3 * length image)
 
 -- the index is put into such a room, and nothing into another
-unfoldable pub roomOf : List ℕ → List ℕ → List ℕ → List ℕ
-roomOf image m room = cond (isIndexRoom image room) (indexOf image m) room
+unfoldable pub roomOf : Mode → List ℕ → List ℕ → List ℕ → List ℕ
+roomOf mode image m room = cond (isIndexRoom image room) (indexOf mode image m) room
 
 -- what is asked of an index: the lowest arrival at p
 abbrev pub lowestIn : List ℕ → ℕ → ℕ

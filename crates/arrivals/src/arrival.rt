@@ -11,6 +11,7 @@ ghost use Rattle.views.specs.View.{viewedOf};
 ghost use Rattle.arrivals.specs.Arrivals.{arrives, arrivalsOf, nextArrival, arrivalsAnswer, arrivalsRoom};
 ghost use Rattle.instruction.specs.Answer.{laid};
 use crate::held;
+use instruction::Mode;
 use targets::Image;
 use targets::Places;
 use views::Viewed;
@@ -32,18 +33,18 @@ fn has(ps: Places, p: u32) -> bool
 }
 
 // Whether control came from q to p.
-fn arrives(image: &[u8], marks: &[u8], p: u32, q: u32) -> bool
-    ensures { λ r. ⌜ r ≡ arrives (now (image .entry)) (now (marks .entry)) p q ⌝ }
+fn arrives(mode: Mode, image: &[u8], marks: &[u8], p: u32, q: u32) -> bool
+    ensures { λ r. ⌜ r ≡ arrives mode (now (image .entry)) (now (marks .entry)) p q ⌝ }
 {
     if image.len() <= p as usize {
         return false;
     }
-    has(held::held_at(image, marks, q), p)
+    has(held::held_at(mode, image, marks, q), p)
 }
 
 // The lowest arrival at p that is not below this position; where there is none, a position outside every image.
-fn next_arrival(image: &[u8], marks: &[u8], p: u32, from: u32) -> u32
-    ensures { λ r. ⌜ r ≡ nextArrival (now (image .entry)) (now (marks .entry)) p from ⌝ }
+fn next_arrival(mode: Mode, image: &[u8], marks: &[u8], p: u32, from: u32) -> u32
+    ensures { λ r. ⌜ r ≡ nextArrival mode (now (image .entry)) (now (marks .entry)) p from ⌝ }
 {
     if Image::LIMIT < image.len() {
         return Image::NOWHERE;
@@ -51,7 +52,7 @@ fn next_arrival(image: &[u8], marks: &[u8], p: u32, from: u32) -> u32
     let n = image.len() as u32;
     let mut q = from;
     while q < n {
-        if arrives(image, marks, p, q) {
+        if arrives(mode, image, marks, p, q) {
             return q;
         }
         q += 1;
@@ -59,47 +60,47 @@ fn next_arrival(image: &[u8], marks: &[u8], p: u32, from: u32) -> u32
     Image::NOWHERE
 }
 
-fn count_arrivals(image: &[u8], marks: &[u8], p: u32) -> usize
+fn count_arrivals(mode: Mode, image: &[u8], marks: &[u8], p: u32) -> usize
     requires { ⌜ length (now image) ≤ 65536 ⌝ }
-    ensures { λ r. ⌜ r ≡ length (arrivalsOf (now (image .entry)) (now (marks .entry)) p) ⌝ }
+    ensures { λ r. ⌜ r ≡ length (arrivalsOf mode (now (image .entry)) (now (marks .entry)) p) ⌝ }
 {
     let n = image.len() as u32;
     let mut count: usize = 0;
-    let mut q = next_arrival(image, marks, p, 0);
+    let mut q = next_arrival(mode, image, marks, p, 0);
     while q < n {
         count += 1;
-        q = next_arrival(image, marks, p, q + 1);
+        q = next_arrival(mode, image, marks, p, q + 1);
     }
     count
 }
 
-fn write_arrivals(image: &[u8], marks: &[u8], p: u32, room: &mut [u32])
-    requires { ⌜ (length (now image) ≤ 65536) × (length (arrivalsOf (now image) (now marks) p) ≤ length (now room)) ⌝ }
-    ensures { λ _. ⌜ now (room .exit) ≡ laid (arrivalsOf (now (image .entry)) (now (marks .entry)) p) (now (room .entry)) ⌝ }
+fn write_arrivals(mode: Mode, image: &[u8], marks: &[u8], p: u32, room: &mut [u32])
+    requires { ⌜ (length (now image) ≤ 65536) × (length (arrivalsOf mode (now image) (now marks) p) ≤ length (now room)) ⌝ }
+    ensures { λ _. ⌜ now (room .exit) ≡ laid (arrivalsOf mode (now (image .entry)) (now (marks .entry)) p) (now (room .entry)) ⌝ }
 {
     let n = image.len() as u32;
     let mut i: usize = 0;
-    let mut q = next_arrival(image, marks, p, 0);
+    let mut q = next_arrival(mode, image, marks, p, 0);
     while q < n {
         room[i] = q;
         i += 1;
-        q = next_arrival(image, marks, p, q + 1);
+        q = next_arrival(mode, image, marks, p, q + 1);
     }
 }
 
 // The traced positions that have p among the targets they had when they were taken up, upward.
-pub fn arrivals(image: &[u8], marks: &[u8], p: u32, room: &mut [u32]) -> Viewed
-    ensures { λ r. ⌜ viewedOf r ≡ arrivalsAnswer (now (image .entry)) (now (marks .entry)) p (now (room .entry)) ⌝ }
-    ensures { λ _. ⌜ now (room .exit) ≡ arrivalsRoom (now (image .entry)) (now (marks .entry)) p (now (room .entry)) ⌝ }
+pub fn arrivals(mode: Mode, image: &[u8], marks: &[u8], p: u32, room: &mut [u32]) -> Viewed
+    ensures { λ r. ⌜ viewedOf r ≡ arrivalsAnswer mode (now (image .entry)) (now (marks .entry)) p (now (room .entry)) ⌝ }
+    ensures { λ _. ⌜ now (room .exit) ≡ arrivalsRoom mode (now (image .entry)) (now (marks .entry)) p (now (room .entry)) ⌝ }
 {
     let v = views::check(image, marks);
     if !v.is_written() {
         return v;
     }
-    let n = count_arrivals(image, marks, p);
+    let n = count_arrivals(mode, image, marks, p);
     if room.len() < n {
         return Viewed::NoRoom(n);
     }
-    write_arrivals(image, marks, p, room);
+    write_arrivals(mode, image, marks, p, room);
     Viewed::Written(n)
 }

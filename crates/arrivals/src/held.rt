@@ -2,13 +2,14 @@
 ghost use mathlib.Core.Path.{_≡_};
 ghost use Rattle.targets.specs.Ways.{placesIn};
 ghost use Rattle.arrivals.specs.Arrivals.{heldAt};
+use instruction::Mode;
 use marks::Mark;
 use targets::Places;
 use targets::Ways;
 
 // None under the exception.
-pub fn held_at(image: &[u8], marks: &[u8], q: u32) -> Places
-    ensures { λ r. ⌜ placesIn r ≡ heldAt (now (image .entry)) (now (marks .entry)) q ⌝ }
+pub fn held_at(mode: Mode, image: &[u8], marks: &[u8], q: u32) -> Places
+    ensures { λ r. ⌜ placesIn r ≡ heldAt mode (now (image .entry)) (now (marks .entry)) q ⌝ }
 {
     let at = q as usize;
     if !views::is_traced_at(image, marks, at) {
@@ -17,7 +18,7 @@ pub fn held_at(image: &[u8], marks: &[u8], q: u32) -> Places
     if marks[at] == Mark::FLASH {
         return Places::Nothing;
     }
-    match targets::ways_at(image, q) {
+    match targets::ways_at(mode, image, q) {
         Ways::Goes(ps) => ps,
         Ways::Cut(_) => Places::Nothing,
         Ways::Outside => Places::Nothing,

@@ -3,6 +3,7 @@ ghost use mathlib.Core.Path.{_≡_};
 ghost use lib.ListN.{length, replicate};
 ghost use Rattle.arrivals.specs.Index.{isIndexRoom, roomOf};
 use crate::index_entry;
+use instruction::Mode;
 use targets::Image;
 
 // Nothing arrives anywhere.
@@ -18,9 +19,9 @@ fn blank(index: &mut [u32])
 
 // Three cells for each position of the image are filled; a room of another length stays as it was, and so does any for an image past its
 // limit; whether it is filled. From the last position down, so that what is noted so far is what comes after.
-pub fn index_into(image: &[u8], marks: &[u8], index: &mut [u32]) -> bool
+pub fn index_into(mode: Mode, image: &[u8], marks: &[u8], index: &mut [u32]) -> bool
     ensures { λ r. ⌜ r ≡ isIndexRoom (now (image .entry)) (now (index .entry)) ⌝ }
-    ensures { λ _. ⌜ now (index .exit) ≡ roomOf (now (image .entry)) (now (marks .entry)) (now (index .entry)) ⌝ }
+    ensures { λ _. ⌜ now (index .exit) ≡ roomOf mode (now (image .entry)) (now (marks .entry)) (now (index .entry)) ⌝ }
 {
     if Image::LIMIT < image.len() {
         return false;
@@ -32,7 +33,7 @@ pub fn index_into(image: &[u8], marks: &[u8], index: &mut [u32]) -> bool
     let mut q = image.len();
     while 0 < q {
         q -= 1;
-        index_entry::enter(image, marks, index, q as u32);
+        index_entry::enter(mode, image, marks, index, q as u32);
     }
     true
 }

@@ -5,6 +5,7 @@ ghost use Rattle.arrivals.specs.Arrivals.{heldAt};
 ghost use Rattle.arrivals.specs.Index.{lowestIn, nextIn};
 use crate::held;
 use crate::held_target;
+use instruction::Mode;
 use targets::Image;
 
 fn cell(index: &[u32], at: usize) -> u32
@@ -24,15 +25,15 @@ pub fn first(index: &[u32], p: u32) -> u32
 }
 
 // The arrival at p after q, which arrives there.
-pub fn next(index: &[u32], image: &[u8], marks: &[u8], p: u32, q: u32) -> u32
-    ensures { λ r. ⌜ r ≡ nextIn (now (index .entry)) (length (now (image .entry))) (heldAt (now (image .entry)) (now (marks .entry)) q) p q ⌝ }
+pub fn next(mode: Mode, index: &[u32], image: &[u8], marks: &[u8], p: u32, q: u32) -> u32
+    ensures { λ r. ⌜ r ≡ nextIn (now (index .entry)) (length (now (image .entry))) (heldAt mode (now (image .entry)) (now (marks .entry)) q) p q ⌝ }
 {
     if Image::LIMIT < image.len() {
         return Image::NOWHERE;
     }
     let n = image.len();
     let at = q as usize;
-    let ps = held::held_at(image, marks, q);
+    let ps = held::held_at(mode, image, marks, q);
     if p == held_target::one(ps) {
         return cell(index, n + at);
     }

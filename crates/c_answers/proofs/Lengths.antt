@@ -7,6 +7,7 @@ use native.Mathlib.Omega.{arith}
 use lib.IntN.{ℤ, pos}
 use lib.ListN.{length}
 use Rattle.instruction.specs.Answer.{Answer, accepted, refused}
+use Rattle.instruction.specs.declared.mode.Mode.{Mode}
 use Rattle.reach.specs.Run.{End, finished, stopped, cutOff, steps, noted}
 use Rattle.trace.specs.Run.{ranOf, runAnswer, runRefusals, runJudged, ranAnswer, outcomeOf, endOf, andThen, RunResult}
 use Rattle.trace.specs.Start.{startedOf, startAnswer}
@@ -39,9 +40,9 @@ unfolding damages
 damages-later n m [] = tt
 damages-later n m (t ∷ ts) = (later (omega arith), damages-later n m ts)
 
-damage-later : (image m : List ℕ) (p : ℕ) → Each Small (damageRefusals image m p)
+damage-later : (image m : List ℕ) (p : ℕ) (ts : List ℕ) → Each Small (damageRefusals image m p ts)
 unfolding damageRefusals
-damage-later image m p = (later (omega arith), damages-later (length image) m _)
+damage-later image m p ts = (later (omega arith), damages-later (length image) m ts)
 
 -- the refusals of a run that it meets before it begins
 begun : {A : Type 0} (j : Answer A) (b : Answer RunResult) (n : ℕ) (vs : List ℤ) → (refused n vs ≡ b → n ≡ 5) → n < 4 → refused n vs ≡ andThen j b → refused n vs ≡ j
@@ -61,35 +62,35 @@ module _ (image marks : List ℕ) (i : length image < 2 ^ 63) (m : length marks 
   started-small entries (started.LongImage n) e = carries Small _ _ 1 (pos n ∷ []) (this i, (this m, tt)) e (omega arith) n refl
   started-small entries (started.ShortMarks n) e = carries Small _ _ 2 (pos n ∷ []) (this i, (this m, tt)) e (omega arith) n refl
 
-  pub swept-small : (entries : List ℕ) (s : Swept) → sweptOf s ≡ sweepAnswer image marks entries → lengthInSwept s < 2 ^ 63
+  pub swept-small : (mode : Mode) (entries : List ℕ) (s : Swept) → sweptOf s ≡ sweepAnswer mode image marks entries → lengthInSwept s < 2 ^ 63
   unfolding sweepAnswer
-  swept-small entries (swept.Ended t) e = omega arith
-  swept-small entries (swept.LongImage n) e = carries Small _ _ 1 (pos n ∷ []) (this i, (this m, tt)) e (omega arith) n refl
-  swept-small entries (swept.ShortMarks n) e = carries Small _ _ 2 (pos n ∷ []) (this i, (this m, tt)) e (omega arith) n refl
+  swept-small mode entries (swept.Ended t) e = omega arith
+  swept-small mode entries (swept.LongImage n) e = carries Small _ _ 1 (pos n ∷ []) (this i, (this m, tt)) e (omega arith) n refl
+  swept-small mode entries (swept.ShortMarks n) e = carries Small _ _ 2 (pos n ∷ []) (this i, (this m, tt)) e (omega arith) n refl
 
-  steps-each : (p : ℕ) → Each Small (stepRefusals image marks p)
+  steps-each : (mode : Mode) (p : ℕ) → Each Small (stepRefusals mode image marks p)
   unfolding stepRefusals
-  steps-each p =
-      (this i, (this m, (later (omega arith), (later (omega arith), (later (omega arith), (later (omega arith), damage-later image marks p))))))
+  steps-each mode p =
+      (this i, (this m, (later (omega arith), (later (omega arith), (later (omega arith), (later (omega arith), damage-later image marks p _))))))
 
-  pub stepped-small : (p : ℕ) (s : Stepped) → steppedOf s ≡ stepAnswer image marks p → lengthInStepped s < 2 ^ 63
+  pub stepped-small : (mode : Mode) (p : ℕ) (s : Stepped) → steppedOf s ≡ stepAnswer mode image marks p → lengthInStepped s < 2 ^ 63
   unfolding stepAnswer
-  stepped-small p (stepped.Traced a) e = omega arith
-  stepped-small p (stepped.LongImage n) e = carries Small _ _ 1 (pos n ∷ []) (steps-each p) e (omega arith) n refl
-  stepped-small p (stepped.ShortMarks n) e = carries Small _ _ 2 (pos n ∷ []) (steps-each p) e (omega arith) n refl
-  stepped-small p (stepped.NotWaiting v) e = omega arith
-  stepped-small p (stepped.Cut c) e = omega arith
-  stepped-small p (stepped.Damaged q) e = omega arith
+  stepped-small mode p (stepped.Traced a) e = omega arith
+  stepped-small mode p (stepped.LongImage n) e = carries Small _ _ 1 (pos n ∷ []) (steps-each mode p) e (omega arith) n refl
+  stepped-small mode p (stepped.ShortMarks n) e = carries Small _ _ 2 (pos n ∷ []) (steps-each mode p) e (omega arith) n refl
+  stepped-small mode p (stepped.NotWaiting v) e = omega arith
+  stepped-small mode p (stepped.Cut c) e = omega arith
+  stepped-small mode p (stepped.Damaged q) e = omega arith
 
-  module _ (order entries : List ℕ) (limit : ℕ) (o : length order < 2 ^ 63) where
-    refused-small : (k n : ℕ) → k < 4 → refused k (pos n ∷ []) ≡ runAnswer image marks order entries limit → n < 2 ^ 63
+  module _ (mode : Mode) (order entries : List ℕ) (limit : ℕ) (o : length order < 2 ^ 63) where
+    refused-small : (k n : ℕ) → k < 4 → refused k (pos n ∷ []) ≡ runAnswer mode image marks order entries limit → n < 2 ^ 63
     unfolding runAnswer
     refused-small k n h e =
-        let out = outcomeOf image marks entries limit in
+        let out = outcomeOf mode image marks entries limit in
         let f = ended image (out .end) (steps out) (length (noted out)) k (pos n ∷ []) in
         carries Small (runRefusals image marks order) tt k (pos n ∷ []) (this i, (this m, (this o, tt))) (begun (runJudged image marks order) (ranAnswer image out) k (pos n ∷ []) f h e) h n refl
 
-    pub ran-small : (d : Ran) → ranOf d ≡ runAnswer image marks order entries limit → lengthInRan d < 2 ^ 63
+    pub ran-small : (d : Ran) → ranOf d ≡ runAnswer mode image marks order entries limit → lengthInRan d < 2 ^ 63
     ran-small (ran.Finished c) e = omega arith
     ran-small (ran.Stopped c) e = omega arith
     ran-small (ran.LongImage n) e = refused-small 1 n (omega arith) e

@@ -9,6 +9,7 @@ use lib.Dec.{ltb}
 use lib.IntN.{pos}
 use lib.ListN.{length}
 use Rattle.instruction.specs.Bytes.{Bytes}
+use Rattle.instruction.specs.declared.mode.Mode.{Mode}
 use Rattle.instruction.specs.Answer.{Refusal, refuse}
 use Rattle.instruction.proofs.Judging.{accepts}
 use Rattle.instruction.proofs.Carried.{Each, each-append, carries}
@@ -53,6 +54,6 @@ module _ (image m : List ℕ) (i : length image < 2 ^ 63) (k : length m < 2 ^ 63
       ⊎-elim (λ h. viewed-small [] room (omega arith) v (e ∙ past-limit out room h)) (λ h. viewed-small out room (o h) v e) (lt-or-le 65536 (length image))
 
 -- of a listing
-pub listing-small : (image m : List ℕ) → Bytes image → length image ≤ 65536 → (choice : Arrivals) → length (listingOf image m choice) < 2 ^ 63
-listing-small image m B h Chosen = omega (arith, h, chosen-bound image m B)
-listing-small image m B h Declined = omega (arith, h, listing-bound image m B)
+pub listing-small : (mode : Mode) (image m : List ℕ) → Bytes image → length image ≤ 65536 → (choice : Arrivals) → length (listingOf mode image m choice) < 2 ^ 63
+listing-small mode image m B h Chosen = omega (arith, h, chosen-bound mode image m B)
+listing-small mode image m B h Declined = omega (arith, h, listing-bound mode image m B)

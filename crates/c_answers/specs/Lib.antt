@@ -7,3 +7,4 @@ pub mod Listing
 pub mod ViewCounts
 pub mod BackCounts
 pub mod MapCounts
+pub mod Modes

@@ -9,6 +9,7 @@ ghost use Rattle.c_answers.specs.Codec.{instrValues, named, targetsValue
 use crate::codec_replies;
 use crate::reply::Reply;
 use instruction::Instr;
+use instruction::Mode;
 
 // Accepted: form, size, three operands.
 pub fn decode(bytes: &[u8]) -> Reply
@@ -26,15 +27,15 @@ pub fn encode(first: u8, a: i32, b: i32, c: i32, out: &mut [u8]) -> Reply
 }
 
 // Accepted: form, size, three fields.
-pub fn resolve(first: u8, a: i32, b: i32, c: i32, base: u32) -> Reply
-    ensures { λ r. ⌜ r ≡ replyOf instrValues (resolveAnswer (named first a b c) base) ⌝ }
+pub fn resolve(mode: Mode, first: u8, a: i32, b: i32, c: i32, base: u32) -> Reply
+    ensures { λ r. ⌜ r ≡ replyOf instrValues (resolveAnswer mode (named first a b c) base) ⌝ }
 {
-    codec_replies::resolved(Instr::with_first(first, a, b, c).resolve(base))
+    codec_replies::resolved(Instr::with_first(first, a, b, c).resolve(mode, base))
 }
 
 // Accepted: how many targets, then the targets.
-pub fn targets(position: u32, first: u8, a: i32, b: i32, c: i32) -> Reply
-    ensures { λ r. ⌜ r ≡ replyOf targetsValues (targetsAnswer position (named first a b c)) ⌝ }
+pub fn targets(mode: Mode, position: u32, first: u8, a: i32, b: i32, c: i32) -> Reply
+    ensures { λ r. ⌜ r ≡ replyOf targetsValues (targetsAnswer mode position (named first a b c)) ⌝ }
 {
-    codec_replies::targeted(targets::targets(position, Instr::with_first(first, a, b, c)))
+    codec_replies::targeted(targets::targets(mode, position, Instr::with_first(first, a, b, c)))
 }

@@ -8,6 +8,7 @@ ghost use Rattle.c_answers.specs.Reply.{replyOf, countValues};
 ghost use Rattle.c_answers.specs.Listing.{choiceOf};
 use crate::reply::Reply;
 use crate::view_replies;
+use instruction::Mode;
 use listing::Arrivals;
 
 fn choice(arrivals: u32) -> Arrivals
@@ -20,11 +21,11 @@ fn choice(arrivals: u32) -> Arrivals
 }
 
 // Accepted: the number of bytes written.
-pub fn listing(image: &[u8], marks: &[u8], arrivals: u32, room: &mut [u8]) -> Reply
-    ensures { λ r. ⌜ r ≡ replyOf countValues (listingAnswer (now (image .entry)) (now (marks .entry)) (choiceOf arrivals) (now (room .entry))) ⌝ }
-    ensures { λ _. ⌜ now (room .exit) ≡ listingRoom (now (image .entry)) (now (marks .entry)) (choiceOf arrivals) (now (room .entry)) ⌝ }
+pub fn listing(mode: Mode, image: &[u8], marks: &[u8], arrivals: u32, room: &mut [u8]) -> Reply
+    ensures { λ r. ⌜ r ≡ replyOf countValues (listingAnswer mode (now (image .entry)) (now (marks .entry)) (choiceOf arrivals) (now (room .entry))) ⌝ }
+    ensures { λ _. ⌜ now (room .exit) ≡ listingRoom mode (now (image .entry)) (now (marks .entry)) (choiceOf arrivals) (now (room .entry)) ⌝ }
 {
-    view_replies::viewed(listing::listing_with(image, marks, choice(arrivals), room))
+    view_replies::viewed(listing::listing_with(mode, image, marks, choice(arrivals), room))
 }
 
 // Accepted: the number of bytes written, those of a refusal's line among them.

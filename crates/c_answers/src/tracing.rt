@@ -8,6 +8,7 @@ ghost use Rattle.c_answers.specs.Reply.{replyOf, countValues};
 ghost use Rattle.c_answers.specs.Tracing.{stepValues, runValues, sweepValues};
 use crate::reply::Reply;
 use crate::trace_replies;
+use instruction::Mode;
 
 // Accepted: the number of positions set.
 pub fn start(image: &[u8], marks: &mut [u8], entries: &[u32]) -> Reply
@@ -18,26 +19,33 @@ pub fn start(image: &[u8], marks: &mut [u8], entries: &[u32]) -> Reply
 }
 
 // Accepted: the new mark, and how many positions became waiting.
-pub fn step(image: &[u8], marks: &mut [u8], p: u32) -> Reply
-    ensures { λ r. ⌜ r ≡ replyOf stepValues (stepAnswer (now (image .entry)) (now (marks .entry)) p) ⌝ }
-    ensures { λ _. ⌜ now (marks .exit) ≡ stepMarks (now (image .entry)) (now (marks .entry)) p ⌝ }
+pub fn step(mode: Mode, image: &[u8], marks: &mut [u8], p: u32) -> Reply
+    ensures { λ r. ⌜ r ≡ replyOf stepValues (stepAnswer mode (now (image .entry)) (now (marks .entry)) p) ⌝ }
+    ensures { λ _. ⌜ now (marks .exit) ≡ stepMarks mode (now (image .entry)) (now (marks .entry)) p ⌝ }
 {
-    trace_replies::stepped(trace::step::step(image, marks, p))
+    trace_replies::stepped(trace::step::step(mode, image, marks, p))
 }
 
 // Accepted: 1 where it finished or 0 where the limit stopped it, the steps, and the positions noted.
-pub fn run(image: &[u8], marks: &mut [u8], order: &mut [u32], entries: &[u32], limit: u32) -> Reply
-    ensures { λ r. ⌜ r ≡ replyOf runValues (runAnswer (now (image .entry)) (now (marks .entry)) (now (order .entry)) (now (entries .entry)) limit) ⌝ }
-    ensures { λ _. ⌜ now (marks .exit) ≡ runMarks (now (image .entry)) (now (marks .entry)) (now (order .entry)) (now (entries .entry)) limit ⌝ }
-    ensures { λ _. ⌜ now (order .exit) ≡ runOrder (now (image .entry)) (now (marks .entry)) (now (order .entry)) (now (entries .entry)) limit ⌝ }
+pub fn run(
+    mode: Mode,
+    image: &[u8],
+    marks: &mut [u8],
+    order: &mut [u32],
+    entries: &[u32],
+    limit: u32,
+) -> Reply
+    ensures { λ r. ⌜ r ≡ replyOf runValues (runAnswer mode (now (image .entry)) (now (marks .entry)) (now (order .entry)) (now (entries .entry)) limit) ⌝ }
+    ensures { λ _. ⌜ now (marks .exit) ≡ runMarks mode (now (image .entry)) (now (marks .entry)) (now (order .entry)) (now (entries .entry)) limit ⌝ }
+    ensures { λ _. ⌜ now (order .exit) ≡ runOrder mode (now (image .entry)) (now (marks .entry)) (now (order .entry)) (now (entries .entry)) limit ⌝ }
 {
-    trace_replies::ran(trace::run::run(image, marks, order, entries, limit))
+    trace_replies::ran(trace::run::run(mode, image, marks, order, entries, limit))
 }
 
 // Accepted: the sweeps, the last one counted, and the steps.
-pub fn sweep(image: &[u8], marks: &mut [u8], entries: &[u32]) -> Reply
-    ensures { λ r. ⌜ r ≡ replyOf sweepValues (sweepAnswer (now (image .entry)) (now (marks .entry)) (now (entries .entry))) ⌝ }
-    ensures { λ _. ⌜ now (marks .exit) ≡ sweepLeaves (now (image .entry)) (now (marks .entry)) (now (entries .entry)) ⌝ }
+pub fn sweep(mode: Mode, image: &[u8], marks: &mut [u8], entries: &[u32]) -> Reply
+    ensures { λ r. ⌜ r ≡ replyOf sweepValues (sweepAnswer mode (now (image .entry)) (now (marks .entry)) (now (entries .entry))) ⌝ }
+    ensures { λ _. ⌜ now (marks .exit) ≡ sweepLeaves mode (now (image .entry)) (now (marks .entry)) (now (entries .entry)) ⌝ }
 {
-    trace_replies::swept(sweep::sweep::sweep(image, marks, entries))
+    trace_replies::swept(sweep::sweep::sweep(mode, image, marks, entries))
 }

@@ -9,6 +9,7 @@ ghost use Rattle.arrivals.specs.Arrivals.{arrivalsAnswer, arrivalsRoom};
 ghost use Rattle.c_answers.specs.Reply.{reply, replyOf, countValues};
 use crate::reply::Reply;
 use crate::view_replies;
+use instruction::Mode;
 
 // Accepted: the number of bytes written.
 pub fn mask(image: &[u8], marks: &[u8], mask: &mut [u8]) -> Reply
@@ -19,11 +20,11 @@ pub fn mask(image: &[u8], marks: &[u8], mask: &mut [u8]) -> Reply
 }
 
 // Accepted: the number of bytes written.
-pub fn target_marks(image: &[u8], marks: &[u8], room: &mut [u8]) -> Reply
-    ensures { λ r. ⌜ r ≡ replyOf countValues (labelsAnswer (now (image .entry)) (now (marks .entry)) (now (room .entry))) ⌝ }
-    ensures { λ _. ⌜ now (room .exit) ≡ labelsRoom (now (image .entry)) (now (marks .entry)) (now (room .entry)) ⌝ }
+pub fn target_marks(mode: Mode, image: &[u8], marks: &[u8], room: &mut [u8]) -> Reply
+    ensures { λ r. ⌜ r ≡ replyOf countValues (labelsAnswer mode (now (image .entry)) (now (marks .entry)) (now (room .entry))) ⌝ }
+    ensures { λ _. ⌜ now (room .exit) ≡ labelsRoom mode (now (image .entry)) (now (marks .entry)) (now (room .entry)) ⌝ }
 {
-    view_replies::viewed(views::target_marks(image, marks, room))
+    view_replies::viewed(views::target_marks(mode, image, marks, room))
 }
 
 // Accepted: the number of positions written.
@@ -35,11 +36,11 @@ pub fn overlaps(image: &[u8], marks: &[u8], p: u32, room: &mut [u32]) -> Reply
 }
 
 // Accepted: the number of positions written.
-pub fn arrivals(image: &[u8], marks: &[u8], p: u32, room: &mut [u32]) -> Reply
-    ensures { λ r. ⌜ r ≡ replyOf countValues (arrivalsAnswer (now (image .entry)) (now (marks .entry)) p (now (room .entry))) ⌝ }
-    ensures { λ _. ⌜ now (room .exit) ≡ arrivalsRoom (now (image .entry)) (now (marks .entry)) p (now (room .entry)) ⌝ }
+pub fn arrivals(mode: Mode, image: &[u8], marks: &[u8], p: u32, room: &mut [u32]) -> Reply
+    ensures { λ r. ⌜ r ≡ replyOf countValues (arrivalsAnswer mode (now (image .entry)) (now (marks .entry)) p (now (room .entry))) ⌝ }
+    ensures { λ _. ⌜ now (room .exit) ≡ arrivalsRoom mode (now (image .entry)) (now (marks .entry)) p (now (room .entry)) ⌝ }
 {
-    view_replies::viewed(arrivals::arrivals(image, marks, p, room))
+    view_replies::viewed(arrivals::arrivals(mode, image, marks, p, room))
 }
 
 // Never refused: the length of the run, which begins at p.

@@ -14,6 +14,7 @@ use Rattle.instruction.specs.declared.resolve_operand.Why.{Why}
 use Rattle.instruction.specs.declared.resolve_operand.Why.the-variants.{Unfit, NoAddress, TooFar, OtherPage}
 use Rattle.instruction.proofs.FieldReading.{make, make3}
 use Rattle.instruction.proofs.Resolving.{answerOf}
+use Rattle.instruction.specs.declared.mode.Mode.{Mode}
 
 -- why an operand is refused is why the whole is, whatever the whole would have answered
 carried : {A B : Type 0} (rs qs : List Refusal) (a : A) (b : B) (w : Why) → whyOf w ≡ judge rs a → whyOf w ≡ judge (rs ++ qs) b
@@ -34,42 +35,42 @@ last-no rs a b w e = subst (λ (l : List Refusal). whyOf w ≡ judge l b) (appen
 pub last-yes : {A B : Type 0} (rs : List Refusal) (a x : A) (b : B) → accepted x ≡ judge rs a → judge rs b ≡ accepted b
 last-yes rs a x b e = subst (λ (l : List Refusal). judge l b ≡ accepted b) (append-nil rs) (goes-on rs [] a x b e ∙ done b)
 
-module _ (k : Kinds) (a b c : ℤ) (base : ℕ) where
-  pub far : 65536 < base → refused 14 (pos base ∷ []) ≡ fieldsAnswer k a b c base
+module _ (mode : Mode) (k : Kinds) (a b c : ℤ) (base : ℕ) where
+  pub far : 65536 < base → refused 14 (pos base ∷ []) ≡ fieldsAnswer mode k a b c base
   unfolding fieldsAnswer
   far h = sym (stop _ _ _ (lt-ltb 65536 base h))
 
   module _ (near : base ≤ 65536) where
-    pub no1 : (w : Why) → whyOf w ≡ answerOf base 1 (k .a) a → whyOf w ≡ fieldsAnswer k a b c base
+    pub no1 : (w : Why) → whyOf w ≡ answerOf mode base 1 (k .a) a → whyOf w ≡ fieldsAnswer mode k a b c base
     unfolding fieldsAnswer
-    no1 w e = carried (operandRefusals base 1 (k .a) a) _ (fieldOf base (k .a) a) _ w e ∙ sym (pass _ _ _ (le-ltb 65536 base near))
+    no1 w e = carried (operandRefusals mode base 1 (k .a) a) _ (fieldOf mode base (k .a) a) _ w e ∙ sym (pass _ _ _ (le-ltb 65536 base near))
 
-    module _ (x : ℤ) (ex : accepted x ≡ answerOf base 1 (k .a) a) where
-      pub no2 : (w : Why) → whyOf w ≡ answerOf base 2 (k .b) b → whyOf w ≡ fieldsAnswer k a b c base
+    module _ (x : ℤ) (ex : accepted x ≡ answerOf mode base 1 (k .a) a) where
+      pub no2 : (w : Why) → whyOf w ≡ answerOf mode base 2 (k .b) b → whyOf w ≡ fieldsAnswer mode k a b c base
       unfolding fieldsAnswer
       no2 w e =
-          carried (operandRefusals base 2 (k .b) b) _ (fieldOf base (k .b) b) _ w e
-          ∙ sym (pass _ _ _ (le-ltb 65536 base near) ∙ goes-on (operandRefusals base 1 (k .a) a) _ (fieldOf base (k .a) a) x _ ex)
+          carried (operandRefusals mode base 2 (k .b) b) _ (fieldOf mode base (k .b) b) _ w e
+          ∙ sym (pass _ _ _ (le-ltb 65536 base near) ∙ goes-on (operandRefusals mode base 1 (k .a) a) _ (fieldOf mode base (k .a) a) x _ ex)
 
-      module _ (y : ℤ) (ey : accepted y ≡ answerOf base 2 (k .b) b) where
+      module _ (y : ℤ) (ey : accepted y ≡ answerOf mode base 2 (k .b) b) where
         -- the first two operands are accepted: the third decides
-        third : (m : Fields) → judge (operandRefusals base 1 (k .a) a ++ (operandRefusals base 2 (k .b) b ++ operandRefusals base 3 (k .c) c)) m ≡ judge (operandRefusals base 3 (k .c) c) m
+        third : (m : Fields) → judge (operandRefusals mode base 1 (k .a) a ++ (operandRefusals mode base 2 (k .b) b ++ operandRefusals mode base 3 (k .c) c)) m ≡ judge (operandRefusals mode base 3 (k .c) c) m
         third m =
-            goes-on (operandRefusals base 1 (k .a) a) _ (fieldOf base (k .a) a) x m ex
-            ∙ goes-on (operandRefusals base 2 (k .b) b) _ (fieldOf base (k .b) b) y m ey
+            goes-on (operandRefusals mode base 1 (k .a) a) _ (fieldOf mode base (k .a) a) x m ex
+            ∙ goes-on (operandRefusals mode base 2 (k .b) b) _ (fieldOf mode base (k .b) b) y m ey
 
-        pub no3 : (w : Why) → whyOf w ≡ answerOf base 3 (k .c) c → whyOf w ≡ fieldsAnswer k a b c base
+        pub no3 : (w : Why) → whyOf w ≡ answerOf mode base 3 (k .c) c → whyOf w ≡ fieldsAnswer mode k a b c base
         unfolding fieldsAnswer
         no3 w e =
-            last-no (operandRefusals base 3 (k .c) c) (fieldOf base (k .c) c) _ w e
+            last-no (operandRefusals mode base 3 (k .c) c) (fieldOf mode base (k .c) c) _ w e
             ∙ sym (pass _ _ _ (le-ltb 65536 base near) ∙ third _)
 
-        pub yes : (z : ℤ) → accepted z ≡ answerOf base 3 (k .c) c → accepted (make x y z) ≡ fieldsAnswer k a b c base
+        pub yes : (z : ℤ) → accepted z ≡ answerOf mode base 3 (k .c) c → accepted (make x y z) ≡ fieldsAnswer mode k a b c base
         unfolding fieldsAnswer
         yes z ez =
-            let fx : fieldOf base (k .a) a ≡ x = accepts (operandRefusals base 1 (k .a) a) _ x (sym ex) in
-            let fy : fieldOf base (k .b) b ≡ y = accepts (operandRefusals base 2 (k .b) b) _ y (sym ey) in
-            let fz : fieldOf base (k .c) c ≡ z = accepts (operandRefusals base 3 (k .c) c) _ z (sym ez) in
+            let fx : fieldOf mode base (k .a) a ≡ x = accepts (operandRefusals mode base 1 (k .a) a) _ x (sym ex) in
+            let fy : fieldOf mode base (k .b) b ≡ y = accepts (operandRefusals mode base 2 (k .b) b) _ y (sym ey) in
+            let fz : fieldOf mode base (k .c) c ≡ z = accepts (operandRefusals mode base 3 (k .c) c) _ z (sym ez) in
             sym
             (pass _ _ _ (le-ltb 65536 base near) ∙ third _
-            ∙ last-yes (operandRefusals base 3 (k .c) c) (fieldOf base (k .c) c) z _ ez ∙ ap accepted (make3 fx fy fz))
+            ∙ last-yes (operandRefusals mode base 3 (k .c) c) (fieldOf mode base (k .c) c) z _ ez ∙ ap accepted (make3 fx fy fz))

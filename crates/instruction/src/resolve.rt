@@ -4,6 +4,7 @@ ghost use mathlib.Core.Path.{_≡_};
 ghost use Rattle.instruction.specs.Resolve.{resolvedOf, resolveAnswer};
 use crate::build;
 use crate::instr::Instr;
+use crate::mode::Mode;
 use crate::resolve_operand;
 use crate::resolve_operand::Resolution;
 use crate::resolve_operand::Why;
@@ -17,12 +18,12 @@ pub enum Resolved {
 
 impl Instr {
     // The instruction whose operands are numbers as written, with fields in their place.
-    pub fn resolve(self, base: u32) -> Resolved
-        ensures { λ r. ⌜ resolvedOf r ≡ resolveAnswer self base ⌝ }
+    pub fn resolve(self, mode: Mode, base: u32) -> Resolved
+        ensures { λ r. ⌜ resolvedOf r ≡ resolveAnswer mode self base ⌝ }
     {
         let v = self.apart();
         let k = self.kinds();
-        match resolve_operand::resolve(k, v.a, v.b, v.c, base) {
+        match resolve_operand::resolve(mode, k, v.a, v.b, v.c, base) {
             Resolution::All(f) => Resolved::Fields(build::build(v.form, f.a, f.b, f.c)),
             Resolution::FarBase(far) => Resolved::FarBase(far),
             Resolution::Refused(why) => Resolved::Refused(why),

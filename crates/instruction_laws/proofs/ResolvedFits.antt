@@ -21,18 +21,16 @@ use Rattle.instruction.proofs.Known.{known}
 use Rattle.instruction_laws.specs.PartsMade.{used, usedIn}
 use Rattle.instruction_laws.specs.Resolving.{ResolvedFits}
 use Rattle.instruction.proofs.Accepting.{passed, ended}
+use Rattle.instruction.proofs.Resolving.{wrapped-less}
 use Rattle.instruction_laws.proofs.EveryKind.{law}
 use Rattle.instruction_laws.proofs.Fields.{limit}
 use Rattle.instruction_laws.proofs.Numbers.{shapeOf}
 use Rattle.instruction_laws.proofs.PartsMade.{parted}
-
-wrapped-less : (z : ℤ) → wrapped z < 65536
-wrapped-less (pos n) = omega arith
-wrapped-less (negsuc n) = omega arith
+use Rattle.instruction.specs.declared.mode.Mode.{Mode}
 
 -- where the refusals of an operand and those behind them let a call through, its field is in range, and those behind let the call through
-module _ {A : Type 0} (base n : ℕ) (z : ℤ) (rs : List Refusal) (a : A) {b : A} where
-  in-range : (k : Kind) → judge (operandRefusals base n k z ++ rs) a ≡ accepted b → (unfit k (used k (fieldOf base k z)) ≡ false) × (judge rs a ≡ accepted b)
+module _ (mode : Mode) {A : Type 0} (base n : ℕ) (z : ℤ) (rs : List Refusal) (a : A) {b : A} where
+  in-range : (k : Kind) → judge (operandRefusals mode base n k z ++ rs) a ≡ accepted b → (unfit k (used k (fieldOf mode base k z)) ≡ false) × (judge rs a ≡ accepted b)
   unfolding operandRefusals fieldOf unfit limit
   in-range Absent e = (refl, e)
   in-range Immediate e = passed _ _ _ e
@@ -46,12 +44,12 @@ module _ {A : Type 0} (base n : ℕ) (z : ℤ) (rs : List Refusal) (a : A) {b : 
 
 pub resolved-fits : ResolvedFits
 unfolding resolveAnswer
-resolved-fits i base j e =
+resolved-fits mode i base j e =
     let v : Parts = partsOf i in
     let k : ℕ → Kind = kindAt (shapeOf v) in
-    let w : Parts = record { form = v .form; a = fieldOf base (k 0) (v .a); b = fieldOf base (k 1) (v .b); c = fieldOf base (k 2) (v .c) } in
-    let one = in-range base 1 (v .a) _ _ (k 0) (passed _ _ _ e .1) in
-    let two = in-range base 2 (v .b) _ _ (k 1) (one .1) in
-    let three = in-range base 3 (v .c) _ _ (k 2) (rw (← append-nil (operandRefusals base 3 (k 2) (v .c))) at (two .1)) in
+    let w : Parts = record { form = v .form; a = fieldOf mode base (k 0) (v .a); b = fieldOf mode base (k 1) (v .b); c = fieldOf mode base (k 2) (v .c) } in
+    let one = in-range mode base 1 (v .a) _ _ (k 0) (passed _ _ _ e .1) in
+    let two = in-range mode base 2 (v .b) _ _ (k 1) (one .1) in
+    let three = in-range mode base 3 (v .c) _ _ (k 2) (rw (← append-nil (operandRefusals mode base 3 (k 2) (v .c))) at (two .1)) in
     let p : partsOf j ≡ usedIn (shapeOf v) w = rw (← ended _ (three .1)) (parted w (known i .small)) in
     record { form = ap (λ (u : Parts). u .form) p; fit = sym (fits j (rw p (one .0)) (rw p (two .0)) (rw p (three .0))) }

@@ -8,6 +8,7 @@ use Rattle.instruction.specs.Encode.{fitAnswer}
 use Rattle.instruction.specs.Parts.{partsOf}
 use Rattle.instruction.specs.Resolve.{resolveAnswer}
 use Rattle.instruction.specs.declared.instr.Instr.{Instr}
+use Rattle.instruction.specs.declared.mode.Mode.{Mode}
 
 -- j has the form of i, and its fields are in range
 pub record FitsAs (i j : Instr) : Type 0 where
@@ -15,4 +16,4 @@ pub record FitsAs (i j : Instr) : Type 0 where
   pub fit : fitAnswer j ≡ accepted tt
 
 abbrev pub ResolvedFits : Type 0
-ResolvedFits = (i : Instr) (base : ℕ) (j : Instr) → resolveAnswer i base ≡ accepted j → FitsAs i j
+ResolvedFits = (mode : Mode) (i : Instr) (base : ℕ) (j : Instr) → resolveAnswer mode i base ≡ accepted j → FitsAs i j

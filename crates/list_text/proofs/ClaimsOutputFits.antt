@@ -11,6 +11,7 @@ use Rattle.instruction.specs.Bytes.{Bytes}
 use Rattle.instruction.specs.Answer.{Answer, accepted, refused, judge}
 use Rattle.instruction.proofs.Judging.{accepts}
 use Rattle.instruction_laws.specs.Missing.{OneOrTwo, missingIn}
+use Rattle.instruction.specs.declared.mode.Mode.the-variants.{Unwrapped}
 use Rattle.trace.specs.Run.{runAnswer, runMarks}
 use Rattle.views.specs.View.{viewRefusals}
 use Rattle.list_text.specs.ClaimsInput.{Valid}
@@ -52,10 +53,10 @@ shown-fits (refused n vs) f g = omega (arith, g n vs refl)
 listed : (image entries out : List ℕ) → length image ≤ 16384 → Bytes image → tracedText image entries ≡ accepted out → length out ≤ 983040
 unfolding tracedText
 listed image entries out h B e =
-    let m = runMarks image (lentRoom image) (lentRoom image) entries (length image) in
-    let a = or-accepted (runAnswer image (lentRoom image) (lentRoom image) entries (length image)) (judge (viewRefusals image m) (listingOf image m Declined)) out e in
-    let f : listingOf image m Declined ≡ out = accepts (viewRefusals image m) (listingOf image m Declined) out (a .1) in
-    omega (arith, ap length f, listing-bound image m B)
+    let m = runMarks Unwrapped image (lentRoom image) (lentRoom image) entries (length image) in
+    let a = or-accepted (runAnswer Unwrapped image (lentRoom image) (lentRoom image) entries (length image)) (judge (viewRefusals image m) (listingOf Unwrapped image m Declined)) out e in
+    let f : listingOf Unwrapped image m Declined ≡ out = accepts (viewRefusals image m) (listingOf Unwrapped image m Declined) out (a .1) in
+    omega (arith, ap length f, listing-bound Unwrapped image m B)
 
 pub output-fits : OutputFits
 unfolding outputOf textListed

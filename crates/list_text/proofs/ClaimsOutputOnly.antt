@@ -13,6 +13,7 @@ use Rattle.instruction.proofs.Accepting.{differ}
 use Rattle.instruction.specs.Answer.{Answer, accepted, refused, judge}
 use Rattle.instruction.proofs.Judging.{pass, done, accepts}
 use Rattle.instruction_laws.specs.Missing.{OneOrTwo}
+use Rattle.instruction.specs.declared.mode.Mode.the-variants.{Unwrapped}
 use Rattle.reach.specs.Mark.{cleared}
 use Rattle.reach.specs.Run.{End, finished, stopped, cutOff, steps, noted}
 use Rattle.reach.specs.Takes.{Takes, stay, up}
@@ -45,10 +46,10 @@ takes-length : (G : Tracer) {m m′ ps : List ℕ} → Takes G m ps m′ → len
 takes-length G stay = refl
 takes-length G (up {m = m} {p = p} R rest) = takes-length G rest ∙ length-took G m p
 
-run-length : (image marks entries : List ℕ) (limit : ℕ) → length image ≤ length marks → length (outcomeOf image marks entries limit .marks) ≡ length marks
+run-length : (image marks entries : List ℕ) (limit : ℕ) → length image ≤ length marks → length (outcomeOf Unwrapped image marks entries limit .marks) ≡ length marks
 unfolding outcomeOf
 run-length image marks entries limit h =
-    takes-length (tracerOf image) (run-takes limit (tracerOf image) entries (cleared (length image) marks) (cleared-base (tracerOf image) marks h) .takes)
+    takes-length (tracerOf Unwrapped image) (run-takes limit (tracerOf Unwrapped image) entries (cleared (length image) marks) (cleared-base (tracerOf Unwrapped image) marks h) .takes)
     ∙ length-note (length image) entries (cleared (length image) marks)
     ∙ length-cleared (length image) marks h
 
@@ -61,10 +62,10 @@ module _ (image entries : List ℕ) (small : length image ≤ 16384) where
       let l = lent-length in
       right-sizes image (lentRoom image) _ tt (omega arith) (omega arith) ∙ pass _ _ _ (le-ltb (length (lentRoom image)) (length image) (omega arith)) ∙ done tt
 
-  run-five : (n : ℕ) (vs : List ℤ) → runAnswer image (lentRoom image) (lentRoom image) entries (length image) ≡ refused n vs → n ≡ 5
+  run-five : (n : ℕ) (vs : List ℤ) → runAnswer Unwrapped image (lentRoom image) (lentRoom image) entries (length image) ≡ refused n vs → n ≡ 5
   unfolding runAnswer
   run-five n vs e =
-      let out = outcomeOf image (lentRoom image) entries (length image) in
+      let out = outcomeOf Unwrapped image (lentRoom image) entries (length image) in
       by (out .end) (steps out) (length (noted out)) (ap (λ (q : Answer (Unit {0})). andThen q (ranAnswer image out)) (sym judged) ∙ e)
     where
       by : (d : End) (s k : ℕ) → endOf image d s k ≡ refused n vs → n ≡ 5
@@ -73,25 +74,25 @@ module _ (image entries : List ℕ) (small : length image ≤ 16384) where
       by (cutOff p) s k f = let g : 5 ≡ n = cc in sym g
 
   -- what is refused, the run refused
-  run-refused : (n : ℕ) (vs : List ℤ) → tracedText image entries ≡ refused n vs → runAnswer image (lentRoom image) (lentRoom image) entries (length image) ≡ refused n vs
+  run-refused : (n : ℕ) (vs : List ℤ) → tracedText image entries ≡ refused n vs → runAnswer Unwrapped image (lentRoom image) (lentRoom image) entries (length image) ≡ refused n vs
   unfolding tracedText
-  run-refused n vs e = by (or-refused (runAnswer image (lentRoom image) (lentRoom image) entries (length image)) _ n vs e)
+  run-refused n vs e = by (or-refused (runAnswer Unwrapped image (lentRoom image) (lentRoom image) entries (length image)) _ n vs e)
     where
       m : List ℕ
-      m = runMarks image (lentRoom image) (lentRoom image) entries (length image)
+      m = runMarks Unwrapped image (lentRoom image) (lentRoom image) entries (length image)
 
-      by : (runAnswer image (lentRoom image) (lentRoom image) entries (length image) ≡ refused n vs) ⊎ (((s : RunResult) × (runAnswer image (lentRoom image) (lentRoom image) entries (length image) ≡ accepted s)) × (judge (viewRefusals image m) (listingOf image m Declined) ≡ refused n vs)) → runAnswer image (lentRoom image) (lentRoom image) entries (length image) ≡ refused n vs
+      by : (runAnswer Unwrapped image (lentRoom image) (lentRoom image) entries (length image) ≡ refused n vs) ⊎ (((s : RunResult) × (runAnswer Unwrapped image (lentRoom image) (lentRoom image) entries (length image) ≡ accepted s)) × (judge (viewRefusals image m) (listingOf Unwrapped image m Declined) ≡ refused n vs)) → runAnswer Unwrapped image (lentRoom image) (lentRoom image) entries (length image) ≡ refused n vs
       by (inl r) = r
       by (inr a) =
           let s = a .0 .0 in
-          let f : runAnswer image (lentRoom image) (lentRoom image) entries (length image) ≡ accepted s = a .0 .1 in
-          let l : length m ≡ length (lentRoom image) = ap length (marks-are image (lentRoom image) (lentRoom image) entries (length image) s f) ∙ run-length image (lentRoom image) entries (length image) (let k = lent-length in omega arith) in
+          let f : runAnswer Unwrapped image (lentRoom image) (lentRoom image) entries (length image) ≡ accepted s = a .0 .1 in
+          let l : length m ≡ length (lentRoom image) = ap length (marks-are Unwrapped image (lentRoom image) (lentRoom image) entries (length image) s f) ∙ run-length image (lentRoom image) entries (length image) (let k = lent-length in omega arith) in
           let S : Sound image m = marks-sound image entries small s f l in
-          absurd (differ (sym (a .1) ∙ judged-on (viewRefusals image m) S (listingOf image m Declined)))
+          absurd (differ (sym (a .1) ∙ judged-on (viewRefusals image m) S (listingOf Unwrapped image m Declined)))
 
 -- a line refuses with 13, or the lines are good and the run refuses
 abbrev Why : List ℕ → ℕ → List ℤ → Type 0
-Why text n vs = (n ≡ 13) ⊎ ((length (imageOf text) ≤ 16384) × (runAnswer (imageOf text) (lentRoom (imageOf text)) (lentRoom (imageOf text)) (entriesOf text) (length (imageOf text)) ≡ refused n vs))
+Why text n vs = (n ≡ 13) ⊎ ((length (imageOf text) ≤ 16384) × (runAnswer Unwrapped (imageOf text) (lentRoom (imageOf text)) (lentRoom (imageOf text)) (entriesOf text) (length (imageOf text)) ≡ refused n vs))
 
 why : (text : List ℕ) (n : ℕ) (vs : List ℤ) → textListed text ≡ refused n vs → Why text n vs
 unfolding textListed
@@ -122,4 +123,4 @@ listed-missing text vs e = by (why text 5 vs e)
   where
     by : Why text 5 vs → OneOrTwo vs
     by (inl f) = absurd (omega (arith, f))
-    by (inr r) = run-missing (imageOf text) (lentRoom (imageOf text)) (lentRoom (imageOf text)) (entriesOf text) (length (imageOf text)) vs (image-bytes text) (r .1)
+    by (inr r) = run-missing Unwrapped (imageOf text) (lentRoom (imageOf text)) (lentRoom (imageOf text)) (entriesOf text) (length (imageOf text)) vs (image-bytes text) (r .1)

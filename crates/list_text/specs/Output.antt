@@ -8,6 +8,7 @@ use lib.Dec.{eqb}
 use lib.IntN.{ℤ, pos, natAbs}
 use lib.ListN.{length, getD, replicate}
 use Rattle.instruction.specs.Answer.{Answer, accepted, refused, judge}
+use Rattle.instruction.specs.declared.mode.Mode.the-variants.{Unwrapped}
 use Rattle.trace.specs.Run.{andThen, runAnswer, runMarks}
 use Rattle.views.specs.View.{viewRefusals}
 use Rattle.list_text.specs.Text.{countsOf, entriesOf, imageOf, inputRefusals}
@@ -27,8 +28,8 @@ lentRoom image = replicate (length image) 0
 unfoldable pub tracedText : List ℕ → List ℕ → Answer (List ℕ)
 tracedText image entries =
     let room = lentRoom image in
-    let m = runMarks image room room entries (length image) in
-    andThen (runAnswer image room room entries (length image)) (judge (viewRefusals image m) (listingOf image m Declined))
+    let m = runMarks Unwrapped image room room entries (length image) in
+    andThen (runAnswer Unwrapped image room room entries (length image)) (judge (viewRefusals image m) (listingOf Unwrapped image m Declined))
 
 -- the same of a text; a line that is malformed first
 unfoldable pub textListed : List ℕ → Answer (List ℕ)

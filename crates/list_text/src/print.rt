@@ -9,6 +9,7 @@ use crate::parsed::Parsed;
 use crate::read;
 use crate::refusal;
 use crate::rooms;
+use instruction::Mode;
 use listing::Arrivals;
 use trace::Ran;
 use views::Viewed;
@@ -22,9 +23,18 @@ fn list_image(image: &[u8], entries: &[u32], room: &mut [u8]) -> Viewed
     let n = image.len();
     let mut marks = rooms::bytes();
     let mut order = rooms::positions();
-    match trace::run::run(image, &mut marks[..n], &mut order[..n], entries, n as u32) {
-        Ran::Finished(_) => listing::listing_with(image, &marks[..n], Arrivals::Declined, room),
-        Ran::Stopped(_) => listing::listing_with(image, &marks[..n], Arrivals::Declined, room),
+    let mode = Mode::Unwrapped;
+    let arrivals = Arrivals::Declined;
+    match trace::run::run(
+        mode,
+        image,
+        &mut marks[..n],
+        &mut order[..n],
+        entries,
+        n as u32,
+    ) {
+        Ran::Finished(_) => listing::listing_with(mode, image, &marks[..n], arrivals, room),
+        Ran::Stopped(_) => listing::listing_with(mode, image, &marks[..n], arrivals, room),
         Ran::LongImage(_) => refusal::put_number(1, room),
         Ran::ShortMarks(_) => refusal::put_number(2, room),
         Ran::ShortOrder(_) => refusal::put_number(3, room),

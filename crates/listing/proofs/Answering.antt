@@ -10,6 +10,7 @@ use lib.IntN.{pos}
 use lib.ListN.{length, take, drop, length-take}
 use lib.Seq.{sets, sets-eq, take-at}
 use Rattle.instruction.specs.Answer.{Answer, accepted, refused}
+use Rattle.instruction.specs.declared.mode.Mode.{Mode}
 use Rattle.views.specs.View.{Sound, viewRoom}
 use Rattle.views.proofs.Viewing.{Is, small, shown-as, no-room-for}
 use Rattle.views.specs.Labels.{labelsOf}
@@ -37,13 +38,13 @@ pub part-is : (l out : List ℕ) (n : ℕ) → take n l ≡ out → take (n - 0)
 part-is l out n e = let f : n - 0 ≡ n = omega arith in ap (λ (k : ℕ). take k l) f ∙ e
 
 -- the walk over them is the listing
-pub is-text : (image m mask labels : List ℕ) (chosen : Bool) → mask ≡ maskOf image m → labels ≡ labelsOf image m → walk image m mask labels chosen (length image) 0 0 ≡ textOf image m chosen
+pub is-text : (mode : Mode) (image m mask labels : List ℕ) (chosen : Bool) → mask ≡ maskOf image m → labels ≡ labelsOf mode image m → walk mode image m mask labels chosen (length image) 0 0 ≡ textOf mode image m chosen
 unfolding textOf
-is-text image m mask labels chosen e f = rw (e, f)
+is-text mode image m mask labels chosen e f = rw (e, f)
 
-pub is-listing : (image m : List ℕ) (choice : Arrivals) (chosen : Bool) → chosen ≡ isChosen choice → textOf image m chosen ≡ listingOf image m choice
+pub is-listing : (mode : Mode) (image m : List ℕ) (choice : Arrivals) (chosen : Bool) → chosen ≡ isChosen choice → textOf mode image m chosen ≡ listingOf mode image m choice
 unfolding textOf listingOf
-is-listing image m choice chosen e = rw e
+is-listing mode image m choice chosen e = rw e
 
 module _ (image m : List ℕ) (text room : List ℕ) (s : Sound image m) where
   pub too-small : {r : ℕ} → Needed text (length room) r → length room < r → Is image m text room (refused 11 (pos r ∷ [])) room
@@ -57,17 +58,17 @@ module _ (image m : List ℕ) (text room : List ℕ) (s : Sound image m) where
       shown-as image m text room s r e (omega (arith, e, l)) new (p .wrote ∙ z)
 
 -- where an index is lent there are arrivals; the one of an empty image has no cells, but then there is no text either
-pub index-text : (image m index : List ℕ) → index ≡ indexOf image m → textOf image m (isLent index) ≡ textOf image m true
+pub index-text : (mode : Mode) (image m index : List ℕ) → index ≡ indexOf mode image m → textOf mode image m (isLent index) ≡ textOf mode image m true
 unfolding textOf walk
-index-text image m index e = by (isLent index) refl
+index-text mode image m index e = by (isLent index) refl
   where
-    none : (b : Bool) → length image ≡ 0 → walk image m (maskOf image m) (labelsOf image m) b (length image) 0 0 ≡ []
-    none b z = ap (λ (k : ℕ). walk image m (maskOf image m) (labelsOf image m) b k 0 0) z
+    none : (b : Bool) → length image ≡ 0 → walk mode image m (maskOf image m) (labelsOf mode image m) b (length image) 0 0 ≡ []
+    none b z = ap (λ (k : ℕ). walk mode image m (maskOf image m) (labelsOf mode image m) b k 0 0) z
 
-    by : (b : Bool) → isLent index ≡ b → textOf image m b ≡ textOf image m true
+    by : (b : Bool) → isLent index ≡ b → textOf mode image m b ≡ textOf mode image m true
     by true f = refl
     by false f =
-        let z : length image ≡ 0 = omega (arith, ltb-false 0 (length index) f, ap length e, index-length image m) in
+        let z : length image ≡ 0 = omega (arith, ltb-false 0 (length index) f, ap length e, index-length mode image m) in
         none false z ∙ sym (none true z)
 
 -- what is answered of a text is answered of one that is the same

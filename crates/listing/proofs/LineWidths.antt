@@ -19,6 +19,7 @@ use Rattle.instruction.specs.Mnemonic.{mnemonicOf, lettersOf}
 use Rattle.instruction.specs.Parts.{partsOf}
 use Rattle.instruction.specs.declared.instr.Instr.{Instr}
 use Rattle.instruction.proofs.Shapes.{at-each}
+use Rattle.instruction.specs.declared.mode.Mode.{Mode}
 use Rattle.listing.specs.Hex.{hex4, hexes}
 use Rattle.listing.specs.Line.{fieldsText}
 use Rattle.listing.specs.Lines.{instrText}
@@ -76,12 +77,12 @@ narrow : (k : ℕ) → k < 70 → leb (widthIn (formAt k)) 22 ≡ true
 unfolding forms pattern patternBytes onto bitsGiven nextBracket lettersOf kindsOf
 narrow = at-each (λ w. leb (widthIn w) 22) (λ w. true) refl
 
-pub instr-width : (p : ℕ) (i : Instr) (all : List ℕ) → partsOf i .form < 70 → length (instrText p i all) ≤ 31
+pub instr-width : (mode : Mode) (p : ℕ) (i : Instr) (all : List ℕ) → partsOf i .form < 70 → length (instrText mode p i all) ≤ 31
 unfolding instrText fieldsText operandsBy mnemonicOf
-instr-width p i all h =
+instr-width mode p i all h =
     let bytes : List ℕ = take (sizeOf (formIn i)) all in
     let name : List ℕ = lettersOf (formIn i .name) in
-    let end : List ℕ = fieldsText (operands p i) in
+    let end : List ℕ = fieldsText (operands mode p i) in
     let w : widthIn (formIn i) ≤ 22 = leb-true (widthIn (formIn i)) 22 (narrow (partsOf i .form) h) in
     let o : length end ≤ widths (kindsOf (formIn i .shape)) + 1 = fields-width _ (kindsOf (formIn i .shape)) _ in
     omega (arith, w, o, hex4-length p, hexes-length bytes, length-take (sizeOf (formIn i)) all, length-append name end, length-append (hexes bytes) (9 ∷ name ++ end), length-append (hex4 p) (9 ∷ hexes bytes ++ (9 ∷ name ++ end)))

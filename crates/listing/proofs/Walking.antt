@@ -10,6 +10,7 @@ use borrow.Author.Tests.{eq-eqb, ne-eqb}
 use lib.Dec.{eqb}
 use lib.ListN.{length, getD, take, drop, length-take, length-drop}
 use lib.Seq.{length-take-le}
+use Rattle.instruction.specs.declared.mode.Mode.{Mode}
 use Rattle.reach.specs.Mark.{tracedMark}
 use Rattle.views.specs.Positions.{upFrom}
 use Rattle.views.specs.DataRun.{isData, leading, runLength, dataRun}
@@ -19,16 +20,16 @@ use Rattle.listing.specs.Walk.{codeLines, linesAt, passed, walk}
 
 -- ---- what is printed at p, and how far it goes
 
-module _ (image m mask labels : List ℕ) (chosen : Bool) (p : ℕ) where
-  pub print-code : tracedMark (getD m p 0) ≡ true → codeLines image m labels chosen p ≡ linesAt image m mask labels chosen p
+module _ (mode : Mode) (image m mask labels : List ℕ) (chosen : Bool) (p : ℕ) where
+  pub print-code : tracedMark (getD m p 0) ≡ true → codeLines mode image m labels chosen p ≡ linesAt mode image m mask labels chosen p
   unfolding linesAt
   print-code e = rw e
 
-  pub print-none : tracedMark (getD m p 0) ≡ false → (getD mask p 0 ≡ 0 → ⊥) → [] ≡ linesAt image m mask labels chosen p
+  pub print-none : tracedMark (getD m p 0) ≡ false → (getD mask p 0 ≡ 0 → ⊥) → [] ≡ linesAt mode image m mask labels chosen p
   unfolding linesAt
   print-none e f = rw (e, ne-eqb (getD mask p 0) 0 f)
 
-  pub print-data : tracedMark (getD m p 0) ≡ false → getD mask p 0 ≡ 0 → (run : List ℕ) → run ≡ dataRun image mask p → dataLine p run ≡ linesAt image m mask labels chosen p
+  pub print-data : tracedMark (getD m p 0) ≡ false → getD mask p 0 ≡ 0 → (run : List ℕ) → run ≡ dataRun image mask p → dataLine p run ≡ linesAt mode image m mask labels chosen p
   unfolding linesAt
   print-data e f run g = rw (e, eq-eqb (getD mask p 0) 0 f, g)
 
@@ -101,9 +102,9 @@ step-fits image m mask p h = by (tracedMark (getD m p 0)) (eqb (getD mask p 0) 0
 
 -- ---- what is left
 
-module _ (image m mask labels : List ℕ) (chosen : Bool) where
+module _ (mode : Mode) (image m mask labels : List ℕ) (chosen : Bool) where
   abbrev from : ℕ → ℕ → ℕ → List ℕ
-  from k p s = walk image m mask labels chosen k p s
+  from k p s = walk mode image m mask labels chosen k p s
 
   -- passing over s positions is the walk from s further on
   walk-pass : (s k p : ℕ) → from (s + k) p s ≡ from k (p + s) 0
@@ -112,7 +113,7 @@ module _ (image m mask labels : List ℕ) (chosen : Bool) where
   walk-pass (suc s) k p =
       ap (λ (n : ℕ). from n p (suc s)) (suc-add s k) ∙ walk-pass s k (suc p) ∙ ap (λ (n : ℕ). from k n 0) (suc-add p s ∙ sym (add-suc p s))
 
-  walk-step : (k p : ℕ) → from (suc k) p 0 ≡ linesAt image m mask labels chosen p ++ from k (suc p) (passed image m mask p)
+  walk-step : (k p : ℕ) → from (suc k) p 0 ≡ linesAt mode image m mask labels chosen p ++ from k (suc p) (passed image m mask p)
   unfolding walk
   walk-step k p = refl
 
@@ -120,10 +121,10 @@ module _ (image m mask labels : List ℕ) (chosen : Bool) where
   abbrev pub leftAt : ℕ → List ℕ
   leftAt p = from (length image - p) p 0
 
-  pub left-start : leftAt 0 ≡ walk image m mask labels chosen (length image) 0 0
+  pub left-start : leftAt 0 ≡ walk mode image m mask labels chosen (length image) 0 0
   left-start = let e : length image - 0 ≡ length image = omega arith in ap (λ (n : ℕ). from n 0 0) e
 
-  pub left-next : (p s : ℕ) → p < length image → s ≡ 1 + passed image m mask p → leftAt p ≡ linesAt image m mask labels chosen p ++ leftAt (p + s)
+  pub left-next : (p s : ℕ) → p < length image → s ≡ 1 + passed image m mask p → leftAt p ≡ linesAt mode image m mask labels chosen p ++ leftAt (p + s)
   left-next p s h e =
       let j : ℕ = passed image m mask p in
       let k : ℕ = length image - (p + s) in
@@ -132,7 +133,7 @@ module _ (image m mask labels : List ℕ) (chosen : Bool) where
       let r : suc p + j ≡ p + s = omega (arith, e) in
       ap (λ (n : ℕ). from n p 0) q
       ∙ walk-step (j + k) p
-      ∙ ap (λ (l : List ℕ). linesAt image m mask labels chosen p ++ l) (walk-pass j k (suc p) ∙ ap (λ (n : ℕ). from k n 0) r)
+      ∙ ap (λ (l : List ℕ). linesAt mode image m mask labels chosen p ++ l) (walk-pass j k (suc p) ∙ ap (λ (n : ℕ). from k n 0) r)
 
   pub left-end : (p : ℕ) → length image ≤ p → leftAt p ≡ []
   unfolding walk

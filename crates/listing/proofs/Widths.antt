@@ -11,6 +11,7 @@ use lib.Dec.{eqb, ltb, leb}
 use lib.ListN.{length, getD, drop, length-append, length-take}
 use Rattle.instruction.specs.Parts.{partsOf}
 use Rattle.instruction.specs.declared.instr.Instr.{Instr}
+use Rattle.instruction.specs.declared.mode.Mode.{Mode}
 use Rattle.targets.specs.At.{formHere, sizeHere}
 use Rattle.targets.specs.Here.{hereOf}
 use Rattle.targets.specs.Targets.{nextOf}
@@ -73,31 +74,32 @@ module _ (image m : List ℕ) (B : Small image) where
       by true false h = omega (arith, size-short image p B .1)
       by false b h = omega arith
 
+module _ (mode : Mode) (image m : List ℕ) (B : Small image) where
   -- what stands at q, shown at any place
-  whole-width : (q : ℕ) (i : Instr) → Whole i ≡ hereOf image q → (p : ℕ) (all : List ℕ) → length (instrText p i all) ≤ 31
+  whole-width : (q : ℕ) (i : Instr) → Whole i ≡ hereOf image q → (p : ℕ) (all : List ℕ) → length (instrText mode p i all) ≤ 31
   whole-width q i e p all =
       let w = here-whole image q (whole-inside image q i e) i e in
       let f : partsOf i .form ≡ formHere image q = ap (λ j. partsOf j .form) (w .1) ∙ form-is image q B in
-      instr-width p i all (omega (arith, f, form-here image q B))
+      instr-width mode p i all (omega (arith, f, form-here image q B))
 
-  here-width : (p : ℕ) → length (hereLine image p (hereOf image p)) ≤ 31
+  here-width : (p : ℕ) → length (hereLine mode image p (hereOf image p)) ≤ 31
   here-width p = by (hereOf image p) refl
     where
-      by : (h : Here) → h ≡ hereOf image p → length (hereLine image p h) ≤ 31
+      by : (h : Here) → h ≡ hereOf image p → length (hereLine mode image p h) ≤ 31
       by (Whole i) e = whole-width p i e p (drop p image)
       by (Cut c) e = omega arith
       by Outside e = omega arith
 
   -- bytes by themselves
-  pub alone-width : (p : ℕ) → length (codeLine p image) ≤ 31
+  pub alone-width : (p : ℕ) → length (codeLine mode p image) ≤ 31
   unfolding codeLine
   alone-width p = by (hereOf image 0) refl
     where
-      past : (b : Bool) (i : Instr) → Whole i ≡ hereOf image 0 → length (cond b [] (instrText p i image)) ≤ 31
+      past : (b : Bool) (i : Instr) → Whole i ≡ hereOf image 0 → length (cond b [] (instrText mode p i image)) ≤ 31
       past true i e = omega arith
       past false i e = whole-width 0 i e p image
 
-      by : (h : Here) → h ≡ hereOf image 0 → length (codeBy p image h) ≤ 31
+      by : (h : Here) → h ≡ hereOf image 0 → length (codeBy mode p image h) ≤ 31
       by (Whole i) e = past (ltb 65536 (nextOf p i)) i e
       by (Cut c) e = omega arith
       by Outside e = omega arith
@@ -116,46 +118,46 @@ module _ (image m : List ℕ) (B : Small image) where
 
   -- the line of arrivals
   abbrev arrived : Bool → ℕ → List ℕ
-  arrived chosen p = cond chosen (arrivalLine p (arrivalsOf image m p)) []
+  arrived chosen p = cond chosen (arrivalLine p (arrivalsOf mode image m p)) []
 
   -- 7 bytes, and 5 for each of those that arrive
   abbrev arrivedMost : ℕ → ℕ
-  arrivedMost p = 7 + 5 * length (arrivalsOf image m p)
+  arrivedMost p = 7 + 5 * length (arrivalsOf mode image m p)
 
   arrived-width : (p : ℕ) → length (arrived true p) ≤ arrivedMost p
   unfolding arrivalLine
-  arrived-width p = omega (arith, found-width (code "A") p (arrivalsOf image m p))
+  arrived-width p = omega (arith, found-width (code "A") p (arrivalsOf mode image m p))
 
   -- where it has at most w p bytes
   module _ (chosen : Bool) (w : ℕ → ℕ) (most : (p : ℕ) → length (arrived chosen p) ≤ w p) (mask labels : List ℕ) where
-    code-width : (p : ℕ) → length (codeLines image m labels chosen p) ≤ 60 + w p
+    code-width : (p : ℕ) → length (codeLines mode image m labels chosen p) ≤ 60 + w p
     unfolding codeLines overlapLine
     code-width p =
         let l = cond (eqb (getD labels p 0) 0) [] (labelLine p) in
         let o = overlapLine p (overlapsOf image m p) in
-        let h = hereLine image p (hereOf image p) in
-        omega (arith, label-length (getD labels p 0) p, found-width (code "O") p (overlapsOf image m p), overlaps-few p, most p, here-width p, length-append l (o ++ (arrived chosen p ++ h)), length-append o (arrived chosen p ++ h), length-append (arrived chosen p) h)
+        let h = hereLine mode image p (hereOf image p) in
+        omega (arith, label-length (getD labels p 0) p, found-width (code "O") p (overlapsOf image m p), overlaps-few image m B p, most p, here-width p, length-append l (o ++ (arrived chosen p ++ h)), length-append o (arrived chosen p ++ h), length-append (arrived chosen p) h)
 
-    printed-width : (p : ℕ) → length (linesAt image m mask labels chosen p) ≤ 60 + w p
+    printed-width : (p : ℕ) → length (linesAt mode image m mask labels chosen p) ≤ 60 + w p
     unfolding linesAt
     printed-width p = by (tracedMark (getD m p 0)) (eqb (getD mask p 0) 0)
       where
-        by : (t b : Bool) → length (cond t (codeLines image m labels chosen p) (cond b (dataLine p (dataRun image mask p)) [])) ≤ 60 + w p
+        by : (t b : Bool) → length (cond t (codeLines mode image m labels chosen p) (cond b (dataLine p (dataRun image mask p)) [])) ≤ 60 + w p
         by true b = code-width p
         by false true = omega (arith, data-width p (dataRun image mask p) (run-short mask p))
         by false false = omega arith
 
-    walk-width : (k p s : ℕ) → length (walk image m mask labels chosen k p s) ≤ 60 * k + total w k p
+    walk-width : (k p s : ℕ) → length (walk mode image m mask labels chosen k p s) ≤ 60 * k + total w k p
     unfolding walk total
     walk-width zero p s = omega arith
     walk-width (suc k) p (suc s) = omega (arith, walk-width k (suc p) s)
     walk-width (suc k) p zero =
-        let rest = walk image m mask labels chosen k (suc p) (passed image m mask p) in
-        omega (arith, printed-width p, walk-width k (suc p) (passed image m mask p), length-append (linesAt image m mask labels chosen p) rest)
+        let rest = walk mode image m mask labels chosen k (suc p) (passed image m mask p) in
+        omega (arith, printed-width p, walk-width k (suc p) (passed image m mask p), length-append (linesAt mode image m mask labels chosen p) rest)
 
-  pub all-width : (mask labels : List ℕ) (chosen : Bool) → length (walk image m mask labels chosen (length image) 0 0) ≤ cond chosen 77 60 * length image
+  pub all-width : (mask labels : List ℕ) (chosen : Bool) → length (walk mode image m mask labels chosen (length image) 0 0) ≤ cond chosen 77 60 * length image
   all-width mask labels true =
-      let f : ℕ → ℕ = λ (p : ℕ). length (arrivalsOf image m p) in
-      omega (arith, walk-width true arrivedMost arrived-width mask labels (length image) 0 0, total-line f (length image) 0, arrivals-few image m (length image) 0)
+      let f : ℕ → ℕ = λ (p : ℕ). length (arrivalsOf mode image m p) in
+      omega (arith, walk-width true arrivedMost arrived-width mask labels (length image) 0 0, total-line f (length image) 0, arrivals-few mode image m (length image) 0)
   all-width mask labels false =
       omega (arith, walk-width false (λ (p : ℕ). 0) (λ p. omega arith) mask labels (length image) 0 0, total-same 0 (length image) 0)

@@ -7,6 +7,7 @@ use mathlib.Core.Path.{_≡_}
 use lib.Dec.{ltb}
 use lib.ListN.{length}
 use Rattle.instruction.specs.Answer.{Answer}
+use Rattle.instruction.specs.declared.mode.Mode.{Mode}
 use Rattle.views.specs.View.{viewAnswer, viewRoom}
 use Rattle.views.specs.Labels.{labelsOf}
 use Rattle.views.specs.Mask.{maskOf}
@@ -18,16 +19,16 @@ abbrev pub isLent : List ℕ → Bool
 isLent index = ltb 0 (length index)
 
 -- any other is the index of this image and these marks
-abbrev pub Indexed : List ℕ → List ℕ → List ℕ → Type 0
-Indexed image m index = isLent index ≡ true → index ≡ indexOf image m
+abbrev pub Indexed : Mode → List ℕ → List ℕ → List ℕ → Type 0
+Indexed mode image m index = isLent index ≡ true → index ≡ indexOf mode image m
 
 -- the listing, with arrivals or without
-unfoldable pub textOf : List ℕ → List ℕ → Bool → List ℕ
-textOf image m chosen = walk image m (maskOf image m) (labelsOf image m) chosen (length image) 0 0
+unfoldable pub textOf : Mode → List ℕ → List ℕ → Bool → List ℕ
+textOf mode image m chosen = walk mode image m (maskOf image m) (labelsOf mode image m) chosen (length image) 0 0
 
 -- what the call answers of it, and what it leaves in the room
-abbrev pub textAnswer : List ℕ → List ℕ → Bool → List ℕ → Answer ℕ
-textAnswer image m chosen room = viewAnswer image m (textOf image m chosen) room
+abbrev pub textAnswer : Mode → List ℕ → List ℕ → Bool → List ℕ → Answer ℕ
+textAnswer mode image m chosen room = viewAnswer image m (textOf mode image m chosen) room
 
-abbrev pub textRoom : List ℕ → List ℕ → Bool → List ℕ → List ℕ
-textRoom image m chosen room = viewRoom image m (textOf image m chosen) room
+abbrev pub textRoom : Mode → List ℕ → List ℕ → Bool → List ℕ → List ℕ
+textRoom mode image m chosen room = viewRoom image m (textOf mode image m chosen) room

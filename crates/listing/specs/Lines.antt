@@ -12,6 +12,7 @@ use Rattle.instruction.specs.Forms.{sizeOf}
 use Rattle.instruction.specs.Mnemonic.{mnemonicOf}
 use Rattle.instruction.specs.Parts.{partsOf}
 use Rattle.instruction.specs.declared.instr.Instr.{Instr}
+use Rattle.instruction.specs.declared.mode.Mode.{Mode}
 use Rattle.targets.specs.Here.{hereOf}
 use Rattle.targets.specs.Targets.{nextOf}
 use Rattle.targets.specs.declared.here.Here.{Here}
@@ -35,27 +36,27 @@ unfoldable pub arrivalLine : ℕ → List ℕ → List ℕ
 arrivalLine p qs = foundLine (code "A") p qs
 
 -- the instruction i at p, with which these bytes begin
-unfoldable pub instrText : ℕ → Instr → List ℕ → List ℕ
-instrText p i bytes =
-    line (code "I") (hex4 p ∷ hexes (take (sizeOf (formIn i)) bytes) ∷ mnemonicOf (partsOf i .form) ∷ operands p i)
+unfoldable pub instrText : Mode → ℕ → Instr → List ℕ → List ℕ
+instrText mode p i bytes =
+    line (code "I") (hex4 p ∷ hexes (take (sizeOf (formIn i)) bytes) ∷ mnemonicOf (partsOf i .form) ∷ operands mode p i)
 
-abbrev pub instrLine : List ℕ → ℕ → Instr → List ℕ
-instrLine image p i = instrText p i (drop p image)
+abbrev pub instrLine : Mode → List ℕ → ℕ → Instr → List ℕ
+instrLine mode image p i = instrText mode p i (drop p image)
 
 -- what stands at p; a traced instruction that is cut off was refused before
-abbrev pub hereLine : List ℕ → ℕ → Here → List ℕ
-hereLine image p (Whole i) = instrLine image p i
-hereLine image p (Cut c) = []
-hereLine image p Outside = []
+abbrev pub hereLine : Mode → List ℕ → ℕ → Here → List ℕ
+hereLine mode image p (Whole i) = instrLine mode image p i
+hereLine mode image p (Cut c) = []
+hereLine mode image p Outside = []
 
 -- bytes by themselves at p: the line of the instruction that they begin with; none where it is cut off, or next is over 65,536
-abbrev pub codeBy : ℕ → List ℕ → Here → List ℕ
-codeBy p bytes (Whole i) = cond (ltb 65536 (nextOf p i)) [] (instrText p i bytes)
-codeBy p bytes (Cut c) = []
-codeBy p bytes Outside = []
+abbrev pub codeBy : Mode → ℕ → List ℕ → Here → List ℕ
+codeBy mode p bytes (Whole i) = cond (ltb 65536 (nextOf p i)) [] (instrText mode p i bytes)
+codeBy mode p bytes (Cut c) = []
+codeBy mode p bytes Outside = []
 
-unfoldable pub codeLine : ℕ → List ℕ → List ℕ
-codeLine p bytes = codeBy p bytes (hereOf bytes 0)
+unfoldable pub codeLine : Mode → ℕ → List ℕ → List ℕ
+codeLine mode p bytes = codeBy mode p bytes (hereOf bytes 0)
 
 abbrev pub allZero : List ℕ → Bool
 allZero [] = true

@@ -14,6 +14,7 @@ use Rattle.instruction.specs.declared.kind.Kind.the-variants.{Absent, Immediate
 use Rattle.instruction.specs.Encode.{formIn}
 use Rattle.instruction.specs.Parts.{partsOf}
 use Rattle.instruction.specs.declared.instr.Instr.{Instr}
+use Rattle.instruction.specs.declared.mode.Mode.{Mode}
 use Rattle.targets.specs.At.{placeOf}
 use Rattle.targets.specs.Targets.{targetsAnswer}
 use Rattle.listing.specs.Hex.{hex1, hex2, hex3, hex4}
@@ -51,8 +52,8 @@ firstOf (accepted (t ∷ ts)) = placeOf t
 firstOf (refused n vs) = 65536
 
 -- of the instruction i at p
-abbrev pub operands : ℕ → Instr → List (List ℕ)
-operands p i = operandsBy (firstOf (targetsAnswer p i)) i
+abbrev pub operands : Mode → ℕ → Instr → List (List ℕ)
+operands mode p i = operandsBy (firstOf (targetsAnswer mode p i)) i
 
 -- of an inner function: a tab and the operand, if there is one
 abbrev pub shownField : ℕ → Kind → ℕ → List ℕ

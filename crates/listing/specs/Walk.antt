@@ -8,6 +8,7 @@ use mathlib.Core.List.{List, [], _++_}
 use lib.Dec.{eqb}
 use lib.ListN.{length, getD}
 use Rattle.instruction.specs.Answer.{Answer}
+use Rattle.instruction.specs.declared.mode.Mode.{Mode}
 use Rattle.views.specs.View.{viewAnswer, viewRoom}
 use Rattle.reach.specs.Mark.{tracedMark}
 use Rattle.targets.specs.Here.{hereOf}
@@ -29,17 +30,17 @@ abbrev pub unchosen : Arrivals
 unchosen = Chosen
 
 -- the lines of a traced position, by the target marks
-unfoldable pub codeLines : List ℕ → List ℕ → List ℕ → Bool → ℕ → List ℕ
-codeLines image m labels chosen p =
+unfoldable pub codeLines : Mode → List ℕ → List ℕ → List ℕ → Bool → ℕ → List ℕ
+codeLines mode image m labels chosen p =
     cond (eqb (getD labels p 0) 0) [] (labelLine p)
     ++ (overlapLine p (overlapsOf image m p)
-    ++ (cond chosen (arrivalLine p (arrivalsOf image m p)) []
-    ++ hereLine image p (hereOf image p)))
+    ++ (cond chosen (arrivalLine p (arrivalsOf mode image m p)) []
+    ++ hereLine mode image p (hereOf image p)))
 
 -- what is printed at p, by the mask and the target marks
-unfoldable pub linesAt : List ℕ → List ℕ → List ℕ → List ℕ → Bool → ℕ → List ℕ
-linesAt image m mask labels chosen p =
-    cond (tracedMark (getD m p 0)) (codeLines image m labels chosen p)
+unfoldable pub linesAt : Mode → List ℕ → List ℕ → List ℕ → List ℕ → Bool → ℕ → List ℕ
+linesAt mode image m mask labels chosen p =
+    cond (tracedMark (getD m p 0)) (codeLines mode image m labels chosen p)
     (cond (eqb (getD mask p 0) 0) (dataLine p (dataRun image mask p)) [])
 
 -- how many positions after p are passed over with it
@@ -48,18 +49,18 @@ passed image m mask p =
     cond (tracedMark (getD m p 0)) 0 (cond (eqb (getD mask p 0) 0) (length (dataRun image mask p) - 1) 0)
 
 -- the k positions from p on, of which the first s are passed over
-unfoldable pub walk : List ℕ → List ℕ → List ℕ → List ℕ → Bool → ℕ → ℕ → ℕ → List ℕ
-walk image m mask labels chosen zero p s = []
-walk image m mask labels chosen (suc k) p (suc s) = walk image m mask labels chosen k (suc p) s
-walk image m mask labels chosen (suc k) p zero =
-    linesAt image m mask labels chosen p ++ walk image m mask labels chosen k (suc p) (passed image m mask p)
+unfoldable pub walk : Mode → List ℕ → List ℕ → List ℕ → List ℕ → Bool → ℕ → ℕ → ℕ → List ℕ
+walk mode image m mask labels chosen zero p s = []
+walk mode image m mask labels chosen (suc k) p (suc s) = walk mode image m mask labels chosen k (suc p) s
+walk mode image m mask labels chosen (suc k) p zero =
+    linesAt mode image m mask labels chosen p ++ walk mode image m mask labels chosen k (suc p) (passed image m mask p)
 
-unfoldable pub listingOf : List ℕ → List ℕ → Arrivals → List ℕ
-listingOf image m choice = walk image m (maskOf image m) (labelsOf image m) (isChosen choice) (length image) 0 0
+unfoldable pub listingOf : Mode → List ℕ → List ℕ → Arrivals → List ℕ
+listingOf mode image m choice = walk mode image m (maskOf image m) (labelsOf mode image m) (isChosen choice) (length image) 0 0
 
 -- what the call answers, and what it leaves in the room
-abbrev pub listingAnswer : List ℕ → List ℕ → Arrivals → List ℕ → Answer ℕ
-listingAnswer image m choice room = viewAnswer image m (listingOf image m choice) room
+abbrev pub listingAnswer : Mode → List ℕ → List ℕ → Arrivals → List ℕ → Answer ℕ
+listingAnswer mode image m choice room = viewAnswer image m (listingOf mode image m choice) room
 
-abbrev pub listingRoom : List ℕ → List ℕ → Arrivals → List ℕ → List ℕ
-listingRoom image m choice room = viewRoom image m (listingOf image m choice) room
+abbrev pub listingRoom : Mode → List ℕ → List ℕ → Arrivals → List ℕ → List ℕ
+listingRoom mode image m choice room = viewRoom image m (listingOf mode image m choice) room

@@ -20,6 +20,7 @@ ghost use Rattle.text.specs.Puts.{Puts};
 use crate::operands;
 use crate::put;
 use instruction::Instr;
+use instruction::Mode;
 use targets::Here;
 use targets::Image;
 use views::Overlaps;
@@ -89,6 +90,7 @@ pub fn put_overlaps(image: &[u8], marks: &[u8], out: &mut [u8], at: usize, p: u3
 
 // The arrivals at p from the first of them on as fields, and the end of the line.
 fn put_arrived(
+    mode: Mode,
     image: &[u8],
     marks: &[u8],
     index: &[u32],
@@ -97,9 +99,9 @@ fn put_arrived(
     p: u32,
     first: u32,
 ) -> usize
-    requires { ⌜ (at < 2 ^ 55) × (length (now image) ≤ 65536) × (now index ≡ indexOf (now image) (now marks))
-        × (first ≡ nextArrival (now image) (now marks) p 0) ⌝ }
-    ensures { λ r. ⌜ Puts (fieldsText (map hex4 (arrivalsOf (now (image .entry)) (now (marks .entry)) p))) at (now (out .entry)) (now (out .exit)) r ⌝ }
+    requires { ⌜ (at < 2 ^ 55) × (length (now image) ≤ 65536) × (now index ≡ indexOf mode (now image) (now marks))
+        × (first ≡ nextArrival mode (now image) (now marks) p 0) ⌝ }
+    ensures { λ r. ⌜ Puts (fieldsText (map hex4 (arrivalsOf mode (now (image .entry)) (now (marks .entry)) p))) at (now (out .entry)) (now (out .exit)) r ⌝ }
     ensures { λ r. ⌜ r ≤ at + 327681 ⌝ }
 {
     let n = image.len() as u32;
@@ -107,13 +109,14 @@ fn put_arrived(
     let mut q = first;
     while q < n {
         a = put::put_place(out, a, q);
-        q = arrivals::next(index, image, marks, p, q);
+        q = arrivals::next(mode, index, image, marks, p, q);
     }
     put::put_byte(out, a, b'\n')
 }
 
 // `A`, where an index of the arrivals is lent and there are any.
 pub fn put_arrivals(
+    mode: Mode,
     image: &[u8],
     marks: &[u8],
     index: &[u32],
@@ -121,9 +124,9 @@ pub fn put_arrivals(
     at: usize,
     p: u32,
 ) -> usize
-    requires { ⌜ (at < 2 ^ 54) × (length (now image) ≤ 65536) × (p < length (now image)) × Indexed (now image) (now marks) (now index) ⌝ }
+    requires { ⌜ (at < 2 ^ 54) × (length (now image) ≤ 65536) × (p < length (now image)) × Indexed mode (now image) (now marks) (now index) ⌝ }
     ensures { λ r. ⌜ Puts
-        (cond (isLent (now (index .entry))) (arrivalLine p (arrivalsOf (now (image .entry)) (now (marks .entry)) p)) [])
+        (cond (isLent (now (index .entry))) (arrivalLine p (arrivalsOf mode (now (image .entry)) (now (marks .entry)) p)) [])
         at (now (out .entry)) (now (out .exit)) r ⌝ }
     ensures { λ r. ⌜ r ≤ at + 2 ^ 20 ⌝ }
 {
@@ -135,16 +138,16 @@ pub fn put_arrivals(
         return at;
     }
     let a = put::put_start(out, at, b'A', p);
-    put_arrived(image, marks, index, out, a, p, first)
+    put_arrived(mode, image, marks, index, out, a, p, first)
 }
 
 // `I`, of an instruction with which these bytes begin.
-pub fn put_instr(bytes: &[u8], out: &mut [u8], at: usize, p: u32, instr: Instr) -> usize
+pub fn put_instr(mode: Mode, bytes: &[u8], out: &mut [u8], at: usize, p: u32, instr: Instr) -> usize
     requires { ⌜ (at < 2 ^ 54) × (sizeOf (formIn instr) < 4) × (sizeOf (formIn instr) ≤ length (now bytes)) ⌝ }
-    ensures { λ r. ⌜ Puts (instrText p instr (now (bytes .entry))) at (now (out .entry)) (now (out .exit)) r ⌝ }
+    ensures { λ r. ⌜ Puts (instrText mode p instr (now (bytes .entry))) at (now (out .entry)) (now (out .exit)) r ⌝ }
     ensures { λ r. ⌜ r ≤ at + 2 ^ 18 ⌝ }
 {
-    let t = operands::first_of(targets::targets(p, instr));
+    let t = operands::first_of(targets::targets(mode, p, instr));
     let n = instr.size();
     let word = instr.mnemonic();
     let a1 = put::put_start(out, at, b'I', p);
@@ -154,13 +157,13 @@ pub fn put_instr(bytes: &[u8], out: &mut [u8], at: usize, p: u32, instr: Instr) 
 }
 
 // `I`, of what stands at p.
-pub fn put_here(image: &[u8], out: &mut [u8], at: usize, p: u32) -> usize
+pub fn put_here(mode: Mode, image: &[u8], out: &mut [u8], at: usize, p: u32) -> usize
     requires { ⌜ at < 2 ^ 54 ⌝ }
-    ensures { λ r. ⌜ Puts (hereLine (now (image .entry)) p (hereOf (now (image .entry)) p)) at (now (out .entry)) (now (out .exit)) r ⌝ }
+    ensures { λ r. ⌜ Puts (hereLine mode (now (image .entry)) p (hereOf (now (image .entry)) p)) at (now (out .entry)) (now (out .exit)) r ⌝ }
     ensures { λ r. ⌜ r ≤ at + 2 ^ 20 ⌝ }
 {
     match targets::instr_at(image, p) {
-        Here::Whole(i) => put_instr(&image[p as usize..], out, at, p, i),
+        Here::Whole(i) => put_instr(mode, &image[p as usize..], out, at, p, i),
         Here::Cut(_) => at,
         Here::Outside => at,
     }

@@ -6,6 +6,7 @@ ghost use Rattle.listing.specs.Lent.{isLent, Indexed, textAnswer, textRo
 ghost use Rattle.listing.specs.Walk.{isChosen, unchosen, listingAnswer, listingRoom};
 use crate::rooms;
 use crate::walk;
+use instruction::Mode;
 use views::Viewed;
 
 // Whether the listing shows arrivals.
@@ -29,55 +30,69 @@ impl Arrivals {
 }
 
 // The listing of marks that are not damaged, with arrivals where an index of them is lent.
-fn list(image: &[u8], marks: &[u8], index: &[u32], room: &mut [u8]) -> Viewed
-    requires { ⌜ Sound (now image) (now marks) × Indexed (now image) (now marks) (now index) ⌝ }
-    ensures { λ r. ⌜ viewedOf r ≡ textAnswer (now (image .entry)) (now (marks .entry)) (isLent (now (index .entry))) (now (room .entry)) ⌝ }
-    ensures { λ _. ⌜ now (room .exit) ≡ textRoom (now (image .entry)) (now (marks .entry)) (isLent (now (index .entry))) (now (room .entry)) ⌝ }
+fn list(mode: Mode, image: &[u8], marks: &[u8], index: &[u32], room: &mut [u8]) -> Viewed
+    requires { ⌜ Sound (now image) (now marks) × Indexed mode (now image) (now marks) (now index) ⌝ }
+    ensures { λ r. ⌜ viewedOf r ≡ textAnswer mode (now (image .entry)) (now (marks .entry)) (isLent (now (index .entry))) (now (room .entry)) ⌝ }
+    ensures { λ _. ⌜ now (room .exit) ≡ textRoom mode (now (image .entry)) (now (marks .entry)) (isLent (now (index .entry))) (now (room .entry)) ⌝ }
 {
     let n = image.len();
     let mut mask = rooms::bytes();
     let mut labels = rooms::bytes();
     views::build_byte_mask(image, marks, &mut mask);
-    views::target_marks(image, marks, &mut labels);
-    let need = walk::needed(image, marks, &mask[0..n], &labels[0..n], index, room.len());
+    views::target_marks(mode, image, marks, &mut labels);
+    let need = walk::needed(
+        mode,
+        image,
+        marks,
+        &mask[0..n],
+        &labels[0..n],
+        index,
+        room.len(),
+    );
     if room.len() < need {
         return Viewed::NoRoom(need);
     }
-    Viewed::Written(walk::put_walk(image, marks, &mask[0..n], &labels[0..n], index, room))
+    Viewed::Written(walk::put_walk(mode, image, marks, &mask[0..n], &labels[0..n], index, room))
 }
 
 // The same with arrivals.
-fn list_arrivals(image: &[u8], marks: &[u8], room: &mut [u8]) -> Viewed
+fn list_arrivals(mode: Mode, image: &[u8], marks: &[u8], room: &mut [u8]) -> Viewed
     requires { ⌜ Sound (now image) (now marks) ⌝ }
-    ensures { λ r. ⌜ viewedOf r ≡ textAnswer (now (image .entry)) (now (marks .entry)) true (now (room .entry)) ⌝ }
-    ensures { λ _. ⌜ now (room .exit) ≡ textRoom (now (image .entry)) (now (marks .entry)) true (now (room .entry)) ⌝ }
+    ensures { λ r. ⌜ viewedOf r ≡ textAnswer mode (now (image .entry)) (now (marks .entry)) true (now (room .entry)) ⌝ }
+    ensures { λ _. ⌜ now (room .exit) ≡ textRoom mode (now (image .entry)) (now (marks .entry)) true (now (room .entry)) ⌝ }
 {
     let n = 3 * image.len();
     let mut index = rooms::cells();
-    arrivals::index_into(image, marks, &mut index[..n]);
-    list(image, marks, &index[..n], room)
+    arrivals::index_into(mode, image, marks, &mut index[..n]);
+    list(mode, image, marks, &index[..n], room)
 }
 
 // The listing of the traced image, with arrivals where they are chosen: how many bytes were written.
-pub fn listing_with(image: &[u8], marks: &[u8], arrivals: Arrivals, room: &mut [u8]) -> Viewed
-    ensures { λ r. ⌜ viewedOf r ≡ listingAnswer (now (image .entry)) (now (marks .entry)) arrivals (now (room .entry)) ⌝ }
-    ensures { λ _. ⌜ now (room .exit) ≡ listingRoom (now (image .entry)) (now (marks .entry)) arrivals (now (room .entry)) ⌝ }
+pub fn listing_with(
+    mode: Mode,
+    image: &[u8],
+    marks: &[u8],
+    arrivals: Arrivals,
+    room: &mut [u8],
+) -> Viewed
+    ensures { λ r. ⌜ viewedOf r ≡ listingAnswer mode (now (image .entry)) (now (marks .entry)) arrivals (now (room .entry)) ⌝ }
+    ensures { λ _. ⌜ now (room .exit) ≡ listingRoom mode (now (image .entry)) (now (marks .entry)) arrivals (now (room .entry)) ⌝ }
 {
     let v = views::check(image, marks);
     if !v.is_written() {
         return v;
     }
     if arrivals.is_chosen() {
-        return list_arrivals(image, marks, room);
+        return list_arrivals(mode, image, marks, room);
     }
     let none = [0u32; 1];
-    list(image, marks, &none[0..0], room)
+    list(mode, image, marks, &none[0..0], room)
 }
 
 // The listing without a choice.
-pub fn listing(image: &[u8], marks: &[u8], room: &mut [u8]) -> Viewed
-    ensures { λ r. ⌜ viewedOf r ≡ listingAnswer (now (image .entry)) (now (marks .entry)) unchosen (now (room .entry)) ⌝ }
-    ensures { λ _. ⌜ now (room .exit) ≡ listingRoom (now (image .entry)) (now (marks .entry)) unchosen (now (room .entry)) ⌝ }
+pub fn listing(mode: Mode, image: &[u8], marks: &[u8], room: &mut [u8]) -> Viewed
+    ensures { λ r. ⌜ viewedOf r ≡ listingAnswer mode (now (image .entry)) (now (marks .entry)) unchosen (now (room .entry)) ⌝ }
+    ensures { λ _. ⌜ now (room .exit) ≡ listingRoom mode (now (image .entry)) (now (marks .entry)) unchosen (now (room .entry)) ⌝ }
 {
-    listing_with(image, marks, Arrivals::DEFAULT, room)
+    listing_with(mode, image, marks, Arrivals::DEFAULT, room)
 }

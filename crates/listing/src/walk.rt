@@ -7,6 +7,7 @@ ghost use Rattle.listing.specs.Lent.{isLent, Indexed};
 ghost use Rattle.text.specs.Puts.{Puts, Needed};
 ghost use Rattle.listing.specs.Walk.{codeLines, linesAt, passed, walk};
 use crate::lines;
+use instruction::Mode;
 use marks::Mark;
 
 // The bytes that a position has at most, without arrivals.
@@ -17,6 +18,7 @@ const MOST_WITH: usize = 77;
 
 // The lines of a traced position.
 fn put_code(
+    mode: Mode,
     image: &[u8],
     marks: &[u8],
     labels: &[u8],
@@ -26,20 +28,21 @@ fn put_code(
     p: u32,
 ) -> usize
     requires { ⌜ (at < 2 ^ 52) × (length (now image) ≤ 65536) × (p < length (now labels)) × (p < length (now image))
-        × Indexed (now image) (now marks) (now index) ⌝ }
+        × Indexed mode (now image) (now marks) (now index) ⌝ }
     ensures { λ r. ⌜ Puts
-        (codeLines (now (image .entry)) (now (marks .entry)) (now (labels .entry)) (isLent (now (index .entry))) p)
+        (codeLines mode (now (image .entry)) (now (marks .entry)) (now (labels .entry)) (isLent (now (index .entry))) p)
         at (now (out .entry)) (now (out .exit)) r ⌝ }
     ensures { λ r. ⌜ r ≤ at + 2 ^ 22 ⌝ }
 {
     let a = lines::put_label(out, at, p, labels[p as usize]);
     let b = lines::put_overlaps(image, marks, out, a, p);
-    let c = lines::put_arrivals(image, marks, index, out, b, p);
-    lines::put_here(image, out, c, p)
+    let c = lines::put_arrivals(mode, image, marks, index, out, b, p);
+    lines::put_here(mode, image, out, c, p)
 }
 
 // What is printed at a position.
 fn put_at(
+    mode: Mode,
     image: &[u8],
     marks: &[u8],
     mask: &[u8],
@@ -50,15 +53,15 @@ fn put_at(
     p: u32,
 ) -> usize
     requires { ⌜ (at < 2 ^ 52) × (length (now image) ≤ 65536) × (p < length (now labels)) × (p < length (now marks)) × (p < length (now mask))
-        × (p < length (now image)) × Indexed (now image) (now marks) (now index) ⌝ }
+        × (p < length (now image)) × Indexed mode (now image) (now marks) (now index) ⌝ }
     ensures { λ r. ⌜ Puts
-        (linesAt (now (image .entry)) (now (marks .entry)) (now (mask .entry)) (now (labels .entry)) (isLent (now (index .entry))) p)
+        (linesAt mode (now (image .entry)) (now (marks .entry)) (now (mask .entry)) (now (labels .entry)) (isLent (now (index .entry))) p)
         at (now (out .entry)) (now (out .exit)) r ⌝ }
     ensures { λ r. ⌜ r ≤ at + 2 ^ 22 ⌝ }
 {
     let i = p as usize;
     if Mark::is_traced(marks[i]) {
-        return put_code(image, marks, labels, index, out, at, p);
+        return put_code(mode, image, marks, labels, index, out, at, p);
     }
     if mask[i] != 0 {
         return at;
@@ -82,6 +85,7 @@ fn step_at(image: &[u8], marks: &[u8], mask: &[u8], p: u32) -> usize
 }
 
 pub fn put_walk(
+    mode: Mode,
     image: &[u8],
     marks: &[u8],
     mask: &[u8],
@@ -90,9 +94,9 @@ pub fn put_walk(
     out: &mut [u8],
 ) -> usize
     requires { ⌜ (length (now image) ≤ 65536) × (length (now image) ≤ length (now marks)) × (length (now mask) ≡ length (now image))
-        × (length (now labels) ≡ length (now image)) × Indexed (now image) (now marks) (now index) ⌝ }
+        × (length (now labels) ≡ length (now image)) × Indexed mode (now image) (now marks) (now index) ⌝ }
     ensures { λ r. ⌜ Puts
-        (walk (now (image .entry)) (now (marks .entry)) (now (mask .entry)) (now (labels .entry)) (isLent (now (index .entry)))
+        (walk mode (now (image .entry)) (now (marks .entry)) (now (mask .entry)) (now (labels .entry)) (isLent (now (index .entry)))
         (length (now (image .entry))) 0 0)
         0 (now (out .entry)) (now (out .exit)) r ⌝ }
 {
@@ -100,7 +104,7 @@ pub fn put_walk(
     let mut at: usize = 0;
     let mut p: usize = 0;
     while p < n {
-        at = put_at(image, marks, mask, labels, index, out, at, p as u32);
+        at = put_at(mode, image, marks, mask, labels, index, out, at, p as u32);
         p += step_at(image, marks, mask, p as u32);
     }
     at
@@ -117,6 +121,7 @@ fn most(index: &[u32]) -> usize
 
 // How many bytes the walk puts. Where the room holds every text of so many positions, that many: then nothing is to be measured.
 pub fn needed(
+    mode: Mode,
     image: &[u8],
     marks: &[u8],
     mask: &[u8],
@@ -125,9 +130,9 @@ pub fn needed(
     room: usize,
 ) -> usize
     requires { ⌜ (length (now image) ≤ 65536) × (length (now image) ≤ length (now marks)) × (length (now mask) ≡ length (now image))
-        × (length (now labels) ≡ length (now image)) × Indexed (now image) (now marks) (now index) ⌝ }
+        × (length (now labels) ≡ length (now image)) × Indexed mode (now image) (now marks) (now index) ⌝ }
     ensures { λ r. ⌜ Needed
-        (walk (now (image .entry)) (now (marks .entry)) (now (mask .entry)) (now (labels .entry)) (isLent (now (index .entry)))
+        (walk mode (now (image .entry)) (now (marks .entry)) (now (mask .entry)) (now (labels .entry)) (isLent (now (index .entry)))
         (length (now (image .entry))) 0 0)
         room r ⌝ }
 {
@@ -136,5 +141,5 @@ pub fn needed(
         return most;
     }
     let mut none = [0u8; 1];
-    put_walk(image, marks, mask, labels, index, &mut none)
+    put_walk(mode, image, marks, mask, labels, index, &mut none)
 }

@@ -24,13 +24,13 @@ use Rattle.listing_laws.proofs.ClaimsShownTraced.{traced-shown}
 
 pub code-listed : CodeListed
 unfolding linesAt codeLines
-code-listed image m choice B small U p t =
-    let s = traced-shown image m B small U p t in
+code-listed mode image m choice B small U p t =
+    let s = traced-shown mode image m B small U p t in
     record {
       fields =
           hexes (take (sizeOf (formIn (s .instr))) (drop p image)) ∷ mnemonicOf (partsOf (s .instr) .form)
           ∷ operandsBy (firstOf (accepted (s .targets))) (s .instr);
       text =
           rw (second-part (ltb p (length image)) _ t)
-          (ap (λ (h : List ℕ). cond (eqb (getD (labelsOf image m) p 0) 0) [] (labelLine p) ++ (overlapLine p (overlapsOf image m p) ++ (cond (isChosen choice) (arrivalLine p (arrivalsOf image m p)) [] ++ h))) (s .shown));
+          (ap (λ (h : List ℕ). cond (eqb (getD (labelsOf mode image m) p 0) 0) [] (labelLine p) ++ (overlapLine p (overlapsOf image m p) ++ (cond (isChosen choice) (arrivalLine p (arrivalsOf mode image m p)) [] ++ h))) (s .shown));
     }

@@ -12,6 +12,7 @@ use borrow.Author.Tests.{eqb-true, le-leb, lt-ltb}
 use Rattle.instruction.specs.Bytes.{Bytes}
 use Rattle.targets.specs.At.{sizeHere}
 use Rattle.instruction.proofs.Ands.{both}
+use Rattle.instruction.specs.declared.mode.Mode.{Mode}
 use Rattle.targets.proofs.Within.{size-short}
 use Rattle.reach.specs.Mark.{tracedMark}
 use Rattle.views.specs.Positions.{upFrom, kept, bit, tracedAt}
@@ -36,12 +37,12 @@ leading-each f (suc k) p i h = by (f p) i refl h (leading-each f k (suc p))
     by true (suc i) e g rest = ap f (let d : p + suc i ≡ suc p + i = omega arith in d) ∙ rest i (omega arith)
     by false i e g rest = absurd (omega arith)
 
-module _ (image m mask labels : List ℕ) (chosen : Bool) where
-  walk-stops : (k p s : ℕ) → walk image m mask labels chosen k p s ≡ joined (map (linesAt image m mask labels chosen) (stopsFrom image m mask k p s))
+module _ (mode : Mode) (image m mask labels : List ℕ) (chosen : Bool) where
+  walk-stops : (k p s : ℕ) → walk mode image m mask labels chosen k p s ≡ joined (map (linesAt mode image m mask labels chosen) (stopsFrom image m mask k p s))
   unfolding walk joined stopsFrom
   walk-stops zero p s = refl
   walk-stops (suc k) p (suc s) = walk-stops k (suc p) s
-  walk-stops (suc k) p zero = ap (λ (t : List ℕ). linesAt image m mask labels chosen p ++ t) (walk-stops k (suc p) (passed image m mask p))
+  walk-stops (suc k) p zero = ap (λ (t : List ℕ). linesAt mode image m mask labels chosen p ++ t) (walk-stops k (suc p) (passed image m mask p))
 
 module _ (image m : List ℕ) (B : Bytes image) where
   abbrev Untraced : ℕ → ℕ → Type 0
@@ -101,5 +102,5 @@ module _ (image m : List ℕ) (B : Bytes image) where
 
 pub traced-listed : TracedListed
 unfolding listingOf
-traced-listed image m choice B =
-    record { text = walk-stops image m _ _ _ (length image) 0 0; traced = stops-traced image m B (length image) 0 0 (λ i h. absurd (omega arith)) }
+traced-listed mode image m choice B =
+    record { text = walk-stops mode image m _ _ _ (length image) 0 0; traced = stops-traced image m B (length image) 0 0 (λ i h. absurd (omega arith)) }

@@ -7,8 +7,8 @@ use Rattle.listing_laws.specs.ClaimsRoom.{ListingBound, ChosenBound}
 
 pub listing-bound : ListingBound
 unfolding listingOf
-listing-bound image m B = all-width image m B _ _ false
+listing-bound mode image m B = all-width mode image m B _ _ false
 
 pub chosen-bound : ChosenBound
 unfolding listingOf
-chosen-bound image m B = all-width image m B _ _ true
+chosen-bound mode image m B = all-width mode image m B _ _ true

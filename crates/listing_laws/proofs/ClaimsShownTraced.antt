@@ -21,6 +21,7 @@ use Rattle.instruction.specs.declared.instr.Instr.{Instr}
 use Rattle.targets.specs.At.{fitsHere, instrHere, waysHere}
 use Rattle.targets.specs.Targets.{nextOf, targetsIn, targetsAnswer}
 use Rattle.instruction.proofs.Ands.{both, second-part}
+use Rattle.instruction.specs.declared.mode.Mode.{Mode}
 use Rattle.targets.proofs.AskedAlone.{found}
 use Rattle.targets.proofs.HereIs.{answer, whole-here}
 use Rattle.targets.proofs.Within.{within}
@@ -61,37 +62,37 @@ lineBy image p i ts =
 
 pub traced-shown : TracedShown
 unfolding instrText
-traced-shown image m B l U p t =
+traced-shown mode image m B l U p t =
     let h : p < length image = traced-inside image m p t in
     let f : fitsHere image p ≡ true = uncut image m p (second-part (ltb p (length image)) _ t) (U p h) in
     let i : Instr = instrHere image p in
     let w = within image p B h f in
     let a : decodeAnswer (drop p image) ≡ accepted i = answer image p h true f in
-    let g : targetsAnswer p i ≡ accepted (targetsIn (nextOf p i) i) = sym (found p i (omega (arith, w .size, w .most)) (sym (w .fit))) in
+    let g : targetsAnswer mode p i ≡ accepted (targetsIn mode (nextOf p i) i) = sym (found mode p i (omega (arith, w .size, w .most)) (sym (w .fit))) in
     record {
       instr = i;
       decoded = a;
-      targets = targetsIn (nextOf p i) i;
+      targets = targetsIn mode (nextOf p i) i;
       going = g;
-      shown = ap (hereLine image p) (sym (whole-here image p h i (sym a))) ∙ ap (lineBy image p i) g;
+      shown = ap (hereLine mode image p) (sym (whole-here image p h i (sym a))) ∙ ap (lineBy image p i) g;
     }
 
 -- marks that are final
-module _ (image marks entries m : List ℕ) (F : Final (tracerOf image) (cleared (length image) marks) entries m) (p : ℕ) where
-  there : tracedAt image m p ≡ true → Reachable image entries p × (fitsHere image p ≡ true)
+module _ (mode : Mode) (image marks entries m : List ℕ) (F : Final (tracerOf mode image) (cleared (length image) marks) entries m) (p : ℕ) where
+  there : tracedAt image m p ≡ true → Reachable mode image entries p × (fitsHere image p ≡ true)
   there t =
       let h = traced-inside image m p t in
-      let r = traced-reached image marks entries m F p h (second-part (ltb p (length image)) _ t) in
-      (plainly (tracerOf image) (waysHere image) marks entries (r .0), r .1)
+      let r = traced-reached mode image marks entries m F p h (second-part (ltb p (length image)) _ t) in
+      (plainly (tracerOf mode image) (waysHere mode image) marks entries (r .0), r .1)
 
-  back : Reachable image entries p → fitsHere image p ≡ true → tracedAt image m p ≡ true
+  back : Reachable mode image entries p → fitsHere image p ≡ true → tracedAt image m p ≡ true
   back r g =
       let h = reached-inside r .inside in
       both (ltb p (length image)) (tracedMark (getD m p 0)) (lt-ltb p (length image) h)
-      (reached-traced image marks entries m F p h (over (tracerOf image) (waysHere image) marks entries r) g)
+      (reached-traced mode image marks entries m F p h (over (tracerOf mode image) (waysHere mode image) marks entries r) g)
 
 pub traced-reachable : TracedReachable
-traced-reachable image marks order entries limit s B C a f p =
-    let m : List ℕ = outcomeOf image marks entries limit .marks in
-    let F : Final (tracerOf image) (cleared (length image) marks) entries m = image-run-final image marks entries limit B C (covered image marks order entries limit (sized image marks order entries limit s a)) (ended image marks order entries limit s a f) in
-    rw (marks-are image marks order entries limit s a) (there image marks entries m F p, back image marks entries m F p)
+traced-reachable mode image marks order entries limit s B C a f p =
+    let m : List ℕ = outcomeOf mode image marks entries limit .marks in
+    let F : Final (tracerOf mode image) (cleared (length image) marks) entries m = image-run-final mode image marks entries limit B C (covered mode image marks order entries limit (sized mode image marks order entries limit s a)) (ended mode image marks order entries limit s a f) in
+    rw (marks-are mode image marks order entries limit s a) (there mode image marks entries m F p, back mode image marks entries m F p)

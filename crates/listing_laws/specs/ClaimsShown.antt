@@ -16,6 +16,7 @@ use Rattle.instruction.specs.Forms.{sizeOf}
 use Rattle.instruction.specs.Mnemonic.{mnemonicOf}
 use Rattle.instruction.specs.Parts.{partsOf}
 use Rattle.instruction.specs.declared.instr.Instr.{Instr}
+use Rattle.instruction.specs.declared.mode.Mode.{Mode}
 use Rattle.targets.specs.At.{fitsHere}
 use Rattle.targets.specs.Here.{hereOf}
 use Rattle.targets.specs.Targets.{targetsAnswer}
@@ -30,22 +31,22 @@ use Rattle.listing.specs.Lines.{hereLine}
 use Rattle.listing.specs.Operand.{firstOf, operandsBy}
 
 -- decode of the bytes from p on and targets at p both answer, and the line at p is made of what they answer
-pub record Shown (image : List ℕ) (p : ℕ) : Type 0 where
+pub record Shown (mode : Mode) (image : List ℕ) (p : ℕ) : Type 0 where
   pub instr : Instr
   pub decoded : decodeAnswer (drop p image) ≡ accepted instr
   pub targets : List ℤ
-  pub going : targetsAnswer p instr ≡ accepted targets
-  pub shown : hereLine image p (hereOf image p) ≡ line (code "I") (hex4 p ∷ hexes (take (sizeOf (formIn instr)) (drop p image)) ∷ mnemonicOf (partsOf instr .form) ∷ operandsBy (firstOf (accepted targets)) instr)
+  pub going : targetsAnswer mode p instr ≡ accepted targets
+  pub shown : hereLine mode image p (hereOf image p) ≡ line (code "I") (hex4 p ∷ hexes (take (sizeOf (formIn instr)) (drop p image)) ∷ mnemonicOf (partsOf instr .form) ∷ operandsBy (firstOf (accepted targets)) instr)
 
 -- at each traced position of marks that no view refuses
 abbrev pub TracedShown : Type 0
 TracedShown =
-    (image m : List ℕ) → Bytes image → length image ≤ 65536 → Undamaged image m → (p : ℕ) → tracedAt image m p ≡ true → Shown image p
+    (mode : Mode) (image m : List ℕ) → Bytes image → length image ≤ 65536 → Undamaged image m → (p : ℕ) → tracedAt image m p ≡ true → Shown mode image p
 
 -- for an image with no B8 0D 21 in succession and a finished run, the traced positions are those reachable from the entries at which the
 -- instruction is not cut off
 abbrev pub TracedReachable : Type 0
 TracedReachable =
-    (image marks order entries : List ℕ) (limit : ℕ) (s : RunResult) → Bytes image → Clean image → runAnswer image marks order entries limit ≡ accepted s → s .finished ≡ true
-    → (p : ℕ) → (tracedAt image (runMarks image marks order entries limit) p ≡ true → Reachable image entries p × (fitsHere image p ≡ true))
-    × (Reachable image entries p → fitsHere image p ≡ true → tracedAt image (runMarks image marks order entries limit) p ≡ true)
+    (mode : Mode) (image marks order entries : List ℕ) (limit : ℕ) (s : RunResult) → Bytes image → Clean image → runAnswer mode image marks order entries limit ≡ accepted s → s .finished ≡ true
+    → (p : ℕ) → (tracedAt image (runMarks mode image marks order entries limit) p ≡ true → Reachable mode image entries p × (fitsHere image p ≡ true))
+    × (Reachable mode image entries p → fitsHere image p ≡ true → tracedAt image (runMarks mode image marks order entries limit) p ≡ true)

@@ -7,6 +7,7 @@ use Prim.Native.Nat.{ℕ, _+_, _<_, _≤_}
 use native.Mathlib.Omega.{arith}
 use lib.ListN.{length, drop, length-append}
 use Rattle.instruction.specs.Answer.{accepted}
+use Rattle.instruction.specs.declared.mode.Mode.{Mode}
 use Rattle.targets.specs.At.{sizeHere}
 use Rattle.reach.specs.Tracer.{took}
 use Rattle.trace.specs.Step.{stepMarks}
@@ -27,12 +28,12 @@ use Rattle.map_laws.specs.ClaimsMap.{KeptUp, UpdatedIsBuilt}
 use Rattle.map_laws.proofs.Built.{Done, built, builds}
 use Rattle.map_laws.proofs.Stepped.{masked-more, traced-here, sound-after}
 
-module _ (image m ws : List ℕ) (p : ℕ) (d : Done image m ws) (w : Went image m p) where
+module _ (mode : Mode) (image m ws : List ℕ) (p : ℕ) (d : Done image m ws) (w : Went mode image m p) where
   abbrev n : ℕ
   n = length image
 
   abbrev m′ : List ℕ
-  m′ = took (tracerOf image) m p
+  m′ = took (tracerOf mode image) m p
 
   abbrev rest : List ℕ
   rest = drop (wordsFor n) ws
@@ -47,14 +48,14 @@ module _ (image m ws : List ℕ) (p : ℕ) (d : Done image m ws) (w : Went image
   within = fits-within image p (w .ready .whole)
 
   after-sound : Sound image m′
-  after-sound = sound-after image m p (w .room) (w .ready) (w .small) (undamaged image m (d .sound))
+  after-sound = sound-after mode image m p (w .room) (w .ready) (w .small) (undamaged image m (d .sound))
 
   -- the packing of the mask after the step
   grown : covered (packed (maskOf image m)) size p ≡ packed (maskOf image m′)
   grown =
       ap (λ (v : List ℕ). covered v size p) (packed-mask image m)
       ∙ stretch-more n (masked image m) size p within
-      ∙ map-same n (λ (b : ℕ). masked image m b || between p (p + size) b) (masked image m′) (λ b h. sym (masked-more image m p (w .room) (w .ready) b))
+      ∙ map-same n (λ (b : ℕ). masked image m b || between p (p + size) b) (masked image m′) (λ b h. sym (masked-more mode image m p (w .room) (w .ready) b))
       ∙ sym (packed-mask image m′)
 
   afresh : buildWords image m′ ws ≡ packed (maskOf image m′) ++ rest
@@ -79,12 +80,12 @@ module _ (image m ws : List ℕ) (p : ℕ) (d : Done image m ws) (w : Went image
 
   holds : Holds m′
   holds =
-      let u = set-all image m′ (buildWords image m ws) p after-sound long inside (traced-here image m p (w .room) (w .ready)) size refl _ refl in
+      let u = set-all image m′ (buildWords image m ws) p after-sound long inside (traced-here mode image m p (w .room) (w .ready)) size refl _ refl in
       (builds image m′ ws after-sound (d .room) .0, sym (u .0), sym (u .1) ∙ kept-up)
 
-  pub keeps : KeptUp image m ws p
-  keeps = let h : Holds (stepMarks image m p) = subst Holds (sym (w .marks)) holds in record { builds = h .0; updates = h .1; same = h .2 }
+  pub keeps : KeptUp mode image m ws p
+  keeps = let h : Holds (stepMarks mode image m p) = subst Holds (sym (w .marks)) holds in record { builds = h .0; updates = h .1; same = h .2 }
 
 pub updated-is-built : UpdatedIsBuilt
-updated-is-built image m ws p k s e f =
-    keeps image m ws p (built image m ws k e) (went image m p s f)
+updated-is-built mode image m ws p k s e f =
+    keeps mode image m ws p (built image m ws k e) (went mode image m p s f)

@@ -8,6 +8,7 @@ use native.Mathlib.Omega.{arith}
 use lib.Dec.{eqb}
 use lib.ListN.{length, getD}
 use borrow.Author.Tests.{lt-ltb, le-leb, eq-eqb, ne-eqb, eqb-true}
+use Rattle.instruction.specs.declared.mode.Mode.{Mode}
 use Rattle.targets.specs.At.{sizeHere}
 use Rattle.reach.specs.Mark.{tracedMark}
 use Rattle.reach.specs.Takes.{Ready}
@@ -62,22 +63,22 @@ either true true false = refl
 either true false false = refl
 either false e u = refl
 
-module _ (image m : List ℕ) (p : ℕ) (room : length image ≤ length m) (ready : Ready (tracerOf image) m p) where
+module _ (mode : Mode) (image m : List ℕ) (p : ℕ) (room : length image ≤ length m) (ready : Ready (tracerOf mode image) m p) where
   abbrev n : ℕ
   n = length image
 
   abbrev m′ : List ℕ
-  m′ = took (tracerOf image) m p
+  m′ = took (tracerOf mode image) m p
 
   -- ---- the mask
 
   -- traced afterwards: as before, and p
   traced-more : (q : ℕ) → tracedMark (getD m′ q 0) ≡ (tracedMark (getD m q 0) || eqb p q)
-  traced-more q = by (moved (tracerOf image) m p q room (ready .inside))
+  traced-more q = by (moved (tracerOf mode image) m p q room (ready .inside))
     where
-      by : Moved (tracerOf image) m p q → tracedMark (getD m′ q 0) ≡ (tracedMark (getD m q 0) || eqb p q)
+      by : Moved (tracerOf mode image) m p q → tracedMark (getD m′ q 0) ≡ (tracedMark (getD m q 0) || eqb p q)
       by (itself e x) =
-          ap tracedMark x ∙ traced-test (mark (tracerOf image) m p) .1 (mark-traced (tracerOf image) m p)
+          ap tracedMark x ∙ traced-test (mark (tracerOf mode image) m p) .1 (mark-traced (tracerOf mode image) m p)
           ∙ sym (ap (λ (b : Bool). tracedMark (getD m q 0) || b) (eq-eqb p q (sym e)) ∙ last (tracedMark (getD m q 0)))
       by (kept d f x) = ap tracedMark x ∙ or-none (tracedMark (getD m q 0)) (eqb p q) (ne-eqb p q (λ e. d (sym e)))
       by (called d i o x) =
@@ -108,8 +109,8 @@ module _ (image m : List ℕ) (p : ℕ) (room : length image ≤ length m) (read
 
   undamaged-after : ((q : ℕ) → q < n → damagedHere image m q ≡ false) → (q : ℕ) → q < n → damagedHere image m′ q ≡ false
   unfolding damagedHere
-  undamaged-after g = step-good image m p room ready g
+  undamaged-after g = step-good mode image m p room ready g
 
   pub sound-after : n ≤ 65536 → ((q : ℕ) → q < n → damagedHere image m q ≡ false) → Sound image m′
   sound-after fits g =
-      sym (sound image m′ fits (let e = length-took (tracerOf image) m p in omega arith) n (omega arith) (left-from image m′ n (omega arith) (undamaged-after g)))
+      sym (sound image m′ fits (let e = length-took (tracerOf mode image) m p in omega arith) n (omega arith) (left-from image m′ n (omega arith) (undamaged-after g)))

@@ -8,6 +8,7 @@ use mathlib.Core.Path.{_≡_}
 use lib.Dec.{eqb}
 use lib.ListN.{length, getD, take, drop}
 use Rattle.instruction.specs.Answer.{accepted}
+use Rattle.instruction.specs.declared.mode.Mode.{Mode}
 use Rattle.targets.specs.At.{sizeHere}
 use Rattle.trace.specs.Step.{StepResult, stepAnswer, stepMarks}
 use Rattle.views.specs.Mask.{maskOf}
@@ -19,15 +20,15 @@ use Rattle.map.specs.Update.{updateAnswer, updateWords}
 
 -- the marks m before a step at p, the words as lent: after the step both calls are accepted, and the map that was built before it and then
 -- updated is the map built afresh
-pub record KeptUp (image m ws : List ℕ) (p : ℕ) : Type 0 where
-  pub builds : buildAnswer image (stepMarks image m p) ws ≡ accepted (wordsFor (length image))
-  pub updates : updateAnswer image (stepMarks image m p) (buildWords image m ws) p ≡ accepted (sizeHere image p)
-  pub same : updateWords image (stepMarks image m p) (buildWords image m ws) p ≡ buildWords image (stepMarks image m p) ws
+pub record KeptUp (mode : Mode) (image m ws : List ℕ) (p : ℕ) : Type 0 where
+  pub builds : buildAnswer image (stepMarks mode image m p) ws ≡ accepted (wordsFor (length image))
+  pub updates : updateAnswer image (stepMarks mode image m p) (buildWords image m ws) p ≡ accepted (sizeHere image p)
+  pub same : updateWords image (stepMarks mode image m p) (buildWords image m ws) p ≡ buildWords image (stepMarks mode image m p) ws
 
 -- so it is wherever the map could be built and the step was accepted
 abbrev pub UpdatedIsBuilt : Type 0
 UpdatedIsBuilt =
-    (image m ws : List ℕ) (p k : ℕ) (s : StepResult) → buildAnswer image m ws ≡ accepted k → stepAnswer image m p ≡ accepted s → KeptUp image m ws p
+    (mode : Mode) (image m ws : List ℕ) (p k : ℕ) (s : StepResult) → buildAnswer image m ws ≡ accepted k → stepAnswer mode image m p ≡ accepted s → KeptUp mode image m ws p
 
 -- the sum of a list
 unfoldable pub sum : List ℕ → ℕ

@@ -5,6 +5,7 @@ use mathlib.Core.Bool.{Bool, true, false, cond}
 use mathlib.Core.List.{List, []}
 use Prim.Native.Nat.{ℕ}
 use lib.ListN.{length, set}
+use Rattle.instruction.specs.declared.mode.Mode.{Mode}
 use Rattle.targets.specs.At.{waysHere}
 use Rattle.targets.specs.Ways.{placesIn}
 use Rattle.targets.specs.declared.place.Places.{Places}
@@ -33,12 +34,12 @@ module _ (image ts m : List ℕ) (p : ℕ) (r : Taken) (m′ : List ℕ) where
         marks-are = q .1 ∙ ap (note (length image) ts) s ∙ sym (took-plain (goingTo image ts) m p e);
       }
 
-  -- where these are the targets of the instruction at p, it is the image's own tracer that took p up
-  pub by-ways : ts ≡ waysHere image p → TakenUp (goingTo image ts) m p r m′ → TakenUp (tracerOf image) m p r m′
-  unfolding mark found took targets
-  by-ways e t =
-      record {
-        mark-is = t .mark-is;
-        noted-are = t .noted-are ∙ ap (λ (ws : List ℕ). fresh (length image) (cond (exemptHere image m p) [] ws) (set m p (mark (tracerOf image) m p))) e;
-        marks-are = t .marks-are ∙ ap (λ (ws : List ℕ). note (length image) (cond (exemptHere image m p) [] ws) (set m p (mark (tracerOf image) m p))) e;
-      }
+-- where these are the targets of the instruction at p, it is the image's own tracer that took p up
+pub by-ways : (mode : Mode) (image ts m : List ℕ) (p : ℕ) (r : Taken) (m′ : List ℕ) → ts ≡ waysHere mode image p → TakenUp (goingTo image ts) m p r m′ → TakenUp (tracerOf mode image) m p r m′
+unfolding mark found took targets
+by-ways mode image ts m p r m′ e t =
+    record {
+      mark-is = t .mark-is;
+      noted-are = t .noted-are ∙ ap (λ (ws : List ℕ). fresh (length image) (cond (exemptHere image m p) [] ws) (set m p (mark (tracerOf mode image) m p))) e;
+      marks-are = t .marks-are ∙ ap (λ (ws : List ℕ). note (length image) (cond (exemptHere image m p) [] ws) (set m p (mark (tracerOf mode image) m p))) e;
+    }

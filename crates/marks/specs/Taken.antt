@@ -4,15 +4,16 @@
 use Prim.Native.Nat.{ℕ}
 use mathlib.Core.List.{List}
 use mathlib.Core.Path.{_≡_}
+use lib.ListN.{length}
+use Rattle.targets.specs.At.{fitsHere}
 use Rattle.targets.specs.Ways.{placesIn}
 use Rattle.reach.specs.Tracer.{Tracer, mark, took, found}
-use Rattle.marks.specs.Tracer.{tracerOf}
+use Rattle.marks.specs.Tracer.{exemptHere}
 use Rattle.marks.specs.declared.take.Taken.{Taken}
 
 -- the tracer of an image where the instruction at hand has these targets
 abbrev pub goingTo : List ℕ → List ℕ → Tracer
-goingTo image ts =
-    let G = tracerOf image in record { size = G .size; fits = G .fits; ways = λ p. ts; exempt = G .exempt }
+goingTo image ts = record { size = length image; fits = fitsHere image; ways = λ p. ts; exempt = exemptHere image }
 
 -- the position p taken up, with the marks m before and m′ after: its mark, what it found, and the marks
 pub record TakenUp (G : Tracer) (m : List ℕ) (p : ℕ) (r : Taken) (m′ : List ℕ) : Type 0 where

@@ -4,6 +4,7 @@ ghost use Rattle.instruction.specs.Decode.{decodeAnswer};
 ghost use Rattle.instruction.specs.Encode.{encodeAnswer, encodeRoom};
 ghost use Rattle.instruction.specs.Resolve.{resolveAnswer};
 ghost use Rattle.targets.specs.Targets.{targetsAnswer};
+ghost use Rattle.c_answers.specs.Modes.{modeOf};
 ghost use Rattle.c_answers.specs.Reply.{refusalNumber, valuesOf, countValues};
 ghost use Rattle.c_answers.specs.Codec.{instrValues, named, targetsValues};
 
@@ -36,6 +37,7 @@ pub extern "C" fn pw_encode(
 // Accepted: form, size, three fields.
 #[no_mangle]
 pub extern "C" fn pw_resolve(
+    mode: u32,
     first: u8,
     a: i32,
     b: i32,
@@ -43,15 +45,16 @@ pub extern "C" fn pw_resolve(
     base: u32,
     answer: &mut [i64; 5],
 ) -> u32
-    ensures { λ r. ⌜ r ≡ refusalNumber (resolveAnswer (named first a b c) base) ⌝ }
-    ensures { λ _. ⌜ now (answer .exit) ≡ valuesOf instrValues (resolveAnswer (named first a b c) base) ⌝ }
+    ensures { λ r. ⌜ r ≡ refusalNumber (resolveAnswer (modeOf mode) (named first a b c) base) ⌝ }
+    ensures { λ _. ⌜ now (answer .exit) ≡ valuesOf instrValues (resolveAnswer (modeOf mode) (named first a b c) base) ⌝ }
 {
-    c_answers::resolve(first, a, b, c, base).give(answer)
+    c_answers::resolve(c_answers::mode(mode), first, a, b, c, base).give(answer)
 }
 
 // Accepted: how many targets, then the targets.
 #[no_mangle]
 pub extern "C" fn pw_targets(
+    mode: u32,
     position: u32,
     first: u8,
     a: i32,
@@ -59,8 +62,8 @@ pub extern "C" fn pw_targets(
     c: i32,
     answer: &mut [i64; 5],
 ) -> u32
-    ensures { λ r. ⌜ r ≡ refusalNumber (targetsAnswer position (named first a b c)) ⌝ }
-    ensures { λ _. ⌜ now (answer .exit) ≡ valuesOf targetsValues (targetsAnswer position (named first a b c)) ⌝ }
+    ensures { λ r. ⌜ r ≡ refusalNumber (targetsAnswer (modeOf mode) position (named first a b c)) ⌝ }
+    ensures { λ _. ⌜ now (answer .exit) ≡ valuesOf targetsValues (targetsAnswer (modeOf mode) position (named first a b c)) ⌝ }
 {
-    c_answers::targets(position, first, a, b, c).give(answer)
+    c_answers::targets(c_answers::mode(mode), position, first, a, b, c).give(answer)
 }

@@ -6,6 +6,7 @@ ghost use Rattle.views.specs.Labels.{labelsAnswer, labelsRoom};
 ghost use Rattle.views.specs.DataRun.{dataRun};
 ghost use Rattle.views.specs.Overlaps.{overlapsAnswer, overlapsRoom};
 ghost use Rattle.arrivals.specs.Arrivals.{arrivalsAnswer, arrivalsRoom};
+ghost use Rattle.c_answers.specs.Modes.{modeOf};
 ghost use Rattle.c_answers.specs.Reply.{five, refusalNumber, valuesOf, countValues};
 
 // Accepted: the number of bytes written.
@@ -21,16 +22,17 @@ pub extern "C" fn pw_mask(image: &[u8], marks: &[u8], mask: &mut [u8], answer: &
 // Accepted: the number of bytes written.
 #[no_mangle]
 pub extern "C" fn pw_target_marks(
+    mode: u32,
     image: &[u8],
     marks: &[u8],
     room: &mut [u8],
     answer: &mut [i64; 5],
 ) -> u32
-    ensures { λ r. ⌜ r ≡ refusalNumber (labelsAnswer (now (image .entry)) (now (marks .entry)) (now (room .entry))) ⌝ }
-    ensures { λ _. ⌜ now (answer .exit) ≡ valuesOf countValues (labelsAnswer (now (image .entry)) (now (marks .entry)) (now (room .entry))) ⌝ }
-    ensures { λ _. ⌜ now (room .exit) ≡ labelsRoom (now (image .entry)) (now (marks .entry)) (now (room .entry)) ⌝ }
+    ensures { λ r. ⌜ r ≡ refusalNumber (labelsAnswer (modeOf mode) (now (image .entry)) (now (marks .entry)) (now (room .entry))) ⌝ }
+    ensures { λ _. ⌜ now (answer .exit) ≡ valuesOf countValues (labelsAnswer (modeOf mode) (now (image .entry)) (now (marks .entry)) (now (room .entry))) ⌝ }
+    ensures { λ _. ⌜ now (room .exit) ≡ labelsRoom (modeOf mode) (now (image .entry)) (now (marks .entry)) (now (room .entry)) ⌝ }
 {
-    c_answers::target_marks(image, marks, room).give(answer)
+    c_answers::target_marks(c_answers::mode(mode), image, marks, room).give(answer)
 }
 
 // Accepted: the number of positions written.
@@ -52,17 +54,19 @@ pub extern "C" fn pw_overlaps(
 // Accepted: the number of positions written.
 #[no_mangle]
 pub extern "C" fn pw_arrivals(
+    mode: u32,
     image: &[u8],
     marks: &[u8],
     p: u32,
     room: &mut [u32],
     answer: &mut [i64; 5],
 ) -> u32
-    ensures { λ r. ⌜ r ≡ refusalNumber (arrivalsAnswer (now (image .entry)) (now (marks .entry)) p (now (room .entry))) ⌝ }
-    ensures { λ _. ⌜ now (answer .exit) ≡ valuesOf countValues (arrivalsAnswer (now (image .entry)) (now (marks .entry)) p (now (room .entry))) ⌝ }
-    ensures { λ _. ⌜ now (room .exit) ≡ arrivalsRoom (now (image .entry)) (now (marks .entry)) p (now (room .entry)) ⌝ }
+    ensures { λ r. ⌜ r ≡ refusalNumber (arrivalsAnswer (modeOf mode) (now (image .entry)) (now (marks .entry)) p (now (room .entry))) ⌝ }
+    ensures { λ _.
+        ⌜ now (answer .exit) ≡ valuesOf countValues (arrivalsAnswer (modeOf mode) (now (image .entry)) (now (marks .entry)) p (now (room .entry))) ⌝ }
+    ensures { λ _. ⌜ now (room .exit) ≡ arrivalsRoom (modeOf mode) (now (image .entry)) (now (marks .entry)) p (now (room .entry)) ⌝ }
 {
-    c_answers::arrivals(image, marks, p, room).give(answer)
+    c_answers::arrivals(c_answers::mode(mode), image, marks, p, room).give(answer)
 }
 
 // Never refused: the length of the run, which begins at p.

@@ -7,6 +7,7 @@ use native.Mathlib.Omega.{arith}
 use lib.ListN.{length, take, drop, length-append, length-drop, length-map, length-replicate}
 use lib.Seq.{length-sets, take-at}
 use Rattle.instruction.specs.Answer.{Answer, accepted, refused, after, laid}
+use Rattle.instruction.specs.declared.mode.Mode.{Mode}
 use Rattle.text.specs.Cut.{lines}
 use Rattle.read_back.specs.Back.{sheetAfter, sheetOf, backAnswer, backImage}
 use Rattle.read_back.specs.Line.{positionOn}
@@ -21,9 +22,9 @@ image-long : (text : List ℕ) (n : ℕ) → length (imageOn (sheetOf text n)) �
 image-long text n =
     length-map (sheetOf text n .cells) (λ (c : ℕ). c - 1) ∙ sheet-long (lines text) (emptySheet n) ∙ length-replicate n 0
 
-pub back-length : (text : List ℕ) (n : ℕ) (image marks : List ℕ) → n ≤ length image → length (backImage text n image marks) ≡ length image
+pub back-length : (mode : Mode) (text : List ℕ) (n : ℕ) (image marks : List ℕ) → n ≤ length image → length (backImage mode text n image marks) ≡ length image
 unfolding backImage
-back-length text n image marks h = by (backAnswer text n image marks)
+back-length mode text n image marks h = by (backAnswer mode text n image marks)
   where
     new : List ℕ
     new = imageOn (sheetOf text n)
@@ -32,6 +33,6 @@ back-length text n image marks h = by (backAnswer text n image marks)
     by (accepted k) = omega (arith, length-append new (drop (length new) image), length-drop (length new) image, image-long text n)
     by (refused k vs) = refl
 
-pub put-back : (text : List ℕ) (n : ℕ) (image marks : List ℕ) (k : ℕ) → accepted k ≡ backAnswer text n image marks → take n (backImage text n image marks) ≡ imageOn (sheetOf text n)
+pub put-back : (mode : Mode) (text : List ℕ) (n : ℕ) (image marks : List ℕ) (k : ℕ) → accepted k ≡ backAnswer mode text n image marks → take n (backImage mode text n image marks) ≡ imageOn (sheetOf text n)
 unfolding backImage
-put-back text n image marks k e = rw (← e) (take-at (imageOn (sheetOf text n)) _ n (image-long text n))
+put-back mode text n image marks k e = rw (← e) (take-at (imageOn (sheetOf text n)) _ n (image-long text n))

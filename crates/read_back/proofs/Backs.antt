@@ -10,6 +10,7 @@ use lib.IntN.{ℤ, pos}
 use lib.ListN.{length, getD, set, take, drop, replicate, length-map, length-replicate}
 use lib.Seq.{sets, getD-drop}
 use Rattle.instruction.specs.Answer.{Answer, accepted, refused, judge, after, laid}
+use Rattle.instruction.specs.declared.mode.Mode.{Mode}
 use Rattle.text.specs.Bytes.{bytesOf}
 use Rattle.text.specs.Cut.{lines}
 use Rattle.text.proofs.Pairs.{bytes-small}
@@ -79,9 +80,9 @@ joined-small [] k a b i = b i
 joined-small (x ∷ l) k a b zero = a 0
 joined-small (x ∷ l) k a b (suc i) = joined-small l k (λ j. a (suc j)) b i
 
-pub back-bytes : (text : List ℕ) (n : ℕ) (image marks : List ℕ) → Bytes image → Bytes (backImage text n image marks)
+pub back-bytes : (mode : Mode) (text : List ℕ) (n : ℕ) (image marks : List ℕ) → Bytes image → Bytes (backImage mode text n image marks)
 unfolding backImage
-back-bytes text n image marks b = by (backAnswer text n image marks)
+back-bytes mode text n image marks b = by (backAnswer mode text n image marks)
   where
     cells : List ℕ
     cells = sheetAfter (emptySheet n) (lines text) .cells
@@ -93,12 +94,12 @@ back-bytes text n image marks b = by (backAnswer text n image marks)
     by (accepted k) = joined-small (bytesIn cells) (drop (length (bytesIn cells)) image) read (λ i. rw (getD-drop (length (bytesIn cells)) image i 0) (b (length (bytesIn cells) + i)))
     by (refused k vs) = b
 
-module _ (text : List ℕ) (n : ℕ) (image marks : List ℕ) where
+module _ (mode : Mode) (text : List ℕ) (n : ℕ) (image marks : List ℕ) where
   -- what is answered and left
   abbrev pub Is : Answer ℕ → List ℕ → List ℕ → Type 0
-  Is a im mk = (a ≡ backAnswer text n image marks) × (im ≡ backImage text n image marks) × (mk ≡ backMarks text n image marks)
+  Is a im mk = (a ≡ backAnswer mode text n image marks) × (im ≡ backImage mode text n image marks) × (mk ≡ backMarks mode text n image marks)
 
-  is-refused : (k : ℕ) (vs : List ℤ) → refused k vs ≡ backAnswer text n image marks → Is (refused k vs) image marks
+  is-refused : (k : ℕ) (vs : List ℤ) → refused k vs ≡ backAnswer mode text n image marks → Is (refused k vs) image marks
   unfolding backImage backMarks
   is-refused k vs e = (e, rw (← e), rw (← e))
 
@@ -117,19 +118,19 @@ module _ (text : List ℕ) (n : ℕ) (image marks : List ℕ) where
       no-room g = is-refused 11 (pos n ∷ []) (rw (le-ltb 65536 n h, le-ltb (length marks) n k, lt-ltb (length image) n g))
 
       module _ (g : n ≤ length image) where
-        pub by-lines : judge (lineRefusals n start (emptySheet n) (lines text)) (length (lines text)) ≡ backAnswer text n image marks
+        pub by-lines : judge (lineRefusals mode n start (emptySheet n) (lines text)) (length (lines text)) ≡ backAnswer mode text n image marks
         unfolding backAnswer judge
         by-lines = rw (le-ltb 65536 n h, le-ltb (length marks) n k, le-ltb (length image) n g)
 
         -- the lines were read over cells and marks of zeros
-        module _ (cells seen new told : List ℕ) (c : cells ≡ replicate n 0) (s : seen ≡ replicate n 0) (x : Restored) (r : LinesLeave text cells seen new told (restoredOf x)) where
-          said : restoredOf x ≡ backAnswer text n image marks
+        module _ (cells seen new told : List ℕ) (c : cells ≡ replicate n 0) (s : seen ≡ replicate n 0) (x : Restored) (r : LinesLeave mode text cells seen new told (restoredOf x)) where
+          said : restoredOf x ≡ backAnswer mode text n image marks
           said = r .answer ∙ rw (c, s, length-replicate {A = ℕ} n 0) by-lines
 
           pub is-bad : ((j : ℕ) → x ≡ Written j → ⊥) → Is (restoredOf x) image marks
           is-bad f = by x said f
             where
-              by : (x : Restored) → restoredOf x ≡ backAnswer text n image marks → ((j : ℕ) → x ≡ Written j → ⊥) → Is (restoredOf x) image marks
+              by : (x : Restored) → restoredOf x ≡ backAnswer mode text n image marks → ((j : ℕ) → x ≡ Written j → ⊥) → Is (restoredOf x) image marks
               by (Written j) e f = absurd (f j refl)
               by (LongImage j) e f = is-refused 1 (pos j ∷ []) e
               by (ShortMarks j) e f = is-refused 2 (pos j ∷ []) e
@@ -147,6 +148,6 @@ module _ (text : List ℕ) (n : ℕ) (image marks : List ℕ) where
             pub is-done : (im mk : List ℕ) → im ≡ bytesIn new ++ drop (length new) image → mk ≡ told ++ drop (length told) marks → Is (restoredOf x) im mk
             unfolding backImage backMarks
             is-done im mk p q =
-                let e : accepted j ≡ backAnswer text n image marks = sym (ap restoredOf f) ∙ said in
+                let e : accepted j ≡ backAnswer mode text n image marks = sym (ap restoredOf f) ∙ said in
                 let i : im ≡ laid (bytesIn new) image = p ∙ ap (λ (k : ℕ). bytesIn new ++ drop k image) (sym (length-map new (λ (c : ℕ). c - 1))) in
                 (said, rw (← e) (i ∙ ap (λ (y : Sheet). laid (bytesIn (y .cells)) image) left), rw (← e) (q ∙ ap (λ (y : Sheet). laid (y .marks) marks) left))

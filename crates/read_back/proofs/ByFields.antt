@@ -11,12 +11,13 @@ use lib.Dec.{eqb}
 use lib.ListN.{length, getD, drop}
 use Rattle.instruction.proofs.Ands.{second-part}
 use Rattle.instruction.proofs.Sign.{never}
+use Rattle.instruction.specs.declared.mode.Mode.{Mode}
 use Rattle.text.specs.Bytes.{bytesOf}
 use Rattle.text.specs.Cut.{fields}
 use Rattle.text.specs.Four.{isFour, allFour, fourOf}
 use Rattle.text.specs.Hex.{allHex}
 use Rattle.read_back.specs.Line.{fieldOn, letterOn, positionOn, bytesOn, furtherOn, isStart, isLabel, isFound, isData, isCode, byLetter, isLine, hasBytes, recordOf}
-use Rattle.read_back.specs.Offsets.{positionAt, digitsAt, bytesAt, isStartAt, byLetterAt, isLineAt, recordAt}
+use Rattle.read_back.specs.Offsets.{positionAt, digitsAt, bytesAt, isStartAt, byLetterAt, isLineAt, recordAt, Spaced}
 use Rattle.read_back.specs.declared.place.Record.{Record}
 use Rattle.read_back.proofs.Pieces.{tabbed, NoTab, NoTabs, fields-are, Fielded, fielded, fielded-of}
 use Rattle.read_back.proofs.Rests.{label-is, found-is, fives, data-is, digits-are}
@@ -29,7 +30,7 @@ alike : (c : ℕ) (u u′ v v′ w w′ z z′ : Bool) → u ≡ u′ → v ≡ 
 alike c u u′ v v′ w w′ z z′ p q r s = rw (p, q, r, s)
 
 -- a letter, a position and further fields
-module _ (c a b d e : ℕ) (gs : List (List ℕ)) (n : NoTab (c ∷ [])) (ns : NoTabs ((a ∷ b ∷ d ∷ e ∷ []) ∷ gs)) where
+module _ (mode : Mode) (c a b d e : ℕ) (gs : List (List ℕ)) (n : NoTab (c ∷ [])) (ns : NoTabs ((a ∷ b ∷ d ∷ e ∷ []) ∷ gs)) where
   abbrev line : List ℕ
   line = c ∷ 9 ∷ a ∷ b ∷ d ∷ e ∷ tabbed gs
 
@@ -50,12 +51,12 @@ module _ (c a b d e : ℕ) (gs : List (List ℕ)) (n : NoTab (c ∷ [])) (ns : N
   unfolding isStartAt isStart isFour
   started = ap (λ (t : Bool). t && allHex (a ∷ b ∷ d ∷ e ∷ [])) (le-leb 6 (length line) (omega arith)) ∙ sym (ap starts cuts)
 
-  lettered : byLetterAt c line ≡ byLetter c line
+  lettered : byLetterAt mode c line ≡ byLetter mode c line
   lettered =
       alike c _ _ _ _ _ _ _ _ (label-is gs ∙ sym (ap isLabel further)) (found-is gs (ns .1) ∙ sym (ap isFound further))
-      (ap₂ (λ (p : ℕ) (bs : List ℕ). isCode p bs line) position-is (ap bytesOf digits-is)) (data-is gs ∙ sym (ap isData further))
+      (ap₂ (λ (p : ℕ) (bs : List ℕ). isCode mode p bs line) position-is (ap bytesOf digits-is)) (data-is gs ∙ sym (ap isData further))
 
-  agreed : isLineAt line ≡ isLine line
+  agreed : isLineAt mode line ≡ isLine mode line
   unfolding isLineAt isLine
   agreed = ap₂ (λ (x y : Bool). x && y) started lettered
 
@@ -80,51 +81,45 @@ module _ (c a b d e : ℕ) (gs : List (List ℕ)) (n : NoTab (c ∷ [])) (ns : N
       by hs false false false false true q k = absurd (never k)
       by hs false false false false false q k = absurd (never (sym q))
 
-  counted : isLine line ≡ true → hasBytes c ≡ false → length (drop 6 line) / 5 ≡ length (furtherOn line)
+  counted : isLine mode line ≡ true → hasBytes c ≡ false → length (drop 6 line) / 5 ≡ length (furtherOn line)
   unfolding isLine
   counted g h =
-      let q = ap (λ (fs : List (List ℕ)). cond (eqb c (code "L")) (isLabel fs) (cond (eqb c (code "O")) (isFound fs) (cond (eqb c (code "A")) (isFound fs) (cond (eqb c (code "I")) (isCode (positionOn line) (bytesOn line) line) (cond (eqb c (code "D")) (isData fs) false))))) further in
-      let k = all-four (eqb c (code "L")) (eqb c (code "O")) (eqb c (code "A")) (eqb c (code "I")) (eqb c (code "D")) _ _ (sym q ∙ second-part (isStart line) (byLetter c line) g) h in
+      let q = ap (λ (fs : List (List ℕ)). cond (eqb c (code "L")) (isLabel fs) (cond (eqb c (code "O")) (isFound fs) (cond (eqb c (code "A")) (isFound fs) (cond (eqb c (code "I")) (isCode mode (positionOn line) (bytesOn line) line) (cond (eqb c (code "D")) (isData fs) false))))) further in
+      let k = all-four (eqb c (code "L")) (eqb c (code "O")) (eqb c (code "A")) (eqb c (code "I")) (eqb c (code "D")) _ _ (sym q ∙ second-part (isStart line) (byLetter mode c line) g) h in
       omega (arith, fives gs k, ap length further)
 
 -- ---- every line
 
-pub line-is : (line : List ℕ) → isLineAt line ≡ isLine line
-line-is line = by (fielded-of line)
+pub line-is : (mode : Mode) (line : List ℕ) → isLineAt mode line ≡ isLine mode line
+line-is mode line = by (fielded-of line)
   where
-    is : {f : List ℕ} {fs : List (List ℕ)} → Shape f fs → NoTab f → NoTabs fs → isLineAt (f ++ tabbed fs) ≡ isLine (f ++ tabbed fs)
-    is (lined c a b d e gs) n ns = agreed c a b d e gs n ns
+    is : {f : List ℕ} {fs : List (List ℕ)} → Shape mode f fs → NoTab f → NoTabs fs → isLineAt mode (f ++ tabbed fs) ≡ isLine mode (f ++ tabbed fs)
+    is (lined c a b d e gs) n ns = agreed mode c a b d e gs n ns
     is (other p q) n ns = q ∙ sym p
 
-    by : Fielded line → isLineAt line ≡ isLine line
-    by (fielded f fs w n ns) = subst (λ (l : List ℕ). isLineAt l ≡ isLine l) (sym w) (is (shape f fs n ns) n ns)
+    by : Fielded line → isLineAt mode line ≡ isLine mode line
+    by (fielded f fs w n ns) = subst (λ (l : List ℕ). isLineAt mode l ≡ isLine mode l) (sym w) (is (shape mode f fs n ns) n ns)
 
--- what a good line says
-pub record Good (line : List ℕ) : Type 0 where
-  pub long : 6 ≤ length line
-  pub position : positionAt line ≡ positionOn line
-  pub digits : digitsAt line ≡ fieldOn 2 line
-  pub count : hasBytes (letterOn line) ≡ false → length (drop 6 line) / 5 ≡ length (furtherOn line)
-
-pub good-line : (line : List ℕ) → isLine line ≡ true → Good line
-good-line line g = by (fielded-of line)
+-- in a good line the fields stand at these places
+pub good-line : (mode : Mode) (line : List ℕ) → isLine mode line ≡ true → Spaced line
+good-line mode line g = by (fielded-of line)
   where
-    is : {f : List ℕ} {fs : List (List ℕ)} → Shape f fs → NoTab f → NoTabs fs → isLine (f ++ tabbed fs) ≡ true → Good (f ++ tabbed fs)
+    is : {f : List ℕ} {fs : List (List ℕ)} → Shape mode f fs → NoTab f → NoTabs fs → isLine mode (f ++ tabbed fs) ≡ true → Spaced (f ++ tabbed fs)
     is (lined c a b d e gs) n ns g = record {
       long = omega arith;
-      position = position-is c a b d e gs n ns;
-      digits = digits-is c a b d e gs n ns;
-      count = counted c a b d e gs n ns g;
+      position = position-is mode c a b d e gs n ns;
+      digits = digits-is mode c a b d e gs n ns;
+      count = counted mode c a b d e gs n ns g;
     }
     is (other p q) n ns g = absurd (never (sym g ∙ p))
 
-    by : Fielded line → Good line
-    by (fielded f fs w n ns) = subst Good (sym w) (is (shape f fs n ns) n ns (subst (λ (l : List ℕ). isLine l ≡ true) w g))
+    by : Fielded line → Spaced line
+    by (fielded f fs w n ns) = subst Spaced (sym w) (is (shape mode f fs n ns) n ns (subst (λ (l : List ℕ). isLine mode l ≡ true) w g))
 
-pub record-is : (line : List ℕ) → isLine line ≡ true → recordAt line ≡ recordOf line
+pub record-is : (line : List ℕ) → Spaced line → recordAt line ≡ recordOf line
 unfolding recordAt recordOf
-record-is line g = ap₂ (λ (p k : ℕ). record { letter = letterOn line; position = p; count = k }) (good-line line g .position) (by (hasBytes (letterOn line)) refl)
+record-is line g = ap₂ (λ (p k : ℕ). record { letter = letterOn line; position = p; count = k }) (g .position) (by (hasBytes (letterOn line)) refl)
   where
     by : (b : Bool) → hasBytes (letterOn line) ≡ b → cond b (length (bytesAt line)) (length (drop 6 line) / 5) ≡ cond b (length (bytesOn line)) (length (furtherOn line))
-    by true e = ap (λ (ds : List ℕ). length (bytesOf ds)) (good-line line g .digits)
-    by false e = good-line line g .count e
+    by true e = ap (λ (ds : List ℕ). length (bytesOf ds)) (g .digits)
+    by false e = g .count e

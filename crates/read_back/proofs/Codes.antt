@@ -7,6 +7,7 @@ use Prim.Native.Nat.{ℕ, suc, _+_, _/_, _≤_, _<_}
 use native.Mathlib.Omega.{arith}
 use lib.ListN.{length, getD, set, take, drop, length-append, length-drop, length-take}
 use lib.Seq.{sets, getD-take, take-take}
+use Rattle.instruction.specs.declared.mode.Mode.{Mode}
 use Rattle.listing.specs.Lines.{codeLine}
 use Rattle.text.specs.Puts.{Puts}
 use Rattle.listing.proofs.Widths.{alone-width}
@@ -35,17 +36,17 @@ digits-short line = omega (arith, first-short (drop 7 line), length-drop 7 line)
     first-short : (t : List ℕ) → length (upTo 9 t) ≤ length t
     first-short t = omega (arith, ap length (take-first 9 t), length-take (length (upTo 9 t)) t)
 
-module _ (line : List ℕ) where
+module _ (mode : Mode) (line : List ℕ) where
   abbrev written : List ℕ
-  written = codeLine (positionAt line) (bytesAt line)
+  written = codeLine mode (positionAt line) (bytesAt line)
 
   width : length written ≤ 31
-  width = alone-width (bytesAt line) [] (bytes-small (digitsAt line)) (positionAt line)
+  width = alone-width mode (bytesAt line) [] (bytes-small (digitsAt line)) (positionAt line)
 
   longer : length (line ++ 10 ∷ []) ≡ length line + 1
   longer = length-append line (10 ∷ [])
 
-  pub too-wide : 30 < length line → false ≡ isCode (positionAt line) (bytesAt line) line
+  pub too-wide : 30 < length line → false ≡ isCode mode (positionAt line) (bytesAt line) line
   unfolding isCode
   too-wide h = sym (other-length (line ++ 10 ∷ []) written (λ e. absurd (omega (arith, e, longer, width))))
 
@@ -56,14 +57,14 @@ module _ (line : List ℕ) where
       ap (λ (k : ℕ). take k (sets room 0 (bytesOf d))) (sym p) ∙ take-sets (bytesOf d) room (omega (arith, p)) ∙ ap bytesOf e
 
   -- the line as it was written again
-  module _ (p : ℕ) (bytes room new : List ℕ) (k : ℕ) (q : p ≡ positionAt line) (f : bytes ≡ bytesAt line) (l : length room ≡ 32) (w : Puts (codeLine p bytes) 0 room new k) where
-    is-written : codeLine p bytes ≡ written
+  module _ (p : ℕ) (bytes room new : List ℕ) (k : ℕ) (q : p ≡ positionAt line) (f : bytes ≡ bytesAt line) (l : length room ≡ 32) (w : Puts (codeLine mode p bytes) 0 room new k) where
+    is-written : codeLine mode p bytes ≡ written
     is-written = rw (q, f)
 
     size : k ≡ length written
     size = omega (arith, w .next, ap length is-written)
 
-    pub other-width : (k ≡ length line + 1 → ⊥) → false ≡ isCode (positionAt line) (bytesAt line) line
+    pub other-width : (k ≡ length line + 1 → ⊥) → false ≡ isCode mode (positionAt line) (bytesAt line) line
     unfolding isCode
     other-width n = sym (other-length (line ++ 10 ∷ []) written (λ e. n (omega (arith, e, longer, size))))
 
@@ -74,7 +75,7 @@ module _ (line : List ℕ) where
       last : getD written (length line) 0 ≡ getD new (length line) 0
       last = ap (λ (t : List ℕ). getD t (length line) 0) (sym shown) ∙ getD-take (length written) new (length line) 0 (omega (arith, size, g))
 
-      pub other-end : (getD new (length line) 0 ≡ 10 → ⊥) → false ≡ isCode (positionAt line) (bytesAt line) line
+      pub other-end : (getD new (length line) 0 ≡ 10 → ⊥) → false ≡ isCode mode (positionAt line) (bytesAt line) line
       unfolding isCode
       other-end n = sym (same-false (line ++ 10 ∷ []) written (λ e. n (sym last ∙ sym (ap (λ (t : List ℕ). getD t (length line) 0) e) ∙ at-end line)))
         where
@@ -82,7 +83,7 @@ module _ (line : List ℕ) where
           at-end [] = refl
           at-end (a ∷ s) = at-end s
 
-      pub compared : getD new (length line) 0 ≡ 10 → same line (take (length line) new) ≡ isCode (positionAt line) (bytesAt line) line
+      pub compared : getD new (length line) 0 ≡ 10 → same line (take (length line) new) ≡ isCode mode (positionAt line) (bytesAt line) line
       unfolding isCode
       compared e =
           ap (same line) (sym (take-take (length line) (length written) new (omega (arith, size, g))) ∙ ap (take (length line)) shown)

@@ -10,6 +10,7 @@ use lib.Dec.{eqb, ltb}
 use lib.IntN.{pos}
 use lib.ListN.{length}
 use Rattle.instruction.specs.Answer.{Answer, accepted, refused, Refusal, refuse, judge}
+use Rattle.instruction.specs.declared.mode.Mode.{Mode}
 use Rattle.text.specs.Cut.{before, cut, lines}
 use Rattle.read_back.specs.Order.{start, lineAfter}
 use Rattle.read_back.specs.Back.{lineRefusals, backAnswer}
@@ -36,12 +37,12 @@ after-most k = by (ltb k 18446744073709551615)
     by false = omega arith
 
 -- what is accepted has no more bytes than an image may have
-pub accepted-short : (text : List ℕ) (n : ℕ) (image marks : List ℕ) (k : ℕ) → backAnswer text n image marks ≡ accepted k → n ≤ 65536
+pub accepted-short : (mode : Mode) (text : List ℕ) (n : ℕ) (image marks : List ℕ) (k : ℕ) → backAnswer mode text n image marks ≡ accepted k → n ≤ 65536
 unfolding backAnswer judge
-accepted-short text n image marks k e = by (ltb 65536 n) refl (judge rest (length (lines text))) e
+accepted-short mode text n image marks k e = by (ltb 65536 n) refl (judge rest (length (lines text))) e
   where
     rest : List Refusal
-    rest = refuse (ltb (length marks) n) 2 (pos (length marks) ∷ []) ∷ refuse (ltb (length image) n) 11 (pos n ∷ []) ∷ lineRefusals n start (emptySheet n) (lines text)
+    rest = refuse (ltb (length marks) n) 2 (pos (length marks) ∷ []) ∷ refuse (ltb (length image) n) 11 (pos n ∷ []) ∷ lineRefusals mode n start (emptySheet n) (lines text)
 
     by : (b : Bool) → ltb 65536 n ≡ b → (a : Answer ℕ) → cond b (refused 1 (pos n ∷ [])) a ≡ accepted k → n ≤ 65536
     by true f a g = let z : _≡_ {A = ℕ} 0 1 = cc in absurd (omega arith)

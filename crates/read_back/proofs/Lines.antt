@@ -9,6 +9,7 @@ use borrow.Author.Tests.{eqb-true, eqb-false, eq-eqb, ne-eqb, le-leb, lt-leb}
 use lib.Dec.{eqb}
 use lib.ListN.{length, getD, take, drop, length-drop, drop-of-length-le}
 use lib.Seq.{getD-drop, drop-drop}
+use Rattle.instruction.specs.declared.mode.Mode.{Mode}
 use Rattle.text.specs.Hex.{allHex}
 use Rattle.read_back.specs.Offsets.{arePlaces, isLabelRest, isDataRest, isStartAt, byLetterAt, isLineAt}
 
@@ -69,22 +70,22 @@ module _ (s : List ℕ) (i : ℕ) where
   places-end h = rw (drop-of-length-le s h)
 
 -- how each line begins
-module _ (line : List ℕ) where
-  pub start-short : length line < 6 → false ≡ isLineAt line
+module _ (mode : Mode) (line : List ℕ) where
+  pub start-short : length line < 6 → false ≡ isLineAt mode line
   unfolding isLineAt isStartAt
   start-short h = rw (lt-leb 6 (length line) h)
 
   module _ (h : 6 ≤ length line) where
-    pub start-tab : (getD line 1 0 ≡ 9 → ⊥) → false ≡ isLineAt line
+    pub start-tab : (getD line 1 0 ≡ 9 → ⊥) → false ≡ isLineAt mode line
     unfolding isLineAt isStartAt
     start-tab n = rw (le-leb 6 (length line) h, ne-eqb (getD line 1 0) 9 n)
 
     module _ (t : getD line 1 0 ≡ 9) (b : Bool) (e : b ≡ allHex (take 4 (drop 2 line))) where
-      pub start-hex : b ≡ false → false ≡ isLineAt line
+      pub start-hex : b ≡ false → false ≡ isLineAt mode line
       unfolding isLineAt isStartAt
       start-hex f = rw (le-leb 6 (length line) h, eq-eqb (getD line 1 0) 9 t, ← e, f)
 
-      pub started : b ≡ true → byLetterAt (getD line 0 0) line ≡ isLineAt line
+      pub started : b ≡ true → byLetterAt mode (getD line 0 0) line ≡ isLineAt mode line
       unfolding isLineAt isStartAt
       started f = rw (le-leb 6 (length line) h, eq-eqb (getD line 1 0) 9 t, ← e, f)
 

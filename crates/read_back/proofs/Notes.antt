@@ -14,11 +14,10 @@ use lib.Seq.{set-out}
 use Rattle.text.specs.Bytes.{bytesOf}
 use Rattle.text.specs.Hex.{digitOf}
 use Rattle.text.proofs.Pairs.{pair-next, pair-end}
-use Rattle.read_back.specs.Line.{letterOn, positionOn, isLine, hasBytes, recordOf}
-use Rattle.read_back.specs.Offsets.{digitsAt}
+use Rattle.read_back.specs.Line.{letterOn, positionOn, hasBytes, recordOf}
+use Rattle.read_back.specs.Offsets.{digitsAt, Spaced}
 use Rattle.read_back.specs.Sheet.{fits, listedOn, agree, reach, markedBy}
 use Rattle.read_back.specs.declared.place.Record.{Record}
-use Rattle.read_back.proofs.ByFields.{good-line}
 
 -- past the end nothing was listed
 agree-past : (cells : List ℕ) (n : ℕ) (bs : List ℕ) → length cells ≤ n → agree cells n bs ≡ true
@@ -71,8 +70,8 @@ module _ (line : List ℕ) (r : Record) (e : r ≡ recordOf line) where
     pub none-listed : b ≡ false → [] ≡ listedOn line
     none-listed g = rw (← has, g)
 
-    pub bytes-listed : b ≡ true → isLine line ≡ true → (d : List ℕ) → d ≡ digitsAt line → bytesOf d ≡ listedOn line
-    bytes-listed g l d q = ap bytesOf (q ∙ good-line line l .digits) ∙ rw (← has, g)
+    pub bytes-listed : b ≡ true → Spaced line → (d : List ℕ) → d ≡ digitsAt line → bytesOf d ≡ listedOn line
+    bytes-listed g l d q = ap bytesOf (q ∙ l .digits) ∙ rw (← has, g)
 
 -- how far bytes reach
 pub reach-none : (n p : ℕ) (bs : List ℕ) → length bs ≡ 0 → false ≡ reach n p bs

@@ -11,6 +11,7 @@ use lib.IntN.{pos}
 use lib.ListN.{length, take, drop, length-drop}
 use lib.Seq.{length-take-le}
 use Rattle.instruction.specs.Answer.{accepted, refused, refuse, judge}
+use Rattle.instruction.specs.declared.mode.Mode.{Mode}
 use Rattle.text.specs.Cut.{upTo}
 use Rattle.text.proofs.Cuts.{the-piece, piece-inside}
 use Rattle.read_back.specs.Line.{isLine, recordOf}
@@ -20,11 +21,11 @@ use Rattle.read_back.specs.declared.place.Place.{Place}
 use Rattle.read_back.specs.declared.place.Record.{Record}
 use Rattle.read_back.proofs.Records.{placed}
 
-pub past : (text : List ℕ) (place : Place) → length text ≤ place .at → accepted ended ≡ readAnswer text place
+pub past : (mode : Mode) (text : List ℕ) (place : Place) → length text ≤ place .at → accepted ended ≡ readAnswer mode text place
 unfolding readAnswer
-past text place h = rw (le-leb (length text) (place .at) h)
+past mode text place h = rw (le-leb (length text) (place .at) h)
 
-module _ (text : List ℕ) (place : Place) (h : place .at < length text) (e : ℕ) (p : e ≡ place .at + length (upTo 10 (drop (place .at) text))) where
+module _ (mode : Mode) (text : List ℕ) (place : Place) (h : place .at < length text) (e : ℕ) (p : e ≡ place .at + length (upTo 10 (drop (place .at) text))) where
   -- the line's bytes
   abbrev bytes : List ℕ
   bytes = take (e - place .at) (drop (place .at) text)
@@ -32,25 +33,25 @@ module _ (text : List ℕ) (place : Place) (h : place .at < length text) (e : �
   pub inside : e ≤ length text
   inside = piece-inside 10 text (place .at) e p (le-of-lt h)
 
-  here : lineAnswer place bytes ≡ readAnswer text place
+  here : lineAnswer mode place bytes ≡ readAnswer mode text place
   unfolding readAnswer
-  here = rw (lt-leb (length text) (place .at) h) (ap (lineAnswer place) (the-piece 10 text (place .at) e p))
+  here = rw (lt-leb (length text) (place .at) h) (ap (lineAnswer mode place) (the-piece 10 text (place .at) e p))
 
-  bad : isGood place bytes ≡ false → refused 15 (pos (place .line) ∷ []) ≡ readAnswer text place
+  bad : isGood mode place bytes ≡ false → refused 15 (pos (place .line) ∷ []) ≡ readAnswer mode text place
   unfolding judge
   bad f = sym (ap (λ (b : Bool). judge {A = Found} (refuse (not b) 15 (pos (place .line) ∷ []) ∷ []) (listed (recordOf bytes) (placeAfter place (length bytes) (recordOf bytes)))) f) ∙ here
 
-  pub bad-line : isLine bytes ≡ false → refused 15 (pos (place .line) ∷ []) ≡ readAnswer text place
+  pub bad-line : isLine mode bytes ≡ false → refused 15 (pos (place .line) ∷ []) ≡ readAnswer mode text place
   bad-line f = bad (ap (λ (b : Bool). b && follows place (recordOf bytes)) f)
 
-  module _ (g : isLine bytes ≡ true) (r : Record) (s : r ≡ recordOf bytes) where
-    good-by : isGood place bytes ≡ follows place r
+  module _ (g : isLine mode bytes ≡ true) (r : Record) (s : r ≡ recordOf bytes) where
+    good-by : isGood mode place bytes ≡ follows place r
     good-by = ap (λ (b : Bool). b && follows place (recordOf bytes)) g ∙ ap (follows place) (sym s)
 
-    pub bad-order : follows place r ≡ false → refused 15 (pos (place .line) ∷ []) ≡ readAnswer text place
+    pub bad-order : follows place r ≡ false → refused 15 (pos (place .line) ∷ []) ≡ readAnswer mode text place
     bad-order f = bad (good-by ∙ f)
 
-    pub good : follows place r ≡ true → (k : ℕ) → k ≡ lineAfter (place .line) → (n : Place) → (n .at ≡ e + 1) × (n .line ≡ k) × (n .last ≡ r .position) × (n .letter ≡ r .letter) → accepted (listed r n) ≡ readAnswer text place
+    pub good : follows place r ≡ true → (k : ℕ) → k ≡ lineAfter (place .line) → (n : Place) → (n .at ≡ e + 1) × (n .line ≡ k) × (n .last ≡ r .position) × (n .letter ≡ r .letter) → accepted (listed r n) ≡ readAnswer mode text place
     unfolding judge placeAfter
     good f k m n t =
         let w : length bytes ≡ e - place .at = length-take-le _ _ (omega (arith, inside, length-drop (place .at) text)) in

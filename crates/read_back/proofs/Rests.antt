@@ -9,6 +9,7 @@ use borrow.Author.Tests.{eqb-false, ne-eqb, le-leb, ltb-true, ltb-false}
 use lib.Dec.{eqb, leb, ltb}
 use lib.ListN.{length, getD, take, drop, length-append}
 use Rattle.instruction.proofs.Ands.{first-part, second-part, not-first, not-second}
+use Rattle.instruction.specs.declared.mode.Mode.{Mode}
 use Rattle.text.specs.Bytes.{bytesOf, isBytes}
 use Rattle.text.specs.Cut.{upTo}
 use Rattle.text.specs.Four.{isFour, allFour}
@@ -114,21 +115,21 @@ digits-are [] n = refl
 digits-are (g ∷ gs) n = up-to g gs (n .0)
 
 -- a tab stands after the position of a printed `I` line
-seventh : (p : ℕ) (bytes : List ℕ) → 0 < length (codeLine p bytes) → getD (codeLine p bytes) 6 0 ≡ 9
+seventh : (mode : Mode) (p : ℕ) (bytes : List ℕ) → 0 < length (codeLine mode p bytes) → getD (codeLine mode p bytes) 6 0 ≡ 9
 unfolding codeLine instrText fieldsText hex4 hex3 hex2
-seventh p bytes h = by (hereOf bytes 0) h
+seventh mode p bytes h = by (hereOf bytes 0) h
   where
-    by : (x : Here) → 0 < length (codeBy p bytes x) → getD (codeBy p bytes x) 6 0 ≡ 9
+    by : (x : Here) → 0 < length (codeBy mode p bytes x) → getD (codeBy mode p bytes x) 6 0 ≡ 9
     by (Whole i) h = is (ltb 65536 (nextOf p i)) h
       where
-        is : (b : Bool) → 0 < length (cond b [] (instrText p i bytes)) → getD (cond b [] (instrText p i bytes)) 6 0 ≡ 9
+        is : (b : Bool) → 0 < length (cond b [] (instrText mode p i bytes)) → getD (cond b [] (instrText mode p i bytes)) 6 0 ≡ 9
         is true h = absurd (omega arith)
         is false h = refl
     by (Cut c) h = absurd (omega arith)
     by Outside h = absurd (omega arith)
 
-pub not-code : (p : ℕ) (bytes : List ℕ) (c t a b d e x : ℕ) (r : List ℕ) → eqb x 9 ≡ false → isCode p bytes (c ∷ t ∷ a ∷ b ∷ d ∷ e ∷ x ∷ r) ≡ false
+pub not-code : (mode : Mode) (p : ℕ) (bytes : List ℕ) (c t a b d e x : ℕ) (r : List ℕ) → eqb x 9 ≡ false → isCode mode p bytes (c ∷ t ∷ a ∷ b ∷ d ∷ e ∷ x ∷ r) ≡ false
 unfolding isCode
-not-code p bytes c t a b d e x r n =
-    same-false (c ∷ t ∷ a ∷ b ∷ d ∷ e ∷ x ∷ r ++ 10 ∷ []) (codeLine p bytes)
-    (λ q. eqb-false x 9 n (ap (λ (l : List ℕ). getD l 6 0) q ∙ seventh p bytes (omega (arith, ap length q))))
+not-code mode p bytes c t a b d e x r n =
+    same-false (c ∷ t ∷ a ∷ b ∷ d ∷ e ∷ x ∷ r ++ 10 ∷ []) (codeLine mode p bytes)
+    (λ q. eqb-false x 9 n (ap (λ (l : List ℕ). getD l 6 0) q ∙ seventh mode p bytes (omega (arith, ap length q))))

@@ -13,6 +13,7 @@ use lib.Seq.{sets}
 use Rattle.instruction.specs.Answer.{Answer, accepted, refused, refuse, judge, after}
 use Rattle.instruction.proofs.Ands.{first-part}
 use Rattle.instruction.proofs.Sign.{never}
+use Rattle.instruction.specs.declared.mode.Mode.{Mode}
 use Rattle.text.specs.Cut.{upTo}
 use Rattle.text.proofs.Cuts.{end-inside, take-first}
 use Rattle.read_back.specs.Line.{positionOn, isLine, recordOf}
@@ -41,17 +42,17 @@ placeIn d (accepted (listed r n)) = n
 placeIn d (accepted ended) = d
 placeIn d (refused k vs) = d
 
-module _ (text : List ℕ) (place : Place) (h : place .at < length text) where
+module _ (mode : Mode) (text : List ℕ) (place : Place) (h : place .at < length text) where
   abbrev pub line : List ℕ
   line = upTo 10 (drop (place .at) text)
 
-  here : readAnswer text place ≡ lineAnswer place line
+  here : readAnswer mode text place ≡ lineAnswer mode place line
   unfolding readAnswer
   here = rw (lt-leb (length text) (place .at) h)
 
   -- the line that was read
   pub record Taken (r : Record) (next : Place) : Type 0 where
-    pub good : isGood place line ≡ true
+    pub good : isGood mode place line ≡ true
     pub is : r ≡ recordOf line
     pub goes : next ≡ placeAfter place (length line) (recordOf line)
 
@@ -59,20 +60,20 @@ module _ (text : List ℕ) (place : Place) (h : place .at < length text) where
   unfoldable answerBy : Bool → Answer Found
   answerBy b = judge (refuse (not b) 15 (pos (place .line) ∷ []) ∷ []) (listed (recordOf line) (placeAfter place (length line) (recordOf line)))
 
-  pub taken : (x : Read) → readOf x ≡ readAnswer text place → (r : Record) (n : Place) → x ≡ Line r n → Taken r n
+  pub taken : (x : Read) → readOf x ≡ readAnswer mode text place → (r : Record) (n : Place) → x ≡ Line r n → Taken r n
   unfolding judge answerBy
-  taken x e r n f = by (isGood place line) refl (sym (ap readOf f) ∙ e ∙ here)
+  taken x e r n f = by (isGood mode place line) refl (sym (ap readOf f) ∙ e ∙ here)
     where
-      by : (b : Bool) → isGood place line ≡ b → accepted (listed r n) ≡ answerBy (isGood place line) → Taken r n
+      by : (b : Bool) → isGood mode place line ≡ b → accepted (listed r n) ≡ answerBy (isGood mode place line) → Taken r n
       by true g q = let p : accepted (listed r n) ≡ answerBy true = q ∙ ap answerBy g in record { good = g; is = ap (recordIn r) p; goes = ap (placeIn n) p }
       by false g q = let p : accepted (listed r n) ≡ answerBy false = q ∙ ap answerBy g in absurd (never (ap isListed p))
 
   -- it was none
-  pub untaken : (x : Read) → readOf x ≡ readAnswer text place → ((r : Record) (n : Place) → x ≡ Line r n → ⊥) → isGood place line ≡ false
+  pub untaken : (x : Read) → readOf x ≡ readAnswer mode text place → ((r : Record) (n : Place) → x ≡ Line r n → ⊥) → isGood mode place line ≡ false
   unfolding judge answerBy
-  untaken x e f = by (isGood place line) refl x (e ∙ here) f
+  untaken x e f = by (isGood mode place line) refl x (e ∙ here) f
     where
-      by : (b : Bool) → isGood place line ≡ b → (x : Read) → readOf x ≡ answerBy (isGood place line) → ((r : Record) (n : Place) → x ≡ Line r n → ⊥) → isGood place line ≡ false
+      by : (b : Bool) → isGood mode place line ≡ b → (x : Read) → readOf x ≡ answerBy (isGood mode place line) → ((r : Record) (n : Place) → x ≡ Line r n → ⊥) → isGood mode place line ≡ false
       by true g (Line r n) q f = absurd (f r n refl)
       by true g End q f = let p : accepted ended ≡ answerBy true = q ∙ ap answerBy g in absurd (never (sym (ap isListed p)))
       by true g (Malformed k) q f = let p : refused 15 (pos k ∷ []) ≡ answerBy true = q ∙ ap answerBy g in absurd (never (sym (ap isListed p)))
@@ -98,31 +99,31 @@ module _ (text : List ℕ) (place : Place) (h : place .at < length text) where
         let k : n .at - 1 - place .at ≡ length line = omega (arith, end) in
         ap (λ (m : ℕ). take m (drop (place .at) text)) k ∙ take-first 10 (drop (place .at) text)
 
-    pub its-good : isLine (take (n .at - 1 - place .at) (drop (place .at) text)) ≡ true
-    its-good = ap isLine its-line ∙ first-part (isLine line) (follows place (recordOf line)) (t .good)
+    pub its-good : isLine mode (take (n .at - 1 - place .at) (drop (place .at) text)) ≡ true
+    its-good = ap (isLine mode) its-line ∙ first-part (isLine mode line) (follows place (recordOf line)) (t .good)
 
     pub its-record : r ≡ recordOf (take (n .at - 1 - place .at) (drop (place .at) text))
     its-record = t .is ∙ ap recordOf (sym its-line)
 
 -- the line l at the place, over these cells and marks
-module _ (place : Place) (cells marks l : List ℕ) where
+module _ (mode : Mode) (place : Place) (cells marks l : List ℕ) where
   unfoldable answer : Bool → Bool → Answer Place
   answer b c = judge (refuse (not b) 15 (pos (place .line) ∷ []) ∷ refuse c 16 (pos (place .line) ∷ []) ∷ []) (placeAfter place (length l) (recordOf l))
 
   -- what is answered and left
   abbrev pub Left : Answer Place → List ℕ → List ℕ → Type 0
-  Left a new told = (a ≡ turnAnswer place cells l) × (new ≡ turnCells place cells l) × (told ≡ turnMarks place cells l marks)
+  Left a new told = (a ≡ turnAnswer mode place cells l) × (new ≡ turnCells mode place cells l) × (told ≡ turnMarks mode place cells l marks)
 
-  left : (b c : Bool) → isGood place l && agree cells (positionOn l) (listedOn l) ≡ b → reach (length cells) (positionOn l) (listedOn l) ≡ c
+  left : (b c : Bool) → isGood mode place l && agree cells (positionOn l) (listedOn l) ≡ b → reach (length cells) (positionOn l) (listedOn l) ≡ c
       → Left (answer b c) (after (answer b c) (sets cells (positionOn l) (map suc (listedOn l))) cells) (after (answer b c) (markedBy (recordOf l) marks) marks)
   unfolding turnAnswer turnCells turnMarks answer
   left b c f g = rw (f, g) (refl, refl, refl)
 
-  pub left-bad : isGood place l && agree cells (positionOn l) (listedOn l) ≡ false → Left (refused 15 (pos (place .line) ∷ [])) cells marks
+  pub left-bad : isGood mode place l && agree cells (positionOn l) (listedOn l) ≡ false → Left (refused 15 (pos (place .line) ∷ [])) cells marks
   unfolding judge answer
   left-bad f = left false (reach (length cells) (positionOn l) (listedOn l)) f refl
 
-  module _ (f : isGood place l && agree cells (positionOn l) (listedOn l) ≡ true) where
+  module _ (f : isGood mode place l && agree cells (positionOn l) (listedOn l) ≡ true) where
     pub left-past : reach (length cells) (positionOn l) (listedOn l) ≡ true → Left (refused 16 (pos (place .line) ∷ [])) cells marks
     unfolding judge answer
     left-past g = left true true f g

@@ -8,6 +8,7 @@ use lib.Dec.{ltb}
 use lib.IntN.{pos}
 use lib.ListN.{length, drop}
 use Rattle.instruction.specs.Answer.{Answer, accepted, refused, Refusal, refuse, judge, after, laid}
+use Rattle.instruction.specs.declared.mode.Mode.{Mode}
 use Rattle.text.specs.Cut.{lines}
 use Rattle.read_back.specs.Line.{positionOn, recordOf}
 use Rattle.read_back.specs.Order.{start, placeAfter}
@@ -27,16 +28,16 @@ restoredOf (Malformed k) = refused 15 (pos k ∷ [])
 restoredOf (PastEnd k) = refused 16 (pos k ∷ [])
 
 -- the line after a place, over what was read before it
-abbrev pub isFit : Place → Sheet → List ℕ → Bool
-isFit place sheet l = isGood place l && agree (sheet .cells) (positionOn l) (listedOn l)
+abbrev pub isFit : Mode → Place → Sheet → List ℕ → Bool
+isFit mode place sheet l = isGood mode place l && agree (sheet .cells) (positionOn l) (listedOn l)
 
 -- the lines from a place on, of an image of n bytes
-unfoldable pub lineRefusals : ℕ → Place → Sheet → List (List ℕ) → List Refusal
-lineRefusals n place sheet [] = []
-lineRefusals n place sheet (l ∷ ls) =
-    refuse (not (isFit place sheet l)) 15 (pos (place .line) ∷ [])
+unfoldable pub lineRefusals : Mode → ℕ → Place → Sheet → List (List ℕ) → List Refusal
+lineRefusals mode n place sheet [] = []
+lineRefusals mode n place sheet (l ∷ ls) =
+    refuse (not (isFit mode place sheet l)) 15 (pos (place .line) ∷ [])
     ∷ refuse (reach n (positionOn l) (listedOn l)) 16 (pos (place .line) ∷ [])
-    ∷ lineRefusals n (placeAfter place (length l) (recordOf l)) (sheetWith sheet l) ls
+    ∷ lineRefusals mode n (placeAfter place (length l) (recordOf l)) (sheetWith sheet l) ls
 
 -- what they leave
 unfoldable pub sheetAfter : Sheet → List (List ℕ) → Sheet
@@ -47,18 +48,18 @@ abbrev pub sheetOf : List ℕ → ℕ → Sheet
 sheetOf text n = sheetAfter (emptySheet n) (lines text)
 
 -- how many lines were read, or what is refused
-unfoldable pub backAnswer : List ℕ → ℕ → List ℕ → List ℕ → Answer ℕ
-backAnswer text n image marks =
+unfoldable pub backAnswer : Mode → List ℕ → ℕ → List ℕ → List ℕ → Answer ℕ
+backAnswer mode text n image marks =
     judge
     (refuse (ltb 65536 n) 1 (pos n ∷ [])
     ∷ refuse (ltb (length marks) n) 2 (pos (length marks) ∷ [])
     ∷ refuse (ltb (length image) n) 11 (pos n ∷ [])
-    ∷ lineRefusals n start (emptySheet n) (lines text))
+    ∷ lineRefusals mode n start (emptySheet n) (lines text))
     (length (lines text))
 
 -- what was read is laid over the beginning of a room; a refusal changes nothing
-unfoldable pub backImage : List ℕ → ℕ → List ℕ → List ℕ → List ℕ
-backImage text n image marks = after (backAnswer text n image marks) (laid (imageOn (sheetOf text n)) image) image
+unfoldable pub backImage : Mode → List ℕ → ℕ → List ℕ → List ℕ → List ℕ
+backImage mode text n image marks = after (backAnswer mode text n image marks) (laid (imageOn (sheetOf text n)) image) image
 
-unfoldable pub backMarks : List ℕ → ℕ → List ℕ → List ℕ → List ℕ
-backMarks text n image marks = after (backAnswer text n image marks) (laid (sheetOf text n .marks) marks) marks
+unfoldable pub backMarks : Mode → List ℕ → ℕ → List ℕ → List ℕ → List ℕ
+backMarks mode text n image marks = after (backAnswer mode text n image marks) (laid (sheetOf text n .marks) marks) marks

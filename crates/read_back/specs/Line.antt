@@ -8,6 +8,7 @@ use mathlib.Core.Bool.{Bool, true, false, cond, _&&_}
 use mathlib.Core.List.{List, [], _∷_, _++_}
 use lib.Dec.{eqb}
 use lib.ListN.{length, getD, drop}
+use Rattle.instruction.specs.declared.mode.Mode.{Mode}
 use Rattle.text.specs.Bytes.{bytesOf, isBytes}
 use Rattle.text.specs.Cut.{fields}
 use Rattle.text.specs.Four.{isFour, allFour, fourOf}
@@ -62,20 +63,20 @@ same (a ∷ s) [] = false
 same (a ∷ s) (b ∷ t) = eqb a b && same s t
 
 -- `I`, judged whole: the line is the one that the writer prints for these bytes at this position
-unfoldable pub isCode : ℕ → List ℕ → List ℕ → Bool
-isCode p bytes line = same (line ++ 10 ∷ []) (codeLine p bytes)
+unfoldable pub isCode : Mode → ℕ → List ℕ → List ℕ → Bool
+isCode mode p bytes line = same (line ++ 10 ∷ []) (codeLine mode p bytes)
 
 -- by the letter
-abbrev pub byLetter : ℕ → List ℕ → Bool
-byLetter c line =
+abbrev pub byLetter : Mode → ℕ → List ℕ → Bool
+byLetter mode c line =
     cond (eqb c (code "L")) (isLabel (furtherOn line))
     (cond (eqb c (code "O")) (isFound (furtherOn line))
     (cond (eqb c (code "A")) (isFound (furtherOn line))
-    (cond (eqb c (code "I")) (isCode (positionOn line) (bytesOn line) line)
+    (cond (eqb c (code "I")) (isCode mode (positionOn line) (bytesOn line) line)
     (cond (eqb c (code "D")) (isData (furtherOn line)) false))))
 
-unfoldable pub isLine : List ℕ → Bool
-isLine line = isStart line && byLetter (letterOn line) line
+unfoldable pub isLine : Mode → List ℕ → Bool
+isLine mode line = isStart line && byLetter mode (letterOn line) line
 
 -- `I` and `D` have bytes
 abbrev pub hasBytes : ℕ → Bool

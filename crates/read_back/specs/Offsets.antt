@@ -1,17 +1,19 @@
 -- A line by the places of its bytes: serves inner functions alone. The letter is the first, the position stands from the third on, and what
 -- follows it from the seventh.
 -- Assumes nothing.
-use Prim.Native.Nat.{ℕ, _/_}
+use Prim.Native.Nat.{ℕ, _/_, _≤_}
 use Prim.Native.Char.{code}
 use mathlib.Core.Bool.{Bool, true, false, cond, _&&_}
 use mathlib.Core.List.{List, [], _∷_}
 use lib.Dec.{eqb, leb}
 use lib.ListN.{length, getD, take, drop}
+use Rattle.instruction.specs.declared.mode.Mode.{Mode}
 use Rattle.text.specs.Bytes.{bytesOf, isBytes}
 use Rattle.text.specs.Cut.{upTo}
 use Rattle.text.specs.Four.{fourOf}
 use Rattle.text.specs.Hex.{allHex}
-use Rattle.read_back.specs.Line.{letterOn, isCode, hasBytes}
+use mathlib.Core.Path.{_≡_}
+use Rattle.read_back.specs.Line.{fieldOn, letterOn, positionOn, furtherOn, isCode, hasBytes}
 use Rattle.read_back.specs.declared.place.Record.{Record}
 
 abbrev pub positionAt : List ℕ → ℕ
@@ -47,16 +49,16 @@ isFoundRest rest = leb 1 (length rest) && arePlaces rest
 abbrev pub isDataRest : List ℕ → Bool
 isDataRest rest = eqb (getD rest 0 0) 9 && isBytes 16 (drop 1 rest)
 
-abbrev pub byLetterAt : ℕ → List ℕ → Bool
-byLetterAt c line =
+abbrev pub byLetterAt : Mode → ℕ → List ℕ → Bool
+byLetterAt mode c line =
     cond (eqb c (code "L")) (isLabelRest (drop 6 line))
     (cond (eqb c (code "O")) (isFoundRest (drop 6 line))
     (cond (eqb c (code "A")) (isFoundRest (drop 6 line))
-    (cond (eqb c (code "I")) (isCode (positionAt line) (bytesAt line) line)
+    (cond (eqb c (code "I")) (isCode mode (positionAt line) (bytesAt line) line)
     (cond (eqb c (code "D")) (isDataRest (drop 6 line)) false))))
 
-unfoldable pub isLineAt : List ℕ → Bool
-isLineAt line = isStartAt line && byLetterAt (letterOn line) line
+unfoldable pub isLineAt : Mode → List ℕ → Bool
+isLineAt mode line = isStartAt line && byLetterAt mode (letterOn line) line
 
 unfoldable pub recordAt : List ℕ → Record
 recordAt line = record {
@@ -64,3 +66,10 @@ recordAt line = record {
   position = positionAt line;
   count = cond (hasBytes (letterOn line)) (length (bytesAt line)) (length (drop 6 line) / 5);
 }
+
+-- what stands at these places are the fields
+pub record Spaced (line : List ℕ) : Type 0 where
+  pub long : 6 ≤ length line
+  pub position : positionAt line ≡ positionOn line
+  pub digits : digitsAt line ≡ fieldOn 2 line
+  pub count : hasBytes (letterOn line) ≡ false → length (drop 6 line) / 5 ≡ length (furtherOn line)

@@ -8,6 +8,7 @@ use lib.Dec.{leb}
 use lib.IntN.{pos}
 use lib.ListN.{length, drop}
 use Rattle.instruction.specs.Answer.{Answer, accepted, refused, refuse, judge}
+use Rattle.instruction.specs.declared.mode.Mode.{Mode}
 use Rattle.text.specs.Cut.{upTo}
 use Rattle.read_back.specs.Line.{isLine, recordOf}
 use Rattle.read_back.specs.Order.{follows, placeAfter}
@@ -28,14 +29,14 @@ readOf End = accepted ended
 readOf (Malformed k) = refused 15 (pos k ∷ [])
 
 -- a line that may stand at the place
-abbrev pub isGood : Place → List ℕ → Bool
-isGood place l = isLine l && follows place (recordOf l)
+abbrev pub isGood : Mode → Place → List ℕ → Bool
+isGood mode place l = isLine mode l && follows place (recordOf l)
 
-abbrev pub lineAnswer : Place → List ℕ → Answer Found
-lineAnswer place l =
-    judge (refuse (not (isGood place l)) 15 (pos (place .line) ∷ []) ∷ []) (listed (recordOf l) (placeAfter place (length l) (recordOf l)))
+abbrev pub lineAnswer : Mode → Place → List ℕ → Answer Found
+lineAnswer mode place l =
+    judge (refuse (not (isGood mode place l)) 15 (pos (place .line) ∷ []) ∷ []) (listed (recordOf l) (placeAfter place (length l) (recordOf l)))
 
 -- a line goes up to its byte 10, which the last may lack; at or past the end of the text there is none
-unfoldable pub readAnswer : List ℕ → Place → Answer Found
-readAnswer text place =
-    cond (leb (length text) (place .at)) (accepted ended) (lineAnswer place (upTo 10 (drop (place .at) text)))
+unfoldable pub readAnswer : Mode → List ℕ → Place → Answer Found
+readAnswer mode text place =
+    cond (leb (length text) (place .at)) (accepted ended) (lineAnswer mode place (upTo 10 (drop (place .at) text)))

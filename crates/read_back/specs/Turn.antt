@@ -7,6 +7,7 @@ use lib.IntN.{pos}
 use lib.ListN.{length}
 use lib.Seq.{sets}
 use Rattle.instruction.specs.Answer.{Answer, accepted, refused, refuse, judge, after}
+use Rattle.instruction.specs.declared.mode.Mode.{Mode}
 use Rattle.read_back.specs.Line.{positionOn, recordOf}
 use Rattle.read_back.specs.Order.{placeAfter}
 use Rattle.read_back.specs.Read.{isGood}
@@ -21,16 +22,16 @@ turnedOf place Malformed = refused 15 (pos (place .line) ∷ [])
 turnedOf place PastEnd = refused 16 (pos (place .line) ∷ [])
 
 -- the line l at the place
-unfoldable pub turnAnswer : Place → List ℕ → List ℕ → Answer Place
-turnAnswer place cells l =
+unfoldable pub turnAnswer : Mode → Place → List ℕ → List ℕ → Answer Place
+turnAnswer mode place cells l =
     judge
-    (refuse (not (isGood place l && agree cells (positionOn l) (listedOn l))) 15 (pos (place .line) ∷ [])
+    (refuse (not (isGood mode place l && agree cells (positionOn l) (listedOn l))) 15 (pos (place .line) ∷ [])
     ∷ refuse (reach (length cells) (positionOn l) (listedOn l)) 16 (pos (place .line) ∷ [])
     ∷ [])
     (placeAfter place (length l) (recordOf l))
 
-unfoldable pub turnCells : Place → List ℕ → List ℕ → List ℕ
-turnCells place cells l = after (turnAnswer place cells l) (sets cells (positionOn l) (map suc (listedOn l))) cells
+unfoldable pub turnCells : Mode → Place → List ℕ → List ℕ → List ℕ
+turnCells mode place cells l = after (turnAnswer mode place cells l) (sets cells (positionOn l) (map suc (listedOn l))) cells
 
-unfoldable pub turnMarks : Place → List ℕ → List ℕ → List ℕ → List ℕ
-turnMarks place cells l marks = after (turnAnswer place cells l) (markedBy (recordOf l) marks) marks
+unfoldable pub turnMarks : Mode → Place → List ℕ → List ℕ → List ℕ → List ℕ
+turnMarks mode place cells l marks = after (turnAnswer mode place cells l) (markedBy (recordOf l) marks) marks

@@ -8,6 +8,7 @@ ghost use Rattle.read_back.specs.LinesLeave.{LinesLeave};
 use crate::place::Place;
 use crate::turn::Turn;
 use crate::turn::read_on;
+use instruction::Mode;
 use targets::Image;
 
 pub enum Restored {
@@ -38,12 +39,12 @@ fn no_marks() -> [u8; Image::LIMIT]
 }
 
 // Reads every line over these arrays, up to the first bad one.
-fn read_lines(text: &[u8], cells: &mut [u16], marks: &mut [u8]) -> Restored
-    ensures { λ r. ⌜ LinesLeave (now (text .entry)) (now (cells .entry)) (now (marks .entry)) (now (cells .exit)) (now (marks .exit)) (restoredOf r) ⌝ }
+fn read_lines(mode: Mode, text: &[u8], cells: &mut [u16], marks: &mut [u8]) -> Restored
+    ensures { λ r. ⌜ LinesLeave mode (now (text .entry)) (now (cells .entry)) (now (marks .entry)) (now (cells .exit)) (now (marks .exit)) (restoredOf r) ⌝ }
 {
     let mut place = Place::start();
     while place.at < text.len() {
-        match read_on(text, place, cells, marks) {
+        match read_on(mode, text, place, cells, marks) {
             Turn::On(next) => {
                 place = next;
             }
@@ -92,10 +93,16 @@ fn put_marks(seen: &[u8], marks: &mut [u8])
 }
 
 // Puts the image of so many bytes and its marks back: how many lines were read.
-pub fn read_back(text: &[u8], length: usize, image: &mut [u8], marks: &mut [u8]) -> Restored
-    ensures { λ r. ⌜ restoredOf r ≡ backAnswer (now (text .entry)) length (now (image .entry)) (now (marks .entry)) ⌝ }
-    ensures { λ _. ⌜ now (image .exit) ≡ backImage (now (text .entry)) length (now (image .entry)) (now (marks .entry)) ⌝ }
-    ensures { λ _. ⌜ now (marks .exit) ≡ backMarks (now (text .entry)) length (now (image .entry)) (now (marks .entry)) ⌝ }
+pub fn read_back(
+    mode: Mode,
+    text: &[u8],
+    length: usize,
+    image: &mut [u8],
+    marks: &mut [u8],
+) -> Restored
+    ensures { λ r. ⌜ restoredOf r ≡ backAnswer mode (now (text .entry)) length (now (image .entry)) (now (marks .entry)) ⌝ }
+    ensures { λ _. ⌜ now (image .exit) ≡ backImage mode (now (text .entry)) length (now (image .entry)) (now (marks .entry)) ⌝ }
+    ensures { λ _. ⌜ now (marks .exit) ≡ backMarks mode (now (text .entry)) length (now (image .entry)) (now (marks .entry)) ⌝ }
 {
     if Image::LIMIT < length {
         return Restored::LongImage(length);
@@ -108,7 +115,7 @@ pub fn read_back(text: &[u8], length: usize, image: &mut [u8], marks: &mut [u8])
     }
     let mut cells = no_cells();
     let mut seen = no_marks();
-    let r = read_lines(text, &mut cells[..length], &mut seen[..length]);
+    let r = read_lines(mode, text, &mut cells[..length], &mut seen[..length]);
     let Restored::Written(_) = r else {
         return r;
     };

@@ -1,12 +1,12 @@
 // A line over what the lines before it gave, in two arrays of the image's length: for each position its byte and one more, 0 where nothing
 // is listed; and the marks.
 ghost use mathlib.Core.Path.{_≡_};
-ghost use mathlib.Core.Bool.{true};
 ghost use mathlib.Core.List.{map};
 ghost use Prim.Native.Nat.{suc};
 ghost use lib.Seq.{sets};
 ghost use Rattle.text.specs.Bytes.{bytesOf};
-ghost use Rattle.read_back.specs.Line.{positionOn, isLine, recordOf};
+ghost use Rattle.read_back.specs.Line.{positionOn, recordOf};
+ghost use Rattle.read_back.specs.Offsets.{Spaced};
 ghost use Rattle.read_back.specs.Sheet.{fits, listedOn, agree, reach, markedBy};
 use crate::line;
 use crate::place::Record;
@@ -59,7 +59,7 @@ fn put(digits: &[u8], cells: &mut [u16], p: usize)
 
 // Whether the line contradicts no earlier one.
 pub fn agrees(line: &[u8], r: Record, cells: &[u16]) -> bool
-    requires { ⌜ (isLine (now line) ≡ true) × (r ≡ recordOf (now line)) ⌝ }
+    requires { ⌜ Spaced (now line) × (r ≡ recordOf (now line)) ⌝ }
     ensures { λ b. ⌜ b ≡ agree (now (cells .entry)) (positionOn (now (line .entry))) (listedOn (now (line .entry))) ⌝ }
 {
     if !line::has_bytes(r.letter) {
@@ -70,7 +70,7 @@ pub fn agrees(line: &[u8], r: Record, cells: &[u16]) -> bool
 
 // Whether the line's bytes reach past n.
 pub fn reaches(line: &[u8], r: Record, n: usize) -> bool
-    requires { ⌜ (isLine (now line) ≡ true) × (r ≡ recordOf (now line)) ⌝ }
+    requires { ⌜ Spaced (now line) × (r ≡ recordOf (now line)) ⌝ }
     ensures { λ b. ⌜ b ≡ reach n (positionOn (now (line .entry))) (listedOn (now (line .entry))) ⌝ }
 {
     if !line::has_bytes(r.letter) {
@@ -97,7 +97,7 @@ pub fn mark(r: Record, marks: &mut [u8])
 
 // Lists a line's bytes.
 pub fn list(line: &[u8], r: Record, cells: &mut [u16])
-    requires { ⌜ (isLine (now line) ≡ true) × (r ≡ recordOf (now line)) ⌝ }
+    requires { ⌜ Spaced (now line) × (r ≡ recordOf (now line)) ⌝ }
     ensures { λ _. ⌜ now (cells .exit) ≡ sets (now (cells .entry)) (positionOn (now (line .entry))) (map suc (listedOn (now (line .entry)))) ⌝ }
 {
     if line::has_bytes(r.letter) {

@@ -1,11 +1,11 @@
 // One line, without its byte 10.
 ghost use mathlib.Core.Path.{_≡_};
-ghost use mathlib.Core.Bool.{true};
 ghost use Prim.Native.Nat.{_≤_};
 ghost use lib.ListN.{length};
 ghost use Rattle.read_back.specs.Line.{hasBytes, same, isCode, isLine, recordOf};
-ghost use Rattle.read_back.specs.Offsets.{arePlaces, isFoundRest, isDataRest, positionAt, digitsAt, bytesAt};
+ghost use Rattle.read_back.specs.Offsets.{arePlaces, isFoundRest, isDataRest, positionAt, digitsAt, bytesAt, Spaced};
 use crate::place::Record;
+use instruction::Mode;
 use text::bytes;
 use text::cut;
 use text::four;
@@ -96,9 +96,9 @@ fn same(a: &[u8], b: &[u8]) -> bool
 }
 
 // `I`: the line is written again, from its bytes and its position, and compared.
-fn is_code(line: &[u8]) -> bool
+fn is_code(mode: Mode, line: &[u8]) -> bool
     requires { ⌜ 6 ≤ length (now line) ⌝ }
-    ensures { λ r. ⌜ r ≡ isCode (positionAt (now (line .entry))) (bytesAt (now (line .entry))) (now (line .entry)) ⌝ }
+    ensures { λ r. ⌜ r ≡ isCode mode (positionAt (now (line .entry))) (bytesAt (now (line .entry))) (now (line .entry)) ⌝ }
 {
     let n = line.len();
     if WIDEST < n {
@@ -108,7 +108,12 @@ fn is_code(line: &[u8]) -> bool
     let mut code = [0u8; 16];
     bytes::put(d, &mut code, 0);
     let mut room = [0u8; 32];
-    let k = listing::code_line(four::four_of(&line[2..]), &code[..d.len() / 2], &mut room);
+    let k = listing::code_line(
+        mode,
+        four::four_of(&line[2..]),
+        &code[..d.len() / 2],
+        &mut room,
+    );
     if k != n + 1 {
         return false;
     }
@@ -118,8 +123,8 @@ fn is_code(line: &[u8]) -> bool
     same(line, &room[..n])
 }
 
-pub fn is_line(line: &[u8]) -> bool
-    ensures { λ r. ⌜ r ≡ isLine (now (line .entry)) ⌝ }
+pub fn is_line(mode: Mode, line: &[u8]) -> bool
+    ensures { λ r. ⌜ r ≡ isLine mode (now (line .entry)) ⌝ }
 {
     if line.len() < START {
         return false;
@@ -134,7 +139,7 @@ pub fn is_line(line: &[u8]) -> bool
         b'L' => line.len() == START,
         b'O' => is_found(&line[START..]),
         b'A' => is_found(&line[START..]),
-        b'I' => is_code(line),
+        b'I' => is_code(mode, line),
         b'D' => is_data(&line[START..]),
         _ => false,
     }
@@ -142,7 +147,7 @@ pub fn is_line(line: &[u8]) -> bool
 
 // What a line says.
 pub fn record(line: &[u8]) -> Record
-    requires { ⌜ isLine (now line) ≡ true ⌝ }
+    requires { ⌜ Spaced (now line) ⌝ }
     ensures { λ r. ⌜ r ≡ recordOf (now (line .entry)) ⌝ }
 {
     let letter = line[0];

@@ -5,6 +5,7 @@ use crate::line;
 use crate::order;
 use crate::place::Place;
 use crate::place::Record;
+use instruction::Mode;
 use text::cut;
 
 pub enum Read {
@@ -17,8 +18,8 @@ pub enum Read {
 }
 
 // The line that begins at a place, whoever made the place.
-pub fn read_line(text: &[u8], place: Place) -> Read
-    ensures { λ r. ⌜ readOf r ≡ readAnswer (now (text .entry)) place ⌝ }
+pub fn read_line(mode: Mode, text: &[u8], place: Place) -> Read
+    ensures { λ r. ⌜ readOf r ≡ readAnswer mode (now (text .entry)) place ⌝ }
 {
     if text.len() <= place.at {
         return Read::End;
@@ -26,7 +27,7 @@ pub fn read_line(text: &[u8], place: Place) -> Read
     let at = place.at;
     let e = cut::end(text, at, cut::LINE_END);
     let l = &text[at..e];
-    if !line::is_line(l) {
+    if !line::is_line(mode, l) {
         return Read::Malformed(place.line);
     }
     let record = line::record(l);

@@ -8,6 +8,7 @@ use crate::laying;
 use crate::place::Place;
 use crate::read;
 use crate::read::Read;
+use instruction::Mode;
 
 pub enum Turn {
     // The place of the next line.
@@ -17,13 +18,13 @@ pub enum Turn {
 }
 
 // Reads the line at a place and notes what it lists, if it is good.
-pub fn read_on(text: &[u8], place: Place, cells: &mut [u16], marks: &mut [u8]) -> Turn
+pub fn read_on(mode: Mode, text: &[u8], place: Place, cells: &mut [u16], marks: &mut [u8]) -> Turn
     requires { ⌜ place .at < length (now text) ⌝ }
-    ensures { λ r. ⌜ turnedOf place r ≡ turnAnswer place (now (cells .entry)) (upTo 10 (drop (place .at) (now (text .entry)))) ⌝ }
-    ensures { λ _. ⌜ now (cells .exit) ≡ turnCells place (now (cells .entry)) (upTo 10 (drop (place .at) (now (text .entry)))) ⌝ }
-    ensures { λ _. ⌜ now (marks .exit) ≡ turnMarks place (now (cells .entry)) (upTo 10 (drop (place .at) (now (text .entry)))) (now (marks .entry)) ⌝ }
+    ensures { λ r. ⌜ turnedOf place r ≡ turnAnswer mode place (now (cells .entry)) (upTo 10 (drop (place .at) (now (text .entry)))) ⌝ }
+    ensures { λ _. ⌜ now (cells .exit) ≡ turnCells mode place (now (cells .entry)) (upTo 10 (drop (place .at) (now (text .entry)))) ⌝ }
+    ensures { λ _. ⌜ now (marks .exit) ≡ turnMarks mode place (now (cells .entry)) (upTo 10 (drop (place .at) (now (text .entry)))) (now (marks .entry)) ⌝ }
 {
-    let Read::Line(r, next) = read::read_line(text, place) else {
+    let Read::Line(r, next) = read::read_line(mode, text, place) else {
         return Turn::Malformed;
     };
     let at = place.at;

@@ -7,6 +7,7 @@ use Prim.Native.Nat.{ℕ, _≤_}
 use native.Mathlib.Omega.{arith}
 use lib.ListN.{length, drop-of-length-le, length-replicate}
 use Rattle.instruction.specs.Bytes.{Bytes}
+use Rattle.instruction.specs.declared.mode.Mode.the-variants.{Unwrapped}
 use Rattle.instruction.specs.Answer.{judge}
 use Rattle.text.specs.Cut.{lines}
 use Rattle.list_text.specs.ClaimsInput.{Valid}
@@ -45,17 +46,17 @@ pub unlisted-again : UnlistedAgain
 unfolding unlistedOf
 unlisted-again e text n k E h a =
     let room = emptyRoom n in
-    let image = backImage text n room room in
+    let image = backImage Unwrapped text n room room in
     let p : imageText image ≡ unlistedOf text n = sym (ap (printed image) a) in
     let long : length room ≡ n = length-replicate n 0 in
     subst (λ (t : List ℕ). Says (e ++ 10 ∷ t) (entriesIn e) image) p
-    (read-again e image E (back-bytes text n room room (zeros-small n)) (omega (arith, long, back-length text n room room (omega (arith, long)))))
+    (read-again e image E (back-bytes Unwrapped text n room room (zeros-small n)) (omega (arith, long, back-length Unwrapped text n room room (omega (arith, long)))))
 
 pub listed-unlisted : ListedUnlisted
 unfolding unlistedOf
 listed-unlisted image m choice B h k U =
     let room = emptyRoom (length image) in
     let long : length room ≡ length image = length-replicate (length image) 0 in
-    let r = listing-restores image m choice room room B h k U (omega (arith, long)) (omega (arith, long)) in
-    ap (printed (backImage (listingOf image m choice) (length image) room room)) (r .answer)
+    let r = listing-restores Unwrapped image m choice room room B h k U (omega (arith, long)) (omega (arith, long)) in
+    ap (printed (backImage Unwrapped (listingOf Unwrapped image m choice) (length image) room room)) (r .answer)
     ∙ ap imageText (r .bytes ∙ ap (λ (l : List ℕ). image ++ l) (drop-of-length-le room {i = length image} (omega (arith, long))) ∙ append-nil image)

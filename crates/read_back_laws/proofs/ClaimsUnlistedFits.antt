@@ -20,6 +20,8 @@ use Rattle.read_back.specs.declared.place.Place.{Place}
 use Rattle.read_back.proofs.BackLengths.{back-length}
 use Rattle.read_back.proofs.Counting.{lines-few, after-most, accepted-short}
 use Rattle.instruction.proofs.Carried.{Each, carries}
+use Rattle.instruction.specs.declared.mode.Mode.{Mode}
+use Rattle.instruction.specs.declared.mode.Mode.the-variants.{Unwrapped}
 use Rattle.list_text.specs.Decimal.{width}
 use Rattle.unlist_text.specs.Unlisted.{valueOf, emptyRoom, printed, unlistedOf}
 use Rattle.unlist_text.proofs.Lines.{image-length}
@@ -49,33 +51,33 @@ after-line place n line = after-most (place .line)
 abbrev Word : ℕ → List ℤ → Type 0
 Word r vs = (r < 2 ^ 64) × (valueOf vs < 2 ^ 64)
 
-lines-each : (n : ℕ) (place : Place) (sheet : Sheet) (ls : List (List ℕ)) → place .line + length ls ≤ 2 ^ 63 → Each Word (lineRefusals n place sheet ls)
+lines-each : (mode : Mode) (n : ℕ) (place : Place) (sheet : Sheet) (ls : List (List ℕ)) → place .line + length ls ≤ 2 ^ 63 → Each Word (lineRefusals mode n place sheet ls)
 unfolding lineRefusals
-lines-each n place sheet [] h = tt
-lines-each n place sheet (l ∷ ls) h =
-    ((omega arith, omega arith), ((omega arith, omega arith), lines-each n (placeAfter place (length l) (recordOf l)) (sheetWith sheet l) ls (omega (arith, h, after-line place (length l) l))))
+lines-each mode n place sheet [] h = tt
+lines-each mode n place sheet (l ∷ ls) h =
+    ((omega arith, omega arith), ((omega arith, omega arith), lines-each mode n (placeAfter place (length l) (recordOf l)) (sheetWith sheet l) ls (omega (arith, h, after-line place (length l) l))))
 
-module _ (text : List ℕ) (n : ℕ) (t : length text < 2 ^ 63) (h : n < 2 ^ 63) where
+module _ (mode : Mode) (text : List ℕ) (n : ℕ) (t : length text < 2 ^ 63) (h : n < 2 ^ 63) where
   abbrev room : List ℕ
   room = emptyRoom n
 
   long : length room ≡ n
   long = length-replicate n 0
 
-  each : Each Word (refuse (ltb 65536 n) 1 (pos n ∷ []) ∷ refuse (ltb (length room) n) 2 (pos (length room) ∷ []) ∷ refuse (ltb (length room) n) 11 (pos n ∷ []) ∷ lineRefusals n start (emptySheet n) (lines text))
+  each : Each Word (refuse (ltb 65536 n) 1 (pos n ∷ []) ∷ refuse (ltb (length room) n) 2 (pos (length room) ∷ []) ∷ refuse (ltb (length room) n) 11 (pos n ∷ []) ∷ lineRefusals mode n start (emptySheet n) (lines text))
   each =
       let z = long in
-      ((omega arith, omega arith), ((omega arith, omega (arith, z)), ((omega arith, omega arith), lines-each n start (emptySheet n) (lines text) (omega (arith, t, lines-few text)))))
+      ((omega arith, omega arith), ((omega arith, omega (arith, z)), ((omega arith, omega arith), lines-each mode n start (emptySheet n) (lines text) (omega (arith, t, lines-few text)))))
 
-  fits : (a : Answer ℕ) → backAnswer text n room room ≡ a → length (printed (backImage text n room room) a) ≤ 133120
+  fits : (a : Answer ℕ) → backAnswer mode text n room room ≡ a → length (printed (backImage mode text n room room) a) ≤ 133120
   unfolding backAnswer
   fits (accepted k) e =
-      let image = backImage text n room room in
-      omega (arith, image-length image, back-length text n room room (omega (arith, long)), long, accepted-short text n room room k e)
+      let image = backImage mode text n room room in
+      omega (arith, image-length image, back-length mode text n room room (omega (arith, long)), long, accepted-short mode text n room room k e)
   fits (refused r vs) e =
       let g = carries Word _ _ r vs each (sym e) in
       omega (arith, value-length r (valueOf vs) (width r r) (width (valueOf vs) (valueOf vs)) refl refl, width-below 19 r r (omega (arith, g .0)), width-below 19 (valueOf vs) (valueOf vs) (omega (arith, g .1)))
 
 pub unlisted-fits : UnlistedFits
 unfolding unlistedOf
-unlisted-fits text n t h = let room = emptyRoom n in fits text n t h (backAnswer text n room room) refl
+unlisted-fits text n t h = let room = emptyRoom n in fits Unwrapped text n t h (backAnswer Unwrapped text n room room) refl

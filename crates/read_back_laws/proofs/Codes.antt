@@ -17,6 +17,7 @@ use Rattle.instruction.specs.Mnemonic.{mnemonicOf}
 use Rattle.instruction.specs.Parts.{partsOf}
 use Rattle.instruction.specs.declared.instr.Instr.{Instr}
 use Rattle.instruction.proofs.Decoding.{found}
+use Rattle.instruction.specs.declared.mode.Mode.{Mode}
 use Rattle.targets.specs.At.{formHere, sizeHere, fitsHere, instrHere}
 use Rattle.targets.specs.Here.{hereOf}
 use Rattle.targets.specs.declared.here.Here.the-variants.{Whole}
@@ -44,7 +45,7 @@ fields-own k s = rw (own 0, own 1, own 2)
 abbrev pub bytesAt : List ℕ → ℕ → List ℕ
 bytesAt image p = take (sizeHere image p) (drop p image)
 
-module _ (image : List ℕ) (B : Bytes image) (p : ℕ) (h : p < length image) (f : fitsHere image p ≡ true) where
+module _ (mode : Mode) (image : List ℕ) (B : Bytes image) (p : ℕ) (h : p < length image) (f : fitsHere image p ≡ true) where
   abbrev instr : Instr
   instr = instrHere image p
 
@@ -69,18 +70,18 @@ module _ (image : List ℕ) (B : Bytes image) (p : ℕ) (h : p < length image) (
 
   -- the line with these for its bytes
   abbrev textWith : List ℕ → List ℕ
-  textWith bs = line (code "I") (hex4 p ∷ hexes bs ∷ mnemonicOf (partsOf instr .form) ∷ operands p instr)
+  textWith bs = line (code "I") (hex4 p ∷ hexes bs ∷ mnemonicOf (partsOf instr .form) ∷ operands mode p instr)
 
-  pub code-own : length image ≤ 65536 → textWith bytes ≡ codeLine p bytes
+  pub code-own : length image ≤ 65536 → textWith bytes ≡ codeLine mode p bytes
   unfolding instrText
   code-own small =
       ap textWith (sym (rw (there .size) (take-take (sizeHere image p) (sizeHere image p) (drop p image) (omega arith))))
-      ∙ code-here p bytes instr whole-own (omega (arith, there .size, there .most))
+      ∙ code-here mode p bytes instr whole-own (omega (arith, there .size, there .most))
 
-  pub code-text : hereLine image p (hereOf image p) ≡ textWith bytes
+  pub code-text : hereLine mode image p (hereOf image p) ≡ textWith bytes
   unfolding instrText
   code-text =
-      ap (hereLine image p) (sym (whole-here image p h instr (sym (answer image p h true f))))
+      ap (hereLine mode image p) (sym (whole-here image p h instr (sym (answer image p h true f))))
       ∙ ap (λ (k : ℕ). textWith (take k (drop p image))) (there .size)
 
   pub code-form : partsOf instr .form < 70

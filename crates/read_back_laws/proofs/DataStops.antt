@@ -13,6 +13,7 @@ use Rattle.instruction.specs.Bytes.{Bytes}
 use Rattle.instruction.proofs.Sign.{never}
 use Rattle.text.specs.Cut.{lines}
 use Rattle.instruction.proofs.Ands.{first-part, second-part}
+use Rattle.instruction.specs.declared.mode.Mode.{Mode}
 use Rattle.reach.specs.Mark.{tracedMark}
 use Rattle.views.specs.Positions.{tracedAt}
 use Rattle.views.proofs.TracedAt.{by-mark}
@@ -51,14 +52,14 @@ zeros-right image cells S (b ∷ bs) p P z q h k = by (eqb q p) refl (zeros-righ
         cell-zero (S .each q) (ap (λ (j : ℕ). getD image j 0) d ∙ sym (P .0) ∙ y)
     by false f rest = let d : q ≡ p → ⊥ = eqb-false q p f in rest (omega arith) (omega arith)
 
-module _ (image m : List ℕ) (B : Bytes image) (small : length image ≤ 65536) (long : length image ≤ length m) where
+module _ (mode : Mode) (image m : List ℕ) (B : Bytes image) (small : length image ≤ 65536) (long : length image ≤ length m) where
   module _ (p : ℕ) (h : p < length image) (u : tracedMark (getD m p 0) ≡ false) (place : Place) (sheet : Sheet) (rest : List ℕ) (S : Stand image m p 0 sheet) (O : OpenAt p 0 place) where
     untraced : tracedAt image m p ≡ false
     untraced = sym (by-mark image m p h) ∙ u
 
     -- from here on, with s positions passed over
     abbrev On : ℕ → Type 0
-    On s = (after : Place) (next : Sheet) → OpenAt (suc p) 0 after → Stand image m (suc p) s next → Given image m after next rest
+    On s = (after : Place) (next : Sheet) → OpenAt (suc p) 0 after → Stand image m (suc p) s next → Given mode image m after next rest
 
     -- bytes from p on are right, stored or not
     on : (s k : ℕ) (next : Sheet) → Lays image (sheet .cells) (next .cells) p k → next .marks ≡ sheet .marks → s < k
@@ -66,14 +67,14 @@ module _ (image m : List ℕ) (B : Bytes image) (small : length image ≤ 65536)
     on s k next L e j f =
         stand-next image m p s k sheet next S L j (λ t. absurd (never (sym t ∙ untraced))) (e ∙ S .tells ∙ told-untouched (length image) m long p h u) f
 
-    pub nothing-stop : eqb (getD (maskOf image m) p 0) 0 ≡ false → On 0 → Given image m place sheet rest
+    pub nothing-stop : eqb (getD (maskOf image m) p 0) 0 ≡ false → On 0 → Given mode image m place sheet rest
     nothing-stop e go =
         let C = covered image m p h e untraced in
         let r : Right image (sheet .cells) p = S .under (C .at) p (C .is-traced) (C .less) (omega (arith, C .less)) (C .ends) in
         go place sheet (open-past (omega arith) O)
         (on 0 1 sheet (record { sound = S .sound; keeps = λ q r. r; fills = λ q i j. let d : q ≡ p = omega arith in rw d r }) refl (omega arith) (λ i j. absurd (omega arith)))
 
-    pub data-stop : eqb (getD (maskOf image m) p 0) 0 ≡ true → On (length (dataRun image (maskOf image m) p) - 1) → Given image m place sheet (dataLine p (dataRun image (maskOf image m) p) ++ rest)
+    pub data-stop : eqb (getD (maskOf image m) p 0) 0 ≡ true → On (length (dataRun image (maskOf image m) p) - 1) → Given mode image m place sheet (dataLine p (dataRun image (maskOf image m) p) ++ rest)
     unfolding dataLine
     data-stop e go = by (allZero run) refl
       where
@@ -89,13 +90,13 @@ module _ (image m : List ℕ) (B : Bytes image) (small : length image ≤ 65536)
             on (length run - 1) (length run) next L f (omega (arith, R .least))
             (λ i j. ap (tracedAt image m) (let d : suc p + i ≡ p + suc i = omega arith in d) ∙ R .free (suc i) (omega arith))
 
-        by : (z : Bool) → allZero run ≡ z → Given image m place sheet (cond z [] (line (code "D") (hex4 p ∷ hexes run ∷ [])) ++ rest)
+        by : (z : Bool) → allZero run ≡ z → Given mode image m place sheet (cond z [] (line (code "D") (hex4 p ∷ hexes run ∷ [])) ++ rest)
         by true z =
             go place sheet (open-past (omega arith) O)
             (stands sheet (record { sound = S .sound; keeps = λ q r. r; fills = zeros-right image (sheet .cells) (S .sound) run p (R .from) z }) refl)
         by false z =
             rw (cuts-line rest (code "D") (hex4 p ∷ hexes run ∷ []) refl (rw (four-above p, bytes-above run)))
-            (read-line image _ place sheet (body (code "D") p (hexes run ∷ [])) (lines rest) (code "D") p 0 run
-            (said-data p run (omega arith) (part-small image B run p (R .from)) (R .least) (R .most)) O
+            (read-line mode image _ place sheet (body (code "D") p (hexes run ∷ [])) (lines rest) (code "D") p 0 run
+            (said-data mode p run (omega arith) (part-small image B run p (R .from)) (R .least) (R .most)) O
             (lit≤ tt) (λ i. absurd (omega arith)) (part-agrees image run p (sheet .cells) (S .sound) (R .from)) (part-inside image run p (R .inside))
             (λ after O. go after (wrote sheet (code "D") p run) (open-past (omega arith) O) (stands (wrote sheet (code "D") p run) (lays image run p (sheet .cells) (S .sound) (R .from) (R .inside)) refl)))

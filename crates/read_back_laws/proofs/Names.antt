@@ -14,6 +14,7 @@ use Rattle.instruction.specs.Forms.{forms}
 use Rattle.instruction.specs.Mnemonic.{lettersOf, mnemonicOf}
 use Rattle.instruction.specs.declared.instr.Instr.{Instr}
 use Rattle.instruction.proofs.Shapes.{at-each}
+use Rattle.instruction.specs.declared.mode.Mode.{Mode}
 use Rattle.listing.specs.Hex.{hex2, hex3, hex4}
 use Rattle.listing.specs.Operand.{target, shown, shownAll, operandsBy, operands}
 use Rattle.read_back_laws.proofs.Digits.{digit-above}
@@ -49,6 +50,6 @@ all-above t [] ns = refl
 all-above t (k ∷ ks) [] = refl
 all-above t (k ∷ ks) (n ∷ ns) = rw (shown-above t k n) (all-above t ks ns)
 
-pub operands-above : (p : ℕ) (i : Instr) → allAbove (operands p i) ≡ true
+pub operands-above : (mode : Mode) (p : ℕ) (i : Instr) → allAbove (operands mode p i) ≡ true
 unfolding operandsBy
-operands-above p i = all-above _ (kindsOf (formIn i .shape)) _
+operands-above mode p i = all-above _ (kindsOf (formIn i .shape)) _

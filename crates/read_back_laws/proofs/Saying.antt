@@ -9,6 +9,7 @@ use native.Mathlib.Omega.{arith}
 use lib.Dec.{eqb}
 use lib.ListN.{length, getD, drop}
 use borrow.Author.Tests.{eq-eqb}
+use Rattle.instruction.specs.declared.mode.Mode.{Mode}
 use Rattle.text.specs.Bytes.{bytesOf}
 use Rattle.text.specs.Cut.{fields}
 use Rattle.text.specs.Four.{isFour, allFour, fourOf}
@@ -29,7 +30,7 @@ abbrev pub body : ℕ → ℕ → List (List ℕ) → List ℕ
 body c p fs = c ∷ tabbed (hex4 p ∷ fs)
 
 -- read by its fields
-module _ (c p : ℕ) (fs : List (List ℕ)) (small : p < 65536) (n : eqb c 9 ≡ false) (a : allAbove fs ≡ true) where
+module _ (mode : Mode) (c p : ℕ) (fs : List (List ℕ)) (small : p < 65536) (n : eqb c 9 ≡ false) (a : allAbove fs ≡ true) where
   cuts : fields (body c p fs) ≡ (c ∷ []) ∷ hex4 p ∷ fs
   cuts = fields-are c [] (hex4 p ∷ fs) (n, tt) (no-tabs (hex4 p ∷ fs) (rw (four-above p) a))
 
@@ -43,13 +44,13 @@ module _ (c p : ℕ) (fs : List (List ℕ)) (small : p < 65536) (n : eqb c 9 ≡
   unfolding isStart isFour hex4 hex3 hex2
   starts = ap (λ (gs : List (List ℕ)). eqb (length (getD gs 0 [])) 1 && isFour (getD gs 1 [])) cuts ∙ four-hex p
 
-  said : (bs : List ℕ) → byLetter c (body c p fs) ≡ true → listedOn (body c p fs) ≡ bs → LineSays c p bs (body c p fs)
+  said : (bs : List ℕ) → byLetter mode c (body c p fs) ≡ true → listedOn (body c p fs) ≡ bs → LineSays mode c p bs (body c p fs)
   unfolding isLine
   said bs e f = record { fits = rw starts e; letter = refl; position = position; lists = f }
 
 -- `L`
-pub said-label : (p : ℕ) → p < 65536 → LineSays (code "L") p [] (body (code "L") p [])
-said-label p h = said (code "L") p [] h refl refl [] (ap isLabel (further (code "L") p [] h refl refl)) refl
+pub said-label : (mode : Mode) (p : ℕ) → p < 65536 → LineSays mode (code "L") p [] (body (code "L") p [])
+said-label mode p h = said mode (code "L") p [] h refl refl [] (ap isLabel (further mode (code "L") p [] h refl refl)) refl
 
 -- `O` and `A`
 fours : (qs : List ℕ) → allFour (map hex4 qs) ≡ true
@@ -57,27 +58,27 @@ unfolding allFour isFour hex4 hex3 hex2
 fours [] = refl
 fours (q ∷ qs) = rw (four-hex q) (fours qs)
 
-module _ (p q : ℕ) (qs : List ℕ) (h : p < 65536) where
+module _ (mode : Mode) (p q : ℕ) (qs : List ℕ) (h : p < 65536) where
   abbrev found : List (List ℕ)
   found = map hex4 (q ∷ qs)
 
-  pub said-overlaps : LineSays (code "O") p [] (body (code "O") p found)
-  said-overlaps = said (code "O") p found h refl (fours-above (q ∷ qs)) [] (ap isFound (further (code "O") p found h refl (fours-above (q ∷ qs))) ∙ fours (q ∷ qs)) refl
+  pub said-overlaps : LineSays mode (code "O") p [] (body (code "O") p found)
+  said-overlaps = said mode (code "O") p found h refl (fours-above (q ∷ qs)) [] (ap isFound (further mode (code "O") p found h refl (fours-above (q ∷ qs))) ∙ fours (q ∷ qs)) refl
 
-  pub said-arrivals : LineSays (code "A") p [] (body (code "A") p found)
-  said-arrivals = said (code "A") p found h refl (fours-above (q ∷ qs)) [] (ap isFound (further (code "A") p found h refl (fours-above (q ∷ qs))) ∙ fours (q ∷ qs)) refl
+  pub said-arrivals : LineSays mode (code "A") p [] (body (code "A") p found)
+  said-arrivals = said mode (code "A") p found h refl (fours-above (q ∷ qs)) [] (ap isFound (further mode (code "A") p found h refl (fours-above (q ∷ qs))) ∙ fours (q ∷ qs)) refl
 
 -- the bytes of `I` and `D`
-bytes-on : (c p : ℕ) (bs : List ℕ) (fs : List (List ℕ)) → p < 65536 → eqb c 9 ≡ false → allAbove (hexes bs ∷ fs) ≡ true → Small bs → bytesOn (body c p (hexes bs ∷ fs)) ≡ bs
-bytes-on c p bs fs h n a s = ap (λ (gs : List (List ℕ)). bytesOf (getD gs 2 [])) (cuts c p (hexes bs ∷ fs) h n a) ∙ bytes-back bs s
+bytes-on : Mode → (c p : ℕ) (bs : List ℕ) (fs : List (List ℕ)) → p < 65536 → eqb c 9 ≡ false → allAbove (hexes bs ∷ fs) ≡ true → Small bs → bytesOn (body c p (hexes bs ∷ fs)) ≡ bs
+bytes-on mode c p bs fs h n a s = ap (λ (gs : List (List ℕ)). bytesOf (getD gs 2 [])) (cuts mode c p (hexes bs ∷ fs) h n a) ∙ bytes-back bs s
 
 -- `D`
-pub said-data : (p : ℕ) (bs : List ℕ) → p < 65536 → Small bs → 1 ≤ length bs → length bs ≤ 16 → LineSays (code "D") p bs (body (code "D") p (hexes bs ∷ []))
-said-data p bs h s least most =
+pub said-data : (mode : Mode) (p : ℕ) (bs : List ℕ) → p < 65536 → Small bs → 1 ≤ length bs → length bs ≤ 16 → LineSays mode (code "D") p bs (body (code "D") p (hexes bs ∷ []))
+said-data mode p bs h s least most =
     let a : allAbove (hexes bs ∷ []) ≡ true = rw (bytes-above bs) in
-    said (code "D") p (hexes bs ∷ []) h refl a bs
-    (ap isData (further (code "D") p (hexes bs ∷ []) h refl a) ∙ sym (few 16 (hexes bs) (length bs) (omega (arith, hexes-length bs)) (omega (arith, hexes-length bs)) (λ e. omega arith) most) ∙ bytes-hex bs)
-    (bytes-on (code "D") p bs [] h refl a s)
+    said mode (code "D") p (hexes bs ∷ []) h refl a bs
+    (ap isData (further mode (code "D") p (hexes bs ∷ []) h refl a) ∙ sym (few 16 (hexes bs) (length bs) (omega (arith, hexes-length bs)) (omega (arith, hexes-length bs)) (λ e. omega arith) most) ∙ bytes-hex bs)
+    (bytes-on mode (code "D") p bs [] h refl a s)
 
 -- `I`
 same-self : (l : List ℕ) → same l l ≡ true
@@ -90,12 +91,12 @@ unfolding fieldsText
 ended [] = refl
 ended (f ∷ fs) = ap (λ (t : List ℕ). 9 ∷ t) (append-assoc f (tabbed fs) (10 ∷ []) ∙ ap (λ (t : List ℕ). f ++ t) (ended fs))
 
-pub said-code : (p : ℕ) (bs name : List ℕ) (fs : List (List ℕ)) → p < 65536 → allAbove (hexes bs ∷ name ∷ fs) ≡ true → Small bs → line (code "I") (hex4 p ∷ hexes bs ∷ name ∷ fs) ≡ codeLine p bs
-    → LineSays (code "I") p bs (body (code "I") p (hexes bs ∷ name ∷ fs))
+pub said-code : (mode : Mode) (p : ℕ) (bs name : List ℕ) (fs : List (List ℕ)) → p < 65536 → allAbove (hexes bs ∷ name ∷ fs) ≡ true → Small bs → line (code "I") (hex4 p ∷ hexes bs ∷ name ∷ fs) ≡ codeLine mode p bs
+    → LineSays mode (code "I") p bs (body (code "I") p (hexes bs ∷ name ∷ fs))
 unfolding isCode
-said-code p bs name fs h a s e =
+said-code mode p bs name fs h a s e =
     let l : List ℕ = body (code "I") p (hexes bs ∷ name ∷ fs) in
-    let b : bytesOn l ≡ bs = bytes-on (code "I") p bs (name ∷ fs) h refl a s in
-    let q : positionOn l ≡ p = position (code "I") p (hexes bs ∷ name ∷ fs) h refl a in
-    said (code "I") p (hexes bs ∷ name ∷ fs) h refl a bs
+    let b : bytesOn l ≡ bs = bytes-on mode (code "I") p bs (name ∷ fs) h refl a s in
+    let q : positionOn l ≡ p = position mode (code "I") p (hexes bs ∷ name ∷ fs) h refl a in
+    said mode (code "I") p (hexes bs ∷ name ∷ fs) h refl a bs
     (rw (q, b, ← e, ended (hex4 p ∷ hexes bs ∷ name ∷ fs)) (same-self (line (code "I") (hex4 p ∷ hexes bs ∷ name ∷ fs)))) b

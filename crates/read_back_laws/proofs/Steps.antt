@@ -12,6 +12,7 @@ use lib.Seq.{sets}
 use Rattle.instruction.specs.Answer.{accepted, judge}
 use Rattle.instruction.proofs.Judging.{pass}
 use Rattle.instruction.proofs.Ands.{both}
+use Rattle.instruction.specs.declared.mode.Mode.{Mode}
 use Rattle.reach.specs.Mark.{traced}
 use Rattle.read_back.specs.Back.{isFit, lineRefusals, sheetAfter}
 use Rattle.read_back.specs.Line.{letterOn, positionOn, isLine, recordOf}
@@ -21,8 +22,8 @@ use Rattle.read_back.specs.declared.place.Place.{Place}
 use Rattle.read_back_laws.proofs.Places.{Open, later, open-follows}
 
 -- a line of the letter c at p that lists these bytes
-pub record LineSays (c p : ℕ) (bs l : List ℕ) : Type 0 where
-  pub fits : isLine l ≡ true
+pub record LineSays (mode : Mode) (c p : ℕ) (bs l : List ℕ) : Type 0 where
+  pub fits : isLine mode l ≡ true
   pub letter : letterOn l ≡ c
   pub position : positionOn l ≡ p
   pub lists : listedOn l ≡ bs
@@ -39,21 +40,21 @@ abbrev pub OpenAt : ℕ → ℕ → Place → Type 0
 OpenAt p r place = Open p r (place .last) (rankOf (place .letter))
 
 -- the lines from a place on are accepted, and leave these bytes and marks
-pub record Restores (image marks : List ℕ) (place : Place) (sheet : Sheet) (ls : List (List ℕ)) : Type 0 where
-  pub accepts : (k : ℕ) → judge (lineRefusals (length image) place sheet ls) k ≡ accepted k
+pub record Restores (mode : Mode) (image marks : List ℕ) (place : Place) (sheet : Sheet) (ls : List (List ℕ)) : Type 0 where
+  pub accepts : (k : ℕ) → judge (lineRefusals mode (length image) place sheet ls) k ≡ accepted k
   pub bytes : imageOn (sheetAfter sheet ls) ≡ image
   pub tells : sheetAfter sheet ls .marks ≡ marks
 
-module _ (image marks : List ℕ) where
+module _ (mode : Mode) (image marks : List ℕ) where
   -- nothing is left to read
-  pub read-end : (place : Place) (sheet : Sheet) → imageOn sheet ≡ image → sheet .marks ≡ marks → Restores image marks place sheet []
+  pub read-end : (place : Place) (sheet : Sheet) → imageOn sheet ≡ image → sheet .marks ≡ marks → Restores mode image marks place sheet []
   unfolding lineRefusals sheetAfter judge
   read-end place sheet e f = record { accepts = λ k. refl; bytes = e; tells = f }
 
   -- one more line
   module _ (place : Place) (sheet : Sheet) (l : List ℕ) (ls : List (List ℕ)) where
-    goes-on : isFit place sheet l ≡ true → reach (length image) (positionOn l) (listedOn l) ≡ false
-        → Restores image marks (placeAfter place (length l) (recordOf l)) (sheetWith sheet l) ls → Restores image marks place sheet (l ∷ ls)
+    goes-on : isFit mode place sheet l ≡ true → reach (length image) (positionOn l) (listedOn l) ≡ false
+        → Restores mode image marks (placeAfter place (length l) (recordOf l)) (sheetWith sheet l) ls → Restores mode image marks place sheet (l ∷ ls)
     unfolding lineRefusals sheetAfter
     goes-on e f R = record {
       accepts = λ k. pass _ _ k (ap not e) ∙ pass _ _ k f ∙ R .accepts k;
@@ -61,7 +62,7 @@ module _ (image marks : List ℕ) where
       tells = R .tells;
     }
 
-    module _ (c p r : ℕ) (bs : List ℕ) (S : LineSays c p bs l) (O : OpenAt p r place) (h : r ≤ rankOf c) (k : 0 < r → rankOf c < 5) where
+    module _ (c p r : ℕ) (bs : List ℕ) (S : LineSays mode c p bs l) (O : OpenAt p r place) (h : r ≤ rankOf c) (k : 0 < r → rankOf c < 5) where
       in-order : follows place (recordOf l) ≡ true
       unfolding follows recordOf
       in-order = rw (S .letter, S .position) (open-follows (rankOf c) O h k)
@@ -76,7 +77,7 @@ module _ (image marks : List ℕ) where
       opens = later (S .position) (subst (λ (b : ℕ). b < suc (rankOf c)) (ap rankOf (sym (S .letter))) (le-refl (suc (rankOf c))))
 
       pub read-line : agree (sheet .cells) p bs ≡ true → reach (length image) p bs ≡ false
-          → ((after : Place) → OpenAt p (suc (rankOf c)) after → Restores image marks after (wrote sheet c p bs) ls) → Restores image marks place sheet (l ∷ ls)
+          → ((after : Place) → OpenAt p (suc (rankOf c)) after → Restores mode image marks after (wrote sheet c p bs) ls) → Restores mode image marks place sheet (l ∷ ls)
       read-line a f R =
           goes-on
           (both _ _ (both _ _ (S .fits) in-order) (rw (S .position, S .lists) a))

@@ -8,6 +8,7 @@ use mathlib.Core.Path.{_≡_}
 use lib.ListN.{length}
 use Rattle.instruction.specs.Bytes.{Bytes}
 use Rattle.instruction.specs.Answer.{accepted}
+use Rattle.instruction.specs.declared.mode.Mode.the-variants.{Unwrapped}
 use Rattle.list_text.specs.ClaimsInput.{Valid}
 use Rattle.list_text.specs.Entries.{isEntries, entriesIn}
 use Rattle.list_text.specs.Text.{entriesOf, imageOf}
@@ -28,14 +29,14 @@ ReadAgain = (e image : List ℕ) → isEntries e ≡ true → Bytes image → le
 -- so is what is printed of a listing that is accepted
 abbrev pub UnlistedAgain : Type 0
 UnlistedAgain =
-    (e text : List ℕ) (n k : ℕ) → isEntries e ≡ true → n ≤ 16384 → backAnswer text n (emptyRoom n) (emptyRoom n) ≡ accepted k
-    → Says (e ++ 10 ∷ unlistedOf text n) (entriesIn e) (backImage text n (emptyRoom n) (emptyRoom n))
+    (e text : List ℕ) (n k : ℕ) → isEntries e ≡ true → n ≤ 16384 → backAnswer Unwrapped text n (emptyRoom n) (emptyRoom n) ≡ accepted k
+    → Says (e ++ 10 ∷ unlistedOf text n) (entriesIn e) (backImage Unwrapped text n (emptyRoom n) (emptyRoom n))
 
 -- of a listing as the writer prints it, with or without arrivals, it is the image itself
 abbrev pub ListedUnlisted : Type 0
 ListedUnlisted =
     (image m : List ℕ) (choice : Arrivals) → Bytes image → length image ≤ 65536 → length image ≤ length m → Undamaged image m
-    → unlistedOf (listingOf image m choice) (length image) ≡ imageText image
+    → unlistedOf (listingOf Unwrapped image m choice) (length image) ≡ imageText image
 
 -- nothing is longer than the lines of 65,536 bytes: the room that the program has is never too short
 abbrev pub UnlistedFits : Type 0

@@ -1,11 +1,12 @@
 -- What the walks of this crate share.
 --     Row                                        the type of a `Reader`, over the lifetimes of a signature of one
---     text-stays, place-stays, reader-stays      a parameter is seen at exit as it was passed.        text-goes, place-goes, reader-goes      the law for it
---     place-vals, reader-vals                    the machine values of a `Place` and of a `Reader`.        place-tells, reader-tells      each is related to those alone
---     text-typed, place-typed, reader-typed      a machine value is of its MIR type.        answer-typed      so is that of a `Read`
+--     mode-stays, text-stays, place-stays, reader-stays      a parameter is seen at exit as it was passed.        mode-goes, text-goes, place-goes, reader-goes      the law for it
+--     mode-val                                   the machine value of a `Mode`: it has no field, and is its tag
+--     mode-vals, place-vals, reader-vals         the machine values of a `Mode`, of a `Place` and of a `Reader`.        mode-tells, place-tells, reader-tells      each is related to those alone
+--     mode-typed, text-typed, place-typed, reader-typed      a machine value is of its MIR type.        answer-typed      so is that of a `Read`
 --     text-twice, reader-twice                   what a `&[u8]` and a `Reader` own is had twice, for they are Copy
 --     place-is                                   whoever holds a `Reader` knows the facts of its place
---     place-makes                                what a `Place` owns is facts alone, and is made anew
+--     mode-makes, place-makes                    what a `Mode` and a `Place` own is facts alone, and is made anew
 -- The laws take `Given`, for the calculus alone.
 -- Assumes nothing.
 use mathlib.Core.Path.{refl}
@@ -30,6 +31,9 @@ use denote.Slice.{ShrSlice, shr-slice-lawful, shr-slice-copy}
 use denote.Enum.Laws as EL
 use denote.Struct.Laws as LL
 use denote.Triple.Walked.{Stay, stay-none, stay-none-slice, Goes, goes-none, goes-none-slice}
+use Rattle.instruction.specs.declared.mode.Mode.{Mode}
+use Rattle.instruction.proofs.mode.Mode as N
+use Rattle.instruction.proofs.mode.Mode.Laws as N′
 use Rattle.read_back.specs.declared.place.Place.{Place}
 use Rattle.read_back.specs.declared.read.Read.{Read}
 use Rattle.read_back.proofs.place.Place as P
@@ -43,6 +47,9 @@ use Rattle.reader.proofs.Reader.Laws as T′
 abbrev pub Row : Lfts 1 → RattleType
 Row κs = T.the-row (namedLft 1 0 tt κs)
 
+abbrev pub mode-stays : Stay {n = 1} (plain (λ _. N.the-row)) yes
+mode-stays = stay-none (λ _. N.the-row) yes
+
 abbrev pub text-stays : Stay {n = 1} (shrSliceOf (0 ∷ []) tt (plain (λ _. u8))) yes
 text-stays = stay-none-slice (0 ∷ []) tt (plain (λ _. u8)) yes
 
@@ -51,6 +58,15 @@ place-stays = stay-none (λ _. P.the-row) yes
 
 abbrev pub reader-stays : Stay {n = 1} (plain Row) yes
 reader-stays = stay-none Row yes
+
+abbrev pub mode-val : Mode → Val
+mode-val = EL.val N.the-type N′.the-laws
+
+abbrev pub mode-vals : Mode → List Val
+mode-vals = EL.vals N.the-type N′.the-laws
+
+pub mode-tells : Tells N.the-row (Is N.the-row) mode-vals
+mode-tells = EL.tells N.the-type N′.the-laws
 
 abbrev pub place-vals : Place → List Val
 place-vals = LL.vals P.the-type P′.the-laws
@@ -68,6 +84,9 @@ pub place-is : (κs : Lfts 1) (d : Reader) (vs : List Val) → Is (Row κs) d vs
 place-is κs d vs is = LL.owed (T.the-type (namedLft 1 0 tt κs)) (T′.the-laws (namedLft 1 0 tt κs)) d vs is .1 .0
 
 module _ {M : Type 1} (𝓤 : URA M) (H : Heap 𝓤) (A : Atoms 𝓤) (W : Given 𝓤 H A) where
+  pub mode-goes : Goes 𝓤 H A W 1 (plain (λ _. N.the-row)) yes mode-stays
+  mode-goes = goes-none 𝓤 H A W 1 (λ _. N.the-row) yes (λ κs x f. refl)
+
   pub text-goes : Goes 𝓤 H A W 1 (shrSliceOf (0 ∷ []) tt (plain (λ _. u8))) yes text-stays
   text-goes = goes-none-slice 𝓤 H A W 1 (0 ∷ []) tt (plain (λ _. u8)) yes
 
@@ -76,6 +95,9 @@ module _ {M : Type 1} (𝓤 : URA M) (H : Heap 𝓤) (A : Atoms 𝓤) (W : Given
 
   pub reader-goes : Goes 𝓤 H A W 1 (plain Row) yes reader-stays
   reader-goes = goes-none 𝓤 H A W 1 Row yes (λ κs x f. refl)
+
+  abbrev pub mode-typed : (m : Mode) (vs : List Val) → Is N.the-row m vs → Typed (N.the-row .mir) vs
+  mode-typed = EL.lawful N.the-type N′.the-laws 𝓤 H A W tt .typed
 
   abbrev pub text-typed : (κ : Lft) (s : RefT (List ℕ)) (vs : List Val) → Is (ShrSlice (named 0) κ u8) s vs → Typed (ShrSlice (named 0) κ u8 .mir) vs
   text-typed κ = shr-slice-lawful 𝓤 H A W (named 0) κ u8 .typed
@@ -97,5 +119,8 @@ module _ {M : Type 1} (𝓤 : URA M) (H : Heap 𝓤) (A : Atoms 𝓤) (W : Given
   reader-twice κs = LL.copy (T.the-type (namedLft 1 0 tt κs)) (T′.the-copy (namedLft 1 0 tt κs)) 𝓤 H A W .twice
 
 module _ {M : Type 1} (𝓤 : URA M) (H : Heap 𝓤) (A : Atoms 𝓤) where
+  pub mode-makes : Makes 𝓤 H A N.the-row (Is N.the-row)
+  mode-makes = EL.makes N.the-type N′.the-plain 𝓤 H A
+
   pub place-makes : Makes 𝓤 H A P.the-row (Is P.the-row)
   place-makes = LL.makes P.the-type P′.the-plain 𝓤 H A

@@ -2,6 +2,7 @@
 // MIR, by hand; `read_back::read::read_line` does the work, and `read`, whose parameters are plain, needs no walk where it is called.
 ghost use mathlib.Core.Path.{_≡_};
 ghost use Rattle.read_back.specs.Read.{readOf, readAnswer};
+use instruction::Mode;
 use read_back::Place;
 use read_back::read::Read;
 use read_back::read::read_line;
@@ -19,10 +20,10 @@ pub fn new<'a>(text: &'a [u8], place: Place) -> Reader<'a>
 }
 
 // What the line at the place says. The reader stays where it is: the answer has the place after the line, and `moved` goes there.
-pub fn next<'a>(r: Reader<'a>) -> Read
-    ensures { λ s. ⌜ readOf s ≡ readAnswer (now (r .entry .text)) (r .entry .place) ⌝ }
+pub fn next<'a>(mode: Mode, r: Reader<'a>) -> Read
+    ensures { λ s. ⌜ readOf s ≡ readAnswer mode (now (r .entry .text)) (r .entry .place) ⌝ }
 {
-    read_line(r.text, r.place)
+    read_line(mode, r.text, r.place)
 }
 
 // The place where it stands.
@@ -43,8 +44,8 @@ pub fn moved<'a>(r: Reader<'a>, place: Place) -> Reader<'a>
 }
 
 // A reader of the text at the place is made, and read.
-pub fn read(text: &[u8], place: Place) -> Read
-    ensures { λ r. ⌜ readOf r ≡ readAnswer (now (text .entry)) place ⌝ }
+pub fn read(mode: Mode, text: &[u8], place: Place) -> Read
+    ensures { λ r. ⌜ readOf r ≡ readAnswer mode (now (text .entry)) place ⌝ }
 {
-    next(new(text, place))
+    next(mode, new(text, place))
 }

@@ -8,6 +8,7 @@ use lib.IntN.{ℤ, pos}
 use lib.ListN.{length, take}
 use Rattle.instruction.specs.Answer.{Answer, accepted, refused, after}
 use Rattle.instruction.proofs.Judging.{done, refuses-too}
+use Rattle.instruction.specs.declared.mode.Mode.{Mode}
 use Rattle.reach.specs.Mark.{cleared, tracedMark, count}
 use Rattle.reach.specs.Note.{note, fresh}
 use Rattle.reach.specs.Sweep.{sweptMarks}
@@ -23,11 +24,11 @@ use Rattle.sweep.specs.declared.sweep.Tally.{Tally}
 use Rattle.sweep.proofs.Sweeping.{Ended}
 
 -- what the inner function answers and leaves is where the sweeps end
-pub told : (image m m′ : List ℕ) (sweeps steps : ℕ) (t : Tally) → (t .sweeps ≡ sweeps) × (t .steps ≡ steps) → Ended (tracerOf image) m m′ sweeps steps → (tallyOf t ≡ sweepResult image m) × (m′ ≡ sweptMarks (tracerOf image) m)
-told image m m′ sweeps steps t h E =
+pub told : (mode : Mode) (image m m′ : List ℕ) (sweeps steps : ℕ) (t : Tally) → (t .sweeps ≡ sweeps) × (t .steps ≡ steps) → Ended (tracerOf mode image) m m′ sweeps steps → (tallyOf t ≡ sweepResult mode image m) × (m′ ≡ sweptMarks (tracerOf mode image) m)
+told mode image m m′ sweeps steps t h E =
     let a = h .0 ∙ E .sweeps-are in let b = h .1 ∙ E .steps-are in (rw (a, b), E .marks-are)
 
-module _ (image marks entries : List ℕ) where
+module _ (mode : Mode) (image marks entries : List ℕ) where
   abbrev n : ℕ
   n = length image
 
@@ -35,14 +36,14 @@ module _ (image marks entries : List ℕ) where
   set = length (fresh n entries (cleared n marks))
 
   abbrev Is : Answer SweepResult → List ℕ → Type 0
-  Is a m = (a ≡ sweepAnswer image marks entries) × (m ≡ sweepLeaves image marks entries)
+  Is a m = (a ≡ sweepAnswer mode image marks entries) × (m ≡ sweepLeaves mode image marks entries)
 
   -- a refusal of start is one here, and changes nothing
   pub refused-too : (k : ℕ) (vs : List ℤ) (m : List ℕ) → refused k vs ≡ startAnswer image marks entries → m ≡ startMarks image marks entries → Is (refused k vs) m
   unfolding startAnswer startMarks sweepAnswer sweepLeaves
   refused-too k vs m e f =
-      let g = refuses-too (sizeRefusals image marks) set (sweepResult image (startMarks image marks entries)) k vs (sym e) in
-      (sym g, f ∙ ap (λ (a : Answer ℕ). after a (note n entries (cleared n marks)) marks) (sym e) ∙ ap (λ (a : Answer SweepResult). after a (sweptMarks (tracerOf image) (startMarks image marks entries)) marks) (sym g))
+      let g = refuses-too (sizeRefusals image marks) set (sweepResult mode image (startMarks image marks entries)) k vs (sym e) in
+      (sym g, f ∙ ap (λ (a : Answer ℕ). after a (note n entries (cleared n marks)) marks) (sym e) ∙ ap (λ (a : Answer SweepResult). after a (sweptMarks (tracerOf mode image) (startMarks image marks entries)) marks) (sym g))
 
   module _ (k : ℕ) (e : accepted k ≡ startAnswer image marks entries) where
     not-refused : (j : ℕ) (vs : List ℤ) → startAnswer image marks entries ≡ refused j vs → ⊥
@@ -69,14 +70,14 @@ module _ (image marks entries : List ℕ) where
     begun = ap (λ (a : Answer ℕ). after a (note n entries (cleared n marks)) marks) (sym e)
 
     pub begun-long : n ≤ length (startMarks image marks entries)
-    begun-long = rw begun (start-long (tracerOf image) entries (cleared n marks) (cleared-base (tracerOf image) marks room))
+    begun-long = rw begun (start-long (tracerOf mode image) entries (cleared n marks) (cleared-base (tracerOf mode image) marks room))
 
     pub begun-count : count tracedMark (take n (startMarks image marks entries)) ≡ 0
-    begun-count = rw begun (start-count (tracerOf image) entries (cleared n marks) (cleared-base (tracerOf image) marks room))
+    begun-count = rw begun (start-count (tracerOf mode image) entries (cleared n marks) (cleared-base (tracerOf mode image) marks room))
 
-    pub swept : (t : Tally) (m m′ : List ℕ) → m ≡ startMarks image marks entries → (tallyOf t ≡ sweepResult image m) × (m′ ≡ sweptMarks (tracerOf image) m) → Is (accepted (tallyOf t)) m′
+    pub swept : (t : Tally) (m m′ : List ℕ) → m ≡ startMarks image marks entries → (tallyOf t ≡ sweepResult mode image m) × (m′ ≡ sweptMarks (tracerOf mode image) m) → Is (accepted (tallyOf t)) m′
     unfolding sweepAnswer sweepLeaves
     swept t m m′ f S =
         let s = startMarks image marks entries in
-        let g = right-sizes image marks [] (sweepResult image s) small room ∙ done (sweepResult image s) in
-        (ap accepted (S .0 ∙ ap (sweepResult image) f) ∙ sym g, S .1 ∙ ap (sweptMarks (tracerOf image)) f ∙ ap (λ (a : Answer SweepResult). after a (sweptMarks (tracerOf image) s) marks) (sym g))
+        let g = right-sizes image marks [] (sweepResult mode image s) small room ∙ done (sweepResult mode image s) in
+        (ap accepted (S .0 ∙ ap (sweepResult mode image) f) ∙ sym g, S .1 ∙ ap (sweptMarks (tracerOf mode image)) f ∙ ap (λ (a : Answer SweepResult). after a (sweptMarks (tracerOf mode image) s) marks) (sym g))

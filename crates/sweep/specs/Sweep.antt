@@ -4,6 +4,7 @@ use Prim.Native.Nat.{ℕ}
 use mathlib.Core.List.{List, [], _∷_}
 use lib.IntN.{pos}
 use Rattle.instruction.specs.Answer.{Answer, accepted, refused, judge, after}
+use Rattle.instruction.specs.declared.mode.Mode.{Mode}
 use Rattle.reach.specs.Sweep.{sweptMarks, sweeps, sweptSteps}
 use Rattle.marks.specs.Refusals.{sizeRefusals}
 use Rattle.marks.specs.Tracer.{tracerOf}
@@ -18,8 +19,8 @@ pub record SweepResult : Type 0 where
   pub steps : ℕ
 
 -- of sweeps over these marks
-abbrev pub sweepResult : List ℕ → List ℕ → SweepResult
-sweepResult image m = record { sweeps = sweeps (tracerOf image) m; steps = sweptSteps (tracerOf image) m }
+abbrev pub sweepResult : Mode → List ℕ → List ℕ → SweepResult
+sweepResult mode image m = record { sweeps = sweeps (tracerOf mode image) m; steps = sweptSteps (tracerOf mode image) m }
 
 abbrev pub tallyOf : Tally → SweepResult
 tallyOf t = record { sweeps = t .sweeps; steps = t .steps }
@@ -30,10 +31,10 @@ sweptOf (LongImage n) = refused 1 (pos n ∷ [])
 sweptOf (ShortMarks n) = refused 2 (pos n ∷ [])
 
 -- it starts as start does
-unfoldable pub sweepAnswer : List ℕ → List ℕ → List ℕ → Answer SweepResult
-sweepAnswer image marks entries = judge (sizeRefusals image marks) (sweepResult image (startMarks image marks entries))
+unfoldable pub sweepAnswer : Mode → List ℕ → List ℕ → List ℕ → Answer SweepResult
+sweepAnswer mode image marks entries = judge (sizeRefusals image marks) (sweepResult mode image (startMarks image marks entries))
 
 -- the marks where the sweeps end
-unfoldable pub sweepLeaves : List ℕ → List ℕ → List ℕ → List ℕ
-sweepLeaves image marks entries =
-    after (sweepAnswer image marks entries) (sweptMarks (tracerOf image) (startMarks image marks entries)) marks
+unfoldable pub sweepLeaves : Mode → List ℕ → List ℕ → List ℕ → List ℕ
+sweepLeaves mode image marks entries =
+    after (sweepAnswer mode image marks entries) (sweptMarks (tracerOf mode image) (startMarks image marks entries)) marks

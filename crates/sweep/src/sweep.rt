@@ -7,6 +7,7 @@ ghost use Rattle.reach.specs.Mark.{count, tracedMark};
 ghost use Rattle.reach.specs.Sweep.{canTake, sweptAt, sweepOnce, sweepTaken, sweptMarks};
 ghost use Rattle.marks.specs.Tracer.{tracerOf};
 ghost use Rattle.sweep.specs.Sweep.{sweptOf, sweepResult, tallyOf, sweepAnswer, sweepLeaves};
+use instruction::Mode;
 use marks::Mark;
 use targets::Ways;
 use trace::Started;
@@ -35,15 +36,15 @@ pub enum Swept {
 }
 
 // A sweep meets p: how many it takes, 0 or 1.
-fn meet(image: &[u8], marks: &mut [u8], p: u32) -> u32
+fn meet(mode: Mode, image: &[u8], marks: &mut [u8], p: u32) -> u32
     requires { ⌜ (p < length (now image)) × (length (now image) ≤ 65536) × (length (now image) ≤ length (now marks)) ⌝ }
-    ensures { λ r. ⌜ r ≡ cond (canTake (tracerOf (now (image .entry))) (now (marks .entry)) p) 1 0 ⌝ }
-    ensures { λ _. ⌜ now (marks .exit) ≡ sweptAt (tracerOf (now (image .entry))) (now (marks .entry)) p ⌝ }
+    ensures { λ r. ⌜ r ≡ cond (canTake (tracerOf mode (now (image .entry))) (now (marks .entry)) p) 1 0 ⌝ }
+    ensures { λ _. ⌜ now (marks .exit) ≡ sweptAt (tracerOf mode (now (image .entry))) (now (marks .entry)) p ⌝ }
 {
     if marks[p as usize] != Mark::WAITING {
         return 0;
     }
-    match targets::ways_at(image, p) {
+    match targets::ways_at(mode, image, p) {
         Ways::Goes(to) => {
             marks::take_up(image, marks, p, to);
             1
@@ -54,32 +55,32 @@ fn meet(image: &[u8], marks: &mut [u8], p: u32) -> u32
 }
 
 // One sweep: how many it took.
-fn sweep_once(image: &[u8], marks: &mut [u8]) -> u32
+fn sweep_once(mode: Mode, image: &[u8], marks: &mut [u8]) -> u32
     requires { ⌜ (length (now image) ≤ 65536) × (length (now image) ≤ length (now marks)) ⌝ }
-    ensures { λ r. ⌜ r ≡ sweepTaken (tracerOf (now (image .entry))) (now (marks .entry)) ⌝ }
-    ensures { λ _. ⌜ now (marks .exit) ≡ sweepOnce (tracerOf (now (image .entry))) (now (marks .entry)) ⌝ }
+    ensures { λ r. ⌜ r ≡ sweepTaken (tracerOf mode (now (image .entry))) (now (marks .entry)) ⌝ }
+    ensures { λ _. ⌜ now (marks .exit) ≡ sweepOnce (tracerOf mode (now (image .entry))) (now (marks .entry)) ⌝ }
 {
     let n = image.len() as u32;
     let mut taken: u32 = 0;
     let mut p: u32 = 0;
     while p < n {
-        taken += meet(image, marks, p);
+        taken += meet(mode, image, marks, p);
         p += 1;
     }
     taken
 }
 
 // Sweeps until one takes none. One more than there are positions is never passed: each but the last takes one.
-fn sweep_on(image: &[u8], marks: &mut [u8]) -> Tally
+fn sweep_on(mode: Mode, image: &[u8], marks: &mut [u8]) -> Tally
     requires { ⌜ (length (now image) ≤ 65536) × (length (now image) ≤ length (now marks)) × (count tracedMark (take (length (now image)) (now marks)) ≡ 0) ⌝ }
-    ensures { λ r. ⌜ tallyOf r ≡ sweepResult (now (image .entry)) (now (marks .entry)) ⌝ }
-    ensures { λ _. ⌜ now (marks .exit) ≡ sweptMarks (tracerOf (now (image .entry))) (now (marks .entry)) ⌝ }
+    ensures { λ r. ⌜ tallyOf r ≡ sweepResult mode (now (image .entry)) (now (marks .entry)) ⌝ }
+    ensures { λ _. ⌜ now (marks .exit) ≡ sweptMarks (tracerOf mode (now (image .entry))) (now (marks .entry)) ⌝ }
 {
     let n = image.len();
     let mut sweeps: usize = 0;
     let mut steps: u32 = 0;
     while sweeps <= n {
-        let taken = sweep_once(image, marks);
+        let taken = sweep_once(mode, image, marks);
         sweeps += 1;
         if taken == 0 {
             return Tally::new(sweeps as u32, steps);
@@ -90,12 +91,12 @@ fn sweep_on(image: &[u8], marks: &mut [u8]) -> Tally
 }
 
 // Starts from the entries and sweeps until a sweep takes none.
-pub fn sweep(image: &[u8], marks: &mut [u8], entries: &[u32]) -> Swept
-    ensures { λ r. ⌜ sweptOf r ≡ sweepAnswer (now (image .entry)) (now (marks .entry)) (now (entries .entry)) ⌝ }
-    ensures { λ _. ⌜ now (marks .exit) ≡ sweepLeaves (now (image .entry)) (now (marks .entry)) (now (entries .entry)) ⌝ }
+pub fn sweep(mode: Mode, image: &[u8], marks: &mut [u8], entries: &[u32]) -> Swept
+    ensures { λ r. ⌜ sweptOf r ≡ sweepAnswer mode (now (image .entry)) (now (marks .entry)) (now (entries .entry)) ⌝ }
+    ensures { λ _. ⌜ now (marks .exit) ≡ sweepLeaves mode (now (image .entry)) (now (marks .entry)) (now (entries .entry)) ⌝ }
 {
     match trace::start::start(image, marks, entries) {
-        Started::Set(_) => Swept::Ended(sweep_on(image, marks)),
+        Started::Set(_) => Swept::Ended(sweep_on(mode, image, marks)),
         Started::LongImage(n) => Swept::LongImage(n),
         Started::ShortMarks(n) => Swept::ShortMarks(n),
     }

@@ -1,6 +1,7 @@
 pub mod ReadBack
 pub mod InRange
 pub mod ShortSum
+pub mod Wrapping
 pub mod LastOperand
 pub mod AskedAlone
 pub mod HereIs

@@ -17,12 +17,13 @@ use Rattle.instruction.specs.Parts.{partsOf}
 use Rattle.instruction.specs.declared.flow.Flow.{Flow}
 use Rattle.targets.specs.At.{formHere, sizeHere, fitsHere, instrHere, waysHere, nameHere, namedBy, placeOf}
 use Rattle.targets.specs.Opening.{openingOf}
-use Rattle.targets.specs.Targets.{byFlow, addressIn, targetsIn}
+use Rattle.targets.specs.Targets.{inMode, byFlow, addressIn, targetsIn}
 use Rattle.targets.specs.Ways.{isWhole, waysOf}
 use Rattle.targets.specs.declared.opening.Opening.{Opening}
 use Rattle.targets.specs.declared.opening.Opening.the-variants.{Whole, Cut, Outside}
 use Rattle.targets.specs.declared.place.Ways.the-variants as way
 use Rattle.instruction.proofs.Ands.{both, first-part, second-part, not-first, not-second}
+use Rattle.instruction.specs.declared.mode.Mode.{Mode}
 use Rattle.targets.proofs.Within.{Small, form-is}
 
 -- a position inside an image of at most 65,536 bytes
@@ -81,26 +82,28 @@ module _ (image : List ℕ) (p : ℕ) where
       by true false g h = let o = opens (Whole n f) e true false g h in absurd (let z : _≡_ {A = ℕ} 0 1 = cc in omega arith)
       by false t g h = let o = opens (Whole n f) e false t g h in absurd (let z : _≡_ {A = ℕ} 0 1 = cc in omega arith)
 
-  pub cut-says : (c : CutOff) → Cut c ≡ openingOf image p → (way.Cut c ≡ waysOf image p) × (isWhole image p ≡ false)
+-- what each says of where control goes
+module _ (mode : Mode) (image : List ℕ) (p : ℕ) where
+  pub cut-says : (c : CutOff) → Cut c ≡ openingOf image p → (way.Cut c ≡ waysOf mode image p) × (isWhole image p ≡ false)
   unfolding waysOf
   cut-says c e = by (inMemory image p) (fitsHere image p) refl refl
     where
-      by : (b t : Bool) → inMemory image p ≡ b → fitsHere image p ≡ t → (way.Cut c ≡ waysOf image p) × (isWhole image p ≡ false)
+      by : (b t : Bool) → inMemory image p ≡ b → fitsHere image p ≡ t → (way.Cut c ≡ waysOf mode image p) × (isWhole image p ≡ false)
       by true false g h =
-          let o = opens (Cut c) e true false g h in
+          let o = opens image p (Cut c) e true false g h in
           let d : c ≡ cutAt image p = cc in
           (rw (g, h) (ap way.Cut d), not-second (inMemory image p) _ h)
-      by true true g h = let o = opens (Cut c) e true true g h in absurd (let z : _≡_ {A = ℕ} 0 1 = cc in omega arith)
-      by false t g h = let o = opens (Cut c) e false t g h in absurd (let z : _≡_ {A = ℕ} 0 1 = cc in omega arith)
+      by true true g h = let o = opens image p (Cut c) e true true g h in absurd (let z : _≡_ {A = ℕ} 0 1 = cc in omega arith)
+      by false t g h = let o = opens image p (Cut c) e false t g h in absurd (let z : _≡_ {A = ℕ} 0 1 = cc in omega arith)
 
-  pub outside-says : Outside ≡ openingOf image p → (way.Outside ≡ waysOf image p) × (isWhole image p ≡ false)
+  pub outside-says : Outside ≡ openingOf image p → (way.Outside ≡ waysOf mode image p) × (isWhole image p ≡ false)
   unfolding waysOf
   outside-says e = by (inMemory image p) (fitsHere image p) refl refl
     where
-      by : (b t : Bool) → inMemory image p ≡ b → fitsHere image p ≡ t → (way.Outside ≡ waysOf image p) × (isWhole image p ≡ false)
+      by : (b t : Bool) → inMemory image p ≡ b → fitsHere image p ≡ t → (way.Outside ≡ waysOf mode image p) × (isWhole image p ≡ false)
       by false t g h = (rw g, not-first (inMemory image p) _ g)
-      by true true g h = let o = opens Outside e true true g h in absurd (let z : _≡_ {A = ℕ} 0 1 = cc in omega arith)
-      by true false g h = let o = opens Outside e true false g h in absurd (let z : _≡_ {A = ℕ} 0 1 = cc in omega arith)
+      by true true g h = let o = opens image p Outside e true true g h in absurd (let z : _≡_ {A = ℕ} 0 1 = cc in omega arith)
+      by true false g h = let o = opens image p Outside e true false g h in absurd (let z : _≡_ {A = ℕ} 0 1 = cc in omega arith)
 
   -- ---- where control goes
 
@@ -108,10 +111,10 @@ module _ (image : List ℕ) (p : ℕ) where
     flow-is : f ≡ flowOf (partsOf (instrHere image p) .form)
     flow-is = e ∙ ap flowOf (sym (form-is image p bytes))
 
-    pub goes : map placeOf (byFlow f (addressIn (p + sizeHere image p) (instrHere image p)) (pos (p + sizeHere image p))) ≡ waysHere image p
+    pub goes : map placeOf (byFlow f (addressIn mode (p + sizeHere image p) (instrHere image p)) (inMode mode (pos (p + sizeHere image p)))) ≡ waysHere mode image p
     unfolding waysHere targetsIn
     goes = rw (← flow-is)
 
-    pub names : namedBy f (placeOf (addressIn (p + sizeHere image p) (instrHere image p))) ≡ nameHere image p
+    pub names : namedBy f (placeOf (addressIn mode (p + sizeHere image p) (instrHere image p))) ≡ nameHere mode image p
     unfolding nameHere
     names = rw (← flow-is)

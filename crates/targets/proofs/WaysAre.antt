@@ -17,9 +17,10 @@ use Rattle.instruction.specs.declared.flow.Flow.{Flow}
 use Rattle.instruction.specs.declared.flow.Flow.the-variants.{Stop, Next, Jump, Branch}
 use Rattle.instruction.specs.declared.instr.Instr.{Instr}
 use Rattle.instruction.specs.Parts.{partsOf}
+use Rattle.instruction.specs.declared.mode.Mode.{Mode}
 use Rattle.targets.specs.At.{sizeHere, fitsHere, instrHere, waysHere, placeOf}
 use Rattle.targets.specs.Here.{hereOf}
-use Rattle.targets.specs.Targets.{byFlow, addressIn, targetsIn}
+use Rattle.targets.specs.Targets.{inMode, byFlow, addressIn, targetsIn}
 use Rattle.targets.specs.Ways.{placesIn, placesNamed, waysOf}
 use Rattle.targets.specs.declared.here.Here.{Here}
 use Rattle.targets.specs.declared.here.Here.the-variants.{Whole, Cut, Outside}
@@ -41,9 +42,9 @@ by-flow Jump t n = refl
 by-flow Branch t n = refl
 
 -- an instruction has at most two targets
-pub two-at-most : (image : List ℕ) (p : ℕ) → placesIn (placesNamed (waysHere image p)) ≡ waysHere image p
+pub two-at-most : (mode : Mode) (image : List ℕ) (p : ℕ) → placesIn (placesNamed (waysHere mode image p)) ≡ waysHere mode image p
 unfolding waysHere targetsIn
-two-at-most image p = by-flow (flowOf (partsOf (instrHere image p) .form)) (addressIn (p + sizeHere image p) (instrHere image p)) (pos (p + sizeHere image p))
+two-at-most mode image p = by-flow (flowOf (partsOf (instrHere image p) .form)) (addressIn mode (p + sizeHere image p) (instrHere image p)) (inMode mode (pos (p + sizeHere image p)))
 
 module _ (image : List ℕ) (p : ℕ) where
   module _ (inside : p < length image) where
@@ -91,36 +92,35 @@ module _ (image : List ℕ) (p : ℕ) where
       by true f = absurd (here-inside (ltb-true p (length image) f) e)
       by false f = f
 
-  module _ (inside : p < length image) where
-    module _ (small : length image ≤ 65536) where
-      ways-is : (w : Ways) → w ≡ waysOf image p → (t : Bool) → fitsHere image p ≡ t → w ≡ cond t (way.Goes (placesNamed (waysHere image p))) (way.Cut (cutAt image p))
-      unfolding waysOf
-      ways-is w e t f = e ∙ rw (lt-ltb p (length image) inside, le-leb (length image) 65536 small, f)
+module _ (mode : Mode) (image : List ℕ) (p : ℕ) (inside : p < length image) (small : length image ≤ 65536) where
+  ways-is : (w : Ways) → w ≡ waysOf mode image p → (t : Bool) → fitsHere image p ≡ t → w ≡ cond t (way.Goes (placesNamed (waysHere mode image p))) (way.Cut (cutAt image p))
+  unfolding waysOf
+  ways-is w e t f = e ∙ rw (lt-ltb p (length image) inside, le-leb (length image) 65536 small, f)
 
-      pub whole-goes : fitsHere image p ≡ true → (ps : Places) → placesIn ps ≡ waysHere image p → way.Goes ps ≡ waysOf image p
-      whole-goes f ps e = ap way.Goes (named-back ps ∙ ap placesNamed e) ∙ sym (ways-is (waysOf image p) refl true f)
+  pub whole-goes : fitsHere image p ≡ true → (ps : Places) → placesIn ps ≡ waysHere mode image p → way.Goes ps ≡ waysOf mode image p
+  whole-goes f ps e = ap way.Goes (named-back ps ∙ ap placesNamed e) ∙ sym (ways-is (waysOf mode image p) refl true f)
 
-      pub goes-whole : (ps : Places) → way.Goes ps ≡ waysOf image p → (fitsHere image p ≡ true) × (placesIn ps ≡ waysHere image p)
-      goes-whole ps e = by (fitsHere image p) refl
-        where
-          by : (t : Bool) → fitsHere image p ≡ t → (fitsHere image p ≡ true) × (placesIn ps ≡ waysHere image p)
-          by true f =
-              let g = ways-is (way.Goes ps) e true f in
-              let h : ps ≡ placesNamed (waysHere image p) = cc in (f, ap placesIn h ∙ two-at-most image p)
-          by false f = let g = ways-is (way.Goes ps) e false f in absurd (let z : _≡_ {A = ℕ} 0 1 = cc in omega arith)
+  pub goes-whole : (ps : Places) → way.Goes ps ≡ waysOf mode image p → (fitsHere image p ≡ true) × (placesIn ps ≡ waysHere mode image p)
+  goes-whole ps e = by (fitsHere image p) refl
+    where
+      by : (t : Bool) → fitsHere image p ≡ t → (fitsHere image p ≡ true) × (placesIn ps ≡ waysHere mode image p)
+      by true f =
+          let g = ways-is (way.Goes ps) e true f in
+          let h : ps ≡ placesNamed (waysHere mode image p) = cc in (f, ap placesIn h ∙ two-at-most mode image p)
+      by false f = let g = ways-is (way.Goes ps) e false f in absurd (let z : _≡_ {A = ℕ} 0 1 = cc in omega arith)
 
-      pub goes-cut : (c : CutOff) → way.Cut c ≡ waysOf image p → (fitsHere image p ≡ false) × (cutValues c ≡ cutValues (cutAt image p))
-      goes-cut c e = by (fitsHere image p) refl
-        where
-          by : (t : Bool) → fitsHere image p ≡ t → (fitsHere image p ≡ false) × (cutValues c ≡ cutValues (cutAt image p))
-          by true f = let g = ways-is (way.Cut c) e true f in absurd (let z : _≡_ {A = ℕ} 0 1 = cc in omega arith)
-          by false f =
-              let g = ways-is (way.Cut c) e false f in
-              let h : c ≡ cutAt image p = cc in (f, ap cutValues h)
+  pub goes-cut : (c : CutOff) → way.Cut c ≡ waysOf mode image p → (fitsHere image p ≡ false) × (cutValues c ≡ cutValues (cutAt image p))
+  goes-cut c e = by (fitsHere image p) refl
+    where
+      by : (t : Bool) → fitsHere image p ≡ t → (fitsHere image p ≡ false) × (cutValues c ≡ cutValues (cutAt image p))
+      by true f = let g = ways-is (way.Cut c) e true f in absurd (let z : _≡_ {A = ℕ} 0 1 = cc in omega arith)
+      by false f =
+          let g = ways-is (way.Cut c) e false f in
+          let h : c ≡ cutAt image p = cc in (f, ap cutValues h)
 
-      pub never-outside : way.Outside ≡ waysOf image p → ⊥
-      never-outside e = by (fitsHere image p) refl
-        where
-          by : (t : Bool) → fitsHere image p ≡ t → ⊥
-          by true f = let g = ways-is way.Outside e true f in let z : _≡_ {A = ℕ} 0 1 = cc in omega arith
-          by false f = let g = ways-is way.Outside e false f in let z : _≡_ {A = ℕ} 0 1 = cc in omega arith
+  pub never-outside : way.Outside ≡ waysOf mode image p → ⊥
+  never-outside e = by (fitsHere image p) refl
+    where
+      by : (t : Bool) → fitsHere image p ≡ t → ⊥
+      by true f = let g = ways-is way.Outside e true f in let z : _≡_ {A = ℕ} 0 1 = cc in omega arith
+      by false f = let g = ways-is way.Outside e false f in let z : _≡_ {A = ℕ} 0 1 = cc in omega arith

@@ -13,6 +13,7 @@ use Rattle.instruction.specs.Parts.{partsOf, madeOf}
 use Rattle.instruction.specs.declared.flow.Flow.{Flow}
 use Rattle.instruction.specs.declared.flow.Flow.the-variants.{Stop, Next, Jump, Branch}
 use Rattle.instruction.specs.declared.instr.Instr.{Instr}
+use Rattle.instruction.specs.declared.mode.Mode.{Mode}
 use Rattle.targets.specs.Targets.{addressIn, targetsIn}
 
 -- the form, and the size, of what stands at p
@@ -36,8 +37,8 @@ placeOf (pos n) = n
 placeOf (negsuc n) = 65536
 
 -- the targets of the instruction at p, in document 01's order
-unfoldable pub waysHere : List ℕ → ℕ → List ℕ
-waysHere image p = map placeOf (targetsIn (p + sizeHere image p) (instrHere image p))
+unfoldable pub waysHere : Mode → List ℕ → ℕ → List ℕ
+waysHere mode image p = map placeOf (targetsIn mode (p + sizeHere image p) (instrHere image p))
 
 -- of a jump, a branch or a call the position t that it names; the others name none, as 65,536 is outside every image
 abbrev pub namedBy : Flow → ℕ → ℕ
@@ -47,8 +48,8 @@ namedBy Jump t = t
 namedBy Branch t = t
 
 -- the position that the instruction at p names; next is not named
-unfoldable pub nameHere : List ℕ → ℕ → ℕ
-nameHere image p = namedBy (flowOf (partsOf (instrHere image p) .form)) (placeOf (addressIn (p + sizeHere image p) (instrHere image p)))
+unfoldable pub nameHere : Mode → List ℕ → ℕ → ℕ
+nameHere mode image p = namedBy (flowOf (partsOf (instrHere image p) .form)) (placeOf (addressIn mode (p + sizeHere image p) (instrHere image p)))
 
 -- a Jmpf at p with the bytes B8 0D at p - 2
 unfoldable pub flashHere : List ℕ → ℕ → Bool

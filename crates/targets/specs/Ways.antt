@@ -6,6 +6,7 @@ use mathlib.Core.List.{List, [], _∷_}
 use lib.Dec.{ltb, leb}
 use lib.ListN.{length}
 use Rattle.instruction.specs.Decode.{cutAt}
+use Rattle.instruction.specs.declared.mode.Mode.{Mode}
 use Rattle.targets.specs.At.{fitsHere, waysHere, nameHere}
 use Rattle.targets.specs.declared.place.Places.{Places}
 use Rattle.targets.specs.declared.place.Places.the-variants.{Nothing, First, Both}
@@ -29,11 +30,11 @@ abbrev pub isWhole : List ℕ → ℕ → Bool
 isWhole image p = (ltb p (length image) && leb (length image) 65536) && fitsHere image p
 
 -- the position that the instruction at p names, where it is whole
-unfoldable pub nameOf : List ℕ → ℕ → ℕ
-nameOf image p = cond (isWhole image p) (nameHere image p) 65536
+unfoldable pub nameOf : Mode → List ℕ → ℕ → ℕ
+nameOf mode image p = cond (isWhole image p) (nameHere mode image p) 65536
 
 -- the positions that the targets at p name, where the instruction there is whole; a position is inside an image of at most 65,536 bytes
-unfoldable pub waysOf : List ℕ → ℕ → Ways
-waysOf image p =
+unfoldable pub waysOf : Mode → List ℕ → ℕ → Ways
+waysOf mode image p =
     cond (ltb p (length image) && leb (length image) 65536)
-    (cond (fitsHere image p) (Goes (placesNamed (waysHere image p))) (Cut (cutAt image p))) Outside
+    (cond (fitsHere image p) (Goes (placesNamed (waysHere mode image p))) (Cut (cutAt image p))) Outside

@@ -4,15 +4,16 @@
 ghost use mathlib.Core.Path.{_≡_};
 ghost use mathlib.Core.Bool.{true, false};
 ghost use Prim.Native.Nat.{_+_, _-_, _*_, _/_, _%_, _≤_, _<_};
-ghost use lib.IntN.{pos, natAbs, _+ℤ_};
+ghost use lib.IntN.{pos, negsuc, natAbs};
 ghost use lib.Signed.{ltZ};
 ghost use Rattle.instruction.specs.Answer.{accepted};
-ghost use Rattle.instruction.specs.Range.{unfit};
+ghost use Rattle.instruction.specs.Range.{outside, unfit};
+ghost use Rattle.instruction.specs.ResolveOperand.{wrapped};
 ghost use Rattle.instruction.specs.declared.kind.Kind.the-variants.{Page, Short, Long};
 ghost use Rattle.instruction.specs.Encode.{fitAnswer};
 ghost use lib.ListN.{length};
 ghost use Rattle.targets.specs.At.{sizeHere, fitsHere, instrHere, placeOf};
-ghost use Rattle.targets.specs.Targets.{addressOf, addressIn, targetsIn, targetsOf};
+ghost use Rattle.targets.specs.Targets.{inMode, addressOf, addressIn, targetsIn, targetsOf};
 use crate::here;
 use crate::here::Here;
 use crate::image::Image;
@@ -21,13 +22,40 @@ use crate::target::Targets;
 use instruction::Flow;
 use instruction::Instr;
 use instruction::Kind;
+use instruction::Mode;
 
-// Next plus a signed offset, unwrapped.
-fn short(next: u32, z: i32) -> i32
-    requires { ⌜ (next ≤ 65536) × (unfit Short z ≡ false) ⌝ }
-    ensures { λ r. ⌜ r ≡ pos next +ℤ z ⌝ }
+// A number near memory, modulo 65,536.
+fn wrap(t: i32) -> i32
+    requires { ⌜ outside (negsuc 127) (pos 65663) t ≡ false ⌝ }
+    ensures { λ r. ⌜ r ≡ pos (wrapped t) ⌝ }
 {
-    next as i32 + z
+    if t < 0 {
+        return t + 65_536;
+    }
+    if 65_535 < t {
+        return t - 65_536;
+    }
+    t
+}
+
+// A target as the mode takes it.
+fn in_mode(mode: Mode, t: i32) -> i32
+    requires { ⌜ outside (negsuc 127) (pos 65663) t ≡ false ⌝ }
+    ensures { λ r. ⌜ r ≡ inMode mode t ⌝ }
+{
+    match mode {
+        Mode::Unwrapped => t,
+        Mode::Wrapping => wrap(t),
+    }
+}
+
+// Next plus a signed offset.
+fn short(mode: Mode, next: u32, z: i32) -> i32
+    requires { ⌜ (next ≤ 65536) × (unfit Short z ≡ false) ⌝ }
+    ensures { λ r. ⌜ r ≡ addressOf mode next Short z ⌝ }
+{
+    let sum = next as i32 + z;
+    in_mode(mode, sum)
 }
 
 // An operand's number that is not below 0.
@@ -43,6 +71,14 @@ fn signed(n: u32) -> i32
     ensures { λ r. ⌜ r ≡ pos n ⌝ }
 {
     n as i32
+}
+
+// Next as a target.
+fn next_target(mode: Mode, next: u32) -> i32
+    requires { ⌜ next ≤ 65536 ⌝ }
+    ensures { λ r. ⌜ r ≡ inMode mode (pos next) ⌝ }
+{
+    in_mode(mode, signed(next))
 }
 
 // The byte before next plus an offset, wrapped at sixteen bits.
@@ -63,9 +99,9 @@ fn page(next: u32, z: i32) -> i32
 }
 
 // The address that an operand names.
-fn address_of(next: u32, kind: Kind, z: i32) -> i32
+fn address_of(mode: Mode, next: u32, kind: Kind, z: i32) -> i32
     requires { ⌜ (1 ≤ next) × (next ≤ 65536) × (unfit kind z ≡ false) ⌝ }
-    ensures { λ r. ⌜ r ≡ addressOf next kind z ⌝ }
+    ensures { λ r. ⌜ r ≡ addressOf mode next kind z ⌝ }
 {
     match kind {
         Kind::Absent => z,
@@ -75,15 +111,15 @@ fn address_of(next: u32, kind: Kind, z: i32) -> i32
         Kind::BitNumber => z,
         Kind::Page => page(next, z),
         Kind::Far => z,
-        Kind::Short => short(next, z),
+        Kind::Short => short(mode, next, z),
         Kind::Long => long(next, z),
     }
 }
 
 // The address that an instruction names: its last operand's.
-pub fn address_in(next: u32, instr: Instr) -> i32
+pub fn address_in(mode: Mode, next: u32, instr: Instr) -> i32
     requires { ⌜ (1 ≤ next) × (next ≤ 65536) × (fitAnswer instr ≡ accepted tt) ⌝ }
-    ensures { λ r. ⌜ r ≡ addressIn next instr ⌝ }
+    ensures { λ r. ⌜ r ≡ addressIn mode next instr ⌝ }
 {
     let v = instr.apart();
     let k = instr.kinds();
@@ -91,36 +127,36 @@ pub fn address_in(next: u32, instr: Instr) -> i32
     let kb = k.b;
     let kc = k.c;
     if kc.is_given() {
-        return address_of(next, kc, v.c);
+        return address_of(mode, next, kc, v.c);
     }
     if kb.is_given() {
-        return address_of(next, kb, v.b);
+        return address_of(mode, next, kb, v.b);
     }
-    address_of(next, ka, v.a)
+    address_of(mode, next, ka, v.a)
 }
 
 // The position that the address of the instruction at p names.
-pub fn place_at(image: &[u8], p: u32, next: u32) -> u32
+pub fn place_at(mode: Mode, image: &[u8], p: u32, next: u32) -> u32
     requires { ⌜ (p < length (now image)) × (length (now image) ≤ 65536) ⌝ }
     requires { ⌜ (fitsHere (now image) p ≡ true) × (next ≡ p + sizeHere (now image) p) ⌝ }
-    ensures { λ r. ⌜ r ≡ placeOf (addressIn (p + sizeHere (now (image .entry)) p) (instrHere (now (image .entry)) p)) ⌝ }
+    ensures { λ r. ⌜ r ≡ placeOf (addressIn mode (p + sizeHere (now (image .entry)) p) (instrHere (now (image .entry)) p)) ⌝ }
 {
     match here::instr_at(image, p) {
-        Here::Whole(i) => place::place(address_in(next, i)),
+        Here::Whole(i) => place::place(address_in(mode, next, i)),
         Here::Cut(_) => Image::NOWHERE,
         Here::Outside => Image::NOWHERE,
     }
 }
 
 // The targets of an instruction whose fields are in range and that ends within memory.
-pub fn ways(next: u32, instr: Instr) -> Targets
+pub fn ways(mode: Mode, next: u32, instr: Instr) -> Targets
     requires { ⌜ (1 ≤ next) × (next ≤ 65536) × (fitAnswer instr ≡ accepted tt) ⌝ }
-    ensures { λ r. ⌜ targetsOf r ≡ accepted (targetsIn next instr) ⌝ }
+    ensures { λ r. ⌜ targetsOf r ≡ accepted (targetsIn mode next instr) ⌝ }
 {
     match instr.flow() {
         Flow::Stop => Targets::Nowhere,
-        Flow::Next => Targets::One(signed(next)),
-        Flow::Jump => Targets::One(address_in(next, instr)),
-        Flow::Branch => Targets::Two(address_in(next, instr), signed(next)),
+        Flow::Next => Targets::One(next_target(mode, next)),
+        Flow::Jump => Targets::One(address_in(mode, next, instr)),
+        Flow::Branch => Targets::Two(address_in(mode, next, instr), next_target(mode, next)),
     }
 }

@@ -7,10 +7,11 @@ use crate::address;
 use crate::target::Targets;
 use instruction::Fit;
 use instruction::Instr;
+use instruction::Mode;
 
 // The targets of an instruction at a position, in document 01's order.
-pub fn targets(position: u32, instr: Instr) -> Targets
-    ensures { λ r. ⌜ targetsOf r ≡ targetsAnswer position instr ⌝ }
+pub fn targets(mode: Mode, position: u32, instr: Instr) -> Targets
+    ensures { λ r. ⌜ targetsOf r ≡ targetsAnswer mode position instr ⌝ }
 {
     let next = position as u64 + instr.size() as u64;
     if (Instr::HIGHEST_BASE as u64) < next {
@@ -19,5 +20,5 @@ pub fn targets(position: u32, instr: Instr) -> Targets
     if let Fit::Outside(m) = instr.fit() {
         return Targets::Unfit(m);
     }
-    address::ways(next as u32, instr)
+    address::ways(mode, next as u32, instr)
 }

@@ -12,27 +12,28 @@ use crate::image::Image;
 use crate::opening;
 use crate::opening::Opening;
 use instruction::Flow;
+use instruction::Mode;
 
 // By where the instruction at p ends and where control goes.
-fn name_by(image: &[u8], p: u32, next: u32, flow: Flow) -> u32
+fn name_by(mode: Mode, image: &[u8], p: u32, next: u32, flow: Flow) -> u32
     requires { ⌜ (p < length (now image)) × (length (now image) ≤ 65536) ⌝ }
     requires { ⌜ (fitsHere (now image) p ≡ true) × (next ≡ p + sizeHere (now image) p) × (flow ≡ flowOf (formHere (now image) p)) ⌝ }
-    ensures { λ r. ⌜ r ≡ nameHere (now (image .entry)) p ⌝ }
+    ensures { λ r. ⌜ r ≡ nameHere mode (now (image .entry)) p ⌝ }
 {
     match flow {
         Flow::Stop => Image::NOWHERE,
         Flow::Next => Image::NOWHERE,
-        Flow::Jump => address::place_at(image, p, next),
-        Flow::Branch => address::place_at(image, p, next),
+        Flow::Jump => address::place_at(mode, image, p, next),
+        Flow::Branch => address::place_at(mode, image, p, next),
     }
 }
 
 // The position that the instruction at p names, or a position outside every image.
-pub fn name_at(image: &[u8], p: u32) -> u32
-    ensures { λ r. ⌜ r ≡ nameOf (now (image .entry)) p ⌝ }
+pub fn name_at(mode: Mode, image: &[u8], p: u32) -> u32
+    ensures { λ r. ⌜ r ≡ nameOf mode (now (image .entry)) p ⌝ }
 {
     match opening::opening_at(image, p) {
-        Opening::Whole(next, flow) => name_by(image, p, next, flow),
+        Opening::Whole(next, flow) => name_by(mode, image, p, next, flow),
         Opening::Cut(_) => Image::NOWHERE,
         Opening::Outside => Image::NOWHERE,
     }

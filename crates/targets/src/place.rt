@@ -5,6 +5,8 @@ ghost use Prim.Native.Nat.{_+_, _≤_, _<_};
 ghost use Rattle.instruction.specs.Flow.{flowOf};
 ghost use lib.ListN.{length};
 ghost use Rattle.targets.specs.At.{formHere, sizeHere, fitsHere, placeOf, waysHere};
+ghost use lib.IntN.{pos};
+ghost use Rattle.targets.specs.Targets.{inMode};
 ghost use Rattle.targets.specs.Ways.{placesIn, waysOf};
 use crate::address;
 use crate::image::Image;
@@ -12,6 +14,7 @@ use crate::opening;
 use crate::opening::Opening;
 use instruction::CutOff;
 use instruction::Flow;
+use instruction::Mode;
 
 // At most two positions, in their order.
 pub enum Places {
@@ -39,25 +42,38 @@ pub fn place(t: i32) -> u32
     t as u32
 }
 
-// The positions that the targets of the instruction at p name, by where it ends and where control goes.
-fn places_by(image: &[u8], p: u32, next: u32, flow: Flow) -> Places
-    requires { ⌜ (p < length (now image)) × (length (now image) ≤ 65536) ⌝ }
-    requires { ⌜ (fitsHere (now image) p ≡ true) × (next ≡ p + sizeHere (now image) p) × (flow ≡ flowOf (formHere (now image) p)) ⌝ }
-    ensures { λ r. ⌜ placesIn r ≡ waysHere (now (image .entry)) p ⌝ }
+// Where an instruction ends, as a target: in wrapping mode the end of memory is its beginning.
+fn next_place(mode: Mode, next: u32) -> u32
+    ensures { λ r. ⌜ r ≡ placeOf (inMode mode (pos next)) ⌝ }
 {
-    match flow {
-        Flow::Stop => Places::Nothing,
-        Flow::Next => Places::First(next),
-        Flow::Jump => Places::First(address::place_at(image, p, next)),
-        Flow::Branch => Places::Both(address::place_at(image, p, next), next),
+    match mode {
+        Mode::Unwrapped => next,
+        Mode::Wrapping => next % 65_536,
     }
 }
 
-pub fn ways_at(image: &[u8], p: u32) -> Ways
-    ensures { λ r. ⌜ r ≡ waysOf (now (image .entry)) p ⌝ }
+// The positions that the targets of the instruction at p name, by where it ends and where control goes.
+fn places_by(mode: Mode, image: &[u8], p: u32, next: u32, flow: Flow) -> Places
+    requires { ⌜ (p < length (now image)) × (length (now image) ≤ 65536) ⌝ }
+    requires { ⌜ (fitsHere (now image) p ≡ true) × (next ≡ p + sizeHere (now image) p) × (flow ≡ flowOf (formHere (now image) p)) ⌝ }
+    ensures { λ r. ⌜ placesIn r ≡ waysHere mode (now (image .entry)) p ⌝ }
+{
+    match flow {
+        Flow::Stop => Places::Nothing,
+        Flow::Next => Places::First(next_place(mode, next)),
+        Flow::Jump => Places::First(address::place_at(mode, image, p, next)),
+        Flow::Branch => {
+            let to = address::place_at(mode, image, p, next);
+            Places::Both(to, next_place(mode, next))
+        }
+    }
+}
+
+pub fn ways_at(mode: Mode, image: &[u8], p: u32) -> Ways
+    ensures { λ r. ⌜ r ≡ waysOf mode (now (image .entry)) p ⌝ }
 {
     match opening::opening_at(image, p) {
-        Opening::Whole(next, flow) => Ways::Goes(places_by(image, p, next, flow)),
+        Opening::Whole(next, flow) => Ways::Goes(places_by(mode, image, p, next, flow)),
         Opening::Cut(c) => Ways::Cut(c),
         Opening::Outside => Ways::Outside,
     }

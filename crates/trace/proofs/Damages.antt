@@ -16,9 +16,10 @@ use Rattle.reach.specs.Tracer.{targets}
 use Rattle.reach.proofs.Exempt.{targets-plain, targets-exempt}
 use Rattle.marks.specs.Refusals.{damaged}
 use Rattle.trace.specs.Step.{damages, damageRefusals}
-use Rattle.marks.specs.Tracer.{tracerOf, exemptHere}
+use Rattle.marks.specs.Tracer.{exemptHere}
+use Rattle.marks.specs.Taken.{goingTo}
 use Rattle.instruction.proofs.Ands.{both, not-first, not-second}
-use Rattle.targets.specs.At.{flashHere, waysHere}
+use Rattle.targets.specs.At.{flashHere}
 
 abbrev pub damagedInside : ℕ → List ℕ → ℕ → Bool
 damagedInside n m t = ltb t n && damaged (getD m t 0)
@@ -46,31 +47,32 @@ pub sound-end : (n : ℕ) (m : List ℕ) → accepted tt ≡ judged n m []
 unfolding damages
 sound-end n m = sym (done tt)
 
-module _ (image m : List ℕ) (p : ℕ) where
+-- of a position with the targets ts
+module _ (image m ts : List ℕ) (p : ℕ) where
   abbrev before : ℕ
   before = getD m (p - 2) 0
 
   abbrev Is : Answer (Unit {0}) → Type 0
-  Is a = a ≡ judge (damageRefusals image m p) tt
+  Is a = a ≡ judge (damageRefusals image m p (targets (goingTo image ts) m p)) tt
 
   pub before-damaged : flashHere image p ≡ true → damaged before ≡ true → Is (refused 6 (pos (p - 2) ∷ []))
   unfolding damageRefusals
   before-damaged f d = sym (stop _ _ _ (both (flashHere image p) (damaged before) f d))
 
   -- where p - 2 has none, the targets decide
-  rest : (flashHere image p && damaged before) ≡ false → (ts : List ℕ) → targets (tracerOf image) m p ≡ ts → Is (judged (length image) m ts)
+  rest : (flashHere image p && damaged before) ≡ false → (us : List ℕ) → targets (goingTo image ts) m p ≡ us → Is (judged (length image) m us)
   unfolding damageRefusals
-  rest d ts e = sym (pass _ _ _ d ∙ ap (judged (length image) m) e)
+  rest d us e = sym (pass _ _ _ d ∙ ap (judged (length image) m) e)
 
   pub exempted : flashHere image p ≡ true → damaged before ≡ false → tracedMark before ≡ true → Is (accepted tt)
   unfolding exemptHere
   exempted f d t =
-      sound-end (length image) m ∙ rest (not-second (flashHere image p) (damaged before) d) [] (targets-exempt (tracerOf image) m p (both (flashHere image p) (tracedMark before) f t))
+      sound-end (length image) m ∙ rest (not-second (flashHere image p) (damaged before) d) [] (targets-exempt (goingTo image ts) m p (both (flashHere image p) (tracedMark before) f t))
 
   -- no such Jmpf, or p - 2 is neither damaged nor traced
-  pub by-ways : (flashHere image p ≡ false) ⊎ ((flashHere image p ≡ true) × (damaged before ≡ false) × (tracedMark before ≡ false)) → Is (judged (length image) m (waysHere image p))
+  pub by-ways : (flashHere image p ≡ false) ⊎ ((flashHere image p ≡ true) × (damaged before ≡ false) × (tracedMark before ≡ false)) → Is (judged (length image) m ts)
   unfolding exemptHere
   by-ways (inl f) =
-      rest (not-first (flashHere image p) (damaged before) f) (waysHere image p) (targets-plain (tracerOf image) m p (not-first (flashHere image p) (tracedMark before) f))
+      rest (not-first (flashHere image p) (damaged before) f) ts (targets-plain (goingTo image ts) m p (not-first (flashHere image p) (tracedMark before) f))
   by-ways (inr (f, d, t)) =
-      rest (not-second (flashHere image p) (damaged before) d) (waysHere image p) (targets-plain (tracerOf image) m p (not-second (flashHere image p) (tracedMark before) t))
+      rest (not-second (flashHere image p) (damaged before) d) ts (targets-plain (goingTo image ts) m p (not-second (flashHere image p) (tracedMark before) t))

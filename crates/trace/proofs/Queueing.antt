@@ -5,6 +5,7 @@ use mathlib.Core.List.{List}
 use Prim.Native.Nat.{ℕ, _+_, _≤_}
 use lib.ListN.{length}
 use lib.Seq.{sets}
+use Rattle.instruction.specs.declared.mode.Mode.{Mode}
 use Rattle.reach.specs.Note.{note, fresh}
 use Rattle.reach.specs.Queue.{Noted}
 use Rattle.reach.specs.Queue as queue
@@ -28,12 +29,12 @@ module _ (o : List ℕ) (t : ℕ) (o′ : List ℕ) (t′ : ℕ) (ps : List ℕ)
   pub noted-put : {n : ℕ} {ts m m′ : List ℕ} → (ps ≡ fresh n ts m) × (m′ ≡ note n ts m) → Noted n ts m o t m′ o′ t′
   noted-put {n} {ts} {m} a = record { marks-are = a .1; order-is = put-order (fresh n ts m) (a .0); tail-is = put-tail (fresh n ts m) (a .0) }
 
-pub taken-put : (image m : List ℕ) (p : ℕ) (r : Taken) (m′ o : List ℕ) (t : ℕ) (o′ : List ℕ) (t′ : ℕ) → TakenUp (tracerOf image) m p r m′ → Put o t (placesIn (r .noted)) o′ t′ → queue.TakenInOrder (tracerOf image) p m o t m′ o′ t′
-taken-put image m p r m′ o t o′ t′ T P =
+pub taken-put : (mode : Mode) (image m : List ℕ) (p : ℕ) (r : Taken) (m′ o : List ℕ) (t : ℕ) (o′ : List ℕ) (t′ : ℕ) → TakenUp (tracerOf mode image) m p r m′ → Put o t (placesIn (r .noted)) o′ t′ → queue.TakenInOrder (tracerOf mode image) p m o t m′ o′ t′
+taken-put mode image m p r m′ o t o′ t′ T P =
     record {
       marks-are = T .marks-are;
-      order-is = put-order o t o′ t′ (placesIn (r .noted)) P (found (tracerOf image) m p) (T .noted-are);
-      tail-is = put-tail o t o′ t′ (placesIn (r .noted)) P (found (tracerOf image) m p) (T .noted-are);
+      order-is = put-order o t o′ t′ (placesIn (r .noted)) P (found (tracerOf mode image) m p) (T .noted-are);
+      tail-is = put-tail o t o′ t′ (placesIn (r .noted)) P (found (tracerOf mode image) m p) (T .noted-are);
     }
 
 -- room for them

@@ -14,7 +14,8 @@ use Rattle.instruction.specs.CutOff.{cutValues}
 use Rattle.instruction.specs.declared.answer.CutOff.{CutOff}
 use Rattle.instruction.proofs.Judging.{pass, stop}
 use Rattle.instruction.specs.Decode.{cutAt}
-use Rattle.reach.specs.Tracer.{took}
+use Rattle.instruction.specs.declared.mode.Mode.{Mode}
+use Rattle.reach.specs.Tracer.{targets, took}
 use Rattle.marks.specs.Refusals.{damaged}
 use Rattle.trace.specs.Step.{idle, damageRefusals, stepRefusals, StepResult, stepResult, stepAnswer, stepMarks}
 use Rattle.marks.specs.Tracer.{tracerOf}
@@ -38,7 +39,7 @@ idle-marks v h w = by (eqb v 0) refl (eqb v 2) refl (eqb v 3) refl
 not-idle : (v : ℕ) → (v ≡ 0 → ⊥) → (v ≡ 2 → ⊥) → (v ≡ 3 → ⊥) → idle v ≡ false
 not-idle v a b c = rw (ne-eqb v 0 a, ne-eqb v 2 b, ne-eqb v 3 c)
 
-module _ (image m : List ℕ) (p : ℕ) where
+module _ (mode : Mode) (image m : List ℕ) (p : ℕ) where
   abbrev n : ℕ
   n = length image
 
@@ -46,7 +47,11 @@ module _ (image m : List ℕ) (p : ℕ) where
   v = getD m p 0
 
   abbrev Is : Answer StepResult → List ℕ → Type 0
-  Is r t = (r ≡ stepAnswer image m p) × (t ≡ stepMarks image m p)
+  Is r t = (r ≡ stepAnswer mode image m p) × (t ≡ stepMarks mode image m p)
+
+  -- those of the damaged marks besides p's own
+  abbrev damages-here : List Refusal
+  damages-here = damageRefusals image m p (targets (tracerOf mode image) m p)
 
   -- the refusals after 1 and 2
   abbrev later : List Refusal
@@ -55,32 +60,32 @@ module _ (image m : List ℕ) (p : ℕ) where
       ∷ refuse (idle v) 4 (pos v ∷ [])
       ∷ refuse (damaged v) 6 (pos p ∷ [])
       ∷ refuse (not (fitsHere image p)) 5 (cutValues (cutAt image p))
-      ∷ damageRefusals image m p
+      ∷ damages-here
 
-  held : (r : Answer StepResult) → stepAnswer image m p ≡ r → (t : List ℕ) → after r (took (tracerOf image) m p) m ≡ t → Is r t
+  held : (r : Answer StepResult) → stepAnswer mode image m p ≡ r → (t : List ℕ) → after r (took (tracerOf mode image) m p) m ≡ t → Is r t
   unfolding stepMarks
   held r e t f = (sym e, rw e (sym f))
 
   pub long : 65536 < n → Is (refused 1 (pos n ∷ [])) m
   unfolding stepAnswer stepRefusals
-  long h = held (refused 1 (pos n ∷ [])) (sizing.long-image image m later (stepResult image m p) h) m refl
+  long h = held (refused 1 (pos n ∷ [])) (sizing.long-image image m later (stepResult (tracerOf mode image) m p) h) m refl
 
   module _ (fits : n ≤ 65536) where
     pub short : length m < n → Is (refused 2 (pos (length m) ∷ [])) m
     unfolding stepAnswer stepRefusals
-    short h = held (refused 2 (pos (length m) ∷ [])) (sizing.short-marks image m later (stepResult image m p) fits h) m refl
+    short h = held (refused 2 (pos (length m) ∷ [])) (sizing.short-marks image m later (stepResult (tracerOf mode image) m p) fits h) m refl
 
     module _ (room : n ≤ length m) where
       pub outside : n ≤ p → Is (refused 4 (pos 0 ∷ [])) m
       unfolding stepAnswer stepRefusals
       outside h =
-          held (refused 4 (pos 0 ∷ [])) (sizing.right-sizes image m later (stepResult image m p) fits room ∙ stop _ _ _ (le-leb n p h)) m refl
+          held (refused 4 (pos 0 ∷ [])) (sizing.right-sizes image m later (stepResult (tracerOf mode image) m p) fits room ∙ stop _ _ _ (le-leb n p h)) m refl
 
       module _ (inside : p < n) where
         -- what follows the tests of the sizes and of the position
-        begun : stepAnswer image m p ≡ judge (refuse (idle v) 4 (pos v ∷ []) ∷ refuse (damaged v) 6 (pos p ∷ []) ∷ refuse (not (fitsHere image p)) 5 (cutValues (cutAt image p)) ∷ damageRefusals image m p) (stepResult image m p)
+        begun : stepAnswer mode image m p ≡ judge (refuse (idle v) 4 (pos v ∷ []) ∷ refuse (damaged v) 6 (pos p ∷ []) ∷ refuse (not (fitsHere image p)) 5 (cutValues (cutAt image p)) ∷ damages-here) (stepResult (tracerOf mode image) m p)
         unfolding stepAnswer stepRefusals
-        begun = sizing.right-sizes image m later (stepResult image m p) fits room ∙ pass _ _ _ (lt-leb n p inside)
+        begun = sizing.right-sizes image m later (stepResult (tracerOf mode image) m p) fits room ∙ pass _ _ _ (lt-leb n p inside)
 
         pub damaged-mark : 3 < v → Is (refused 6 (pos p ∷ [])) m
         damaged-mark h =
@@ -90,12 +95,12 @@ module _ (image m : List ℕ) (p : ℕ) where
         not-waiting h w = held (refused 4 (pos v ∷ [])) (begun ∙ stop _ _ _ (idle-marks v h w)) m refl
 
         module _ (waits : v ≡ 1) where
-          waiting : stepAnswer image m p ≡ judge (refuse (not (fitsHere image p)) 5 (cutValues (cutAt image p)) ∷ damageRefusals image m p) (stepResult image m p)
+          waiting : stepAnswer mode image m p ≡ judge (refuse (not (fitsHere image p)) 5 (cutValues (cutAt image p)) ∷ damages-here) (stepResult (tracerOf mode image) m p)
           waiting = begun ∙ pass _ _ _ (ap idle waits) ∙ pass _ _ _ (ap damaged waits)
 
           pub cut : (c : CutOff) → (fitsHere image p ≡ false) × (cutValues c ≡ cutValues (cutAt image p)) → Is (refused 5 (cutValues c)) m
           cut c h = held (refused 5 (cutValues c)) (waiting ∙ stop _ _ _ (rw (h .0)) ∙ ap (refused 5) (sym (h .1))) m refl
 
-          pub whole : fitsHere image p ≡ true → (r : Answer StepResult) (t : List ℕ) → Inner image m p r t → Is r t
+          pub whole : fitsHere image p ≡ true → (r : Answer StepResult) (t : List ℕ) → Inner (tracerOf mode image) image m p r t → Is r t
           unfolding stepMarks
-          whole f r t h = let e : stepAnswer image m p ≡ judge (damageRefusals image m p) (stepResult image m p) = waiting ∙ pass _ _ _ (rw f) in (h .0 ∙ sym e, rw e (h .1))
+          whole f r t h = let e : stepAnswer mode image m p ≡ judge (damages-here) (stepResult (tracerOf mode image) m p) = waiting ∙ pass _ _ _ (rw f) in (h .0 ∙ sym e, rw e (h .1))

@@ -10,7 +10,8 @@ use lib.ListN.{length, getD}
 use Rattle.instruction.specs.Answer.{Answer, accepted, refused, Refusal, refuse, judge, after}
 use Rattle.instruction.specs.CutOff.{cutValues}
 use Rattle.instruction.specs.Decode.{cutAt}
-use Rattle.reach.specs.Tracer.{targets, mark, took, found}
+use Rattle.instruction.specs.declared.mode.Mode.{Mode}
+use Rattle.reach.specs.Tracer.{Tracer, targets, mark, took, found}
 use Rattle.marks.specs.Refusals.{sizeRefusals, damaged}
 use Rattle.marks.specs.Tracer.{tracerOf}
 use Rattle.targets.specs.At.{fitsHere, flashHere}
@@ -28,19 +29,19 @@ unfoldable pub damages : ℕ → List ℕ → List ℕ → List Refusal
 damages n m [] = []
 damages n m (t ∷ ts) = refuse (ltb t n && damaged (getD m t 0)) 6 (pos t ∷ []) ∷ damages n m ts
 
--- 6 at p - 2, read only for a Jmpf with B8 0D before it; 6 at the targets in their order
-unfoldable pub damageRefusals : List ℕ → List ℕ → ℕ → List Refusal
-damageRefusals image m p =
-    refuse (flashHere image p && damaged (getD m (p - 2) 0)) 6 (pos (p - 2) ∷ []) ∷ damages (length image) m (targets (tracerOf image) m p)
+-- 6 at p - 2, read only for a Jmpf with B8 0D before it; 6 at the targets ts in their order
+unfoldable pub damageRefusals : List ℕ → List ℕ → ℕ → List ℕ → List Refusal
+damageRefusals image m p ts =
+    refuse (flashHere image p && damaged (getD m (p - 2) 0)) 6 (pos (p - 2) ∷ []) ∷ damages (length image) m ts
 
-unfoldable pub stepRefusals : List ℕ → List ℕ → ℕ → List Refusal
-stepRefusals image m p =
+unfoldable pub stepRefusals : Mode → List ℕ → List ℕ → ℕ → List Refusal
+stepRefusals mode image m p =
     sizeRefusals image m
     ++ (refuse (leb (length image) p) 4 (pos 0 ∷ [])
     ∷ refuse (idle (getD m p 0)) 4 (pos (getD m p 0) ∷ [])
     ∷ refuse (damaged (getD m p 0)) 6 (pos p ∷ [])
     ∷ refuse (not (fitsHere image p)) 5 (cutValues (cutAt image p))
-    ∷ damageRefusals image m p)
+    ∷ damageRefusals image m p (targets (tracerOf mode image) m p))
 
 -- the new mark, and how many became 1
 pub record StepResult : Type 0 where
@@ -60,19 +61,20 @@ steppedOf (NotWaiting v) = refused 4 (pos v ∷ [])
 steppedOf (Cut c) = refused 5 (cutValues c)
 steppedOf (Damaged q) = refused 6 (pos q ∷ [])
 
-abbrev pub stepResult : List ℕ → List ℕ → ℕ → StepResult
-stepResult image m p = record { mark = mark (tracerOf image) m p; waiting = length (found (tracerOf image) m p) }
+-- by a tracer
+abbrev pub stepResult : Tracer → List ℕ → ℕ → StepResult
+stepResult G m p = record { mark = mark G m p; waiting = length (found G m p) }
 
-unfoldable pub stepAnswer : List ℕ → List ℕ → ℕ → Answer StepResult
-stepAnswer image m p = judge (stepRefusals image m p) (stepResult image m p)
+unfoldable pub stepAnswer : Mode → List ℕ → List ℕ → ℕ → Answer StepResult
+stepAnswer mode image m p = judge (stepRefusals mode image m p) (stepResult (tracerOf mode image) m p)
 
 -- the position taken up; a refused step changes nothing
-unfoldable pub stepMarks : List ℕ → List ℕ → ℕ → List ℕ
-stepMarks image m p = after (stepAnswer image m p) (took (tracerOf image) m p) m
+unfoldable pub stepMarks : Mode → List ℕ → List ℕ → ℕ → List ℕ
+stepMarks mode image m p = after (stepAnswer mode image m p) (took (tracerOf mode image) m p) m
 
--- of the inner function that steps at a waiting position whose instruction is whole
-abbrev pub wholeAnswer : List ℕ → List ℕ → ℕ → Answer StepResult
-wholeAnswer image m p = judge (damageRefusals image m p) (stepResult image m p)
+-- of the inner function that steps at a waiting position whose instruction is whole, by the tracer that has its targets
+abbrev pub wholeAnswer : Tracer → List ℕ → List ℕ → ℕ → Answer StepResult
+wholeAnswer G image m p = judge (damageRefusals image m p (targets G m p)) (stepResult G m p)
 
-abbrev pub wholeMarks : List ℕ → List ℕ → ℕ → List ℕ
-wholeMarks image m p = after (wholeAnswer image m p) (took (tracerOf image) m p) m
+abbrev pub wholeMarks : Tracer → List ℕ → List ℕ → ℕ → List ℕ
+wholeMarks G image m p = after (wholeAnswer G image m p) (took G m p) m

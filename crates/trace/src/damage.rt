@@ -9,7 +9,8 @@ ghost use Rattle.instruction.specs.Answer.{judge};
 ghost use Rattle.marks.specs.Refusals.{damaged};
 ghost use Rattle.trace.specs.Step.{damages, damageRefusals, damageOf};
 ghost use Rattle.targets.specs.Ways.{placesIn};
-ghost use Rattle.targets.specs.At.{waysHere};
+ghost use Rattle.reach.specs.Tracer.{targets};
+ghost use Rattle.marks.specs.Taken.{goingTo};
 use marks::Mark;
 use targets::Places;
 
@@ -60,8 +61,12 @@ fn damage_all(marks: &[u8], n: usize, ps: Places) -> Damage
 
 // The first damaged mark that a step at p would read besides p's own, where these are the targets.
 pub fn find_damage(image: &[u8], marks: &[u8], p: u32, to: Places) -> Damage
-    requires { ⌜ (p < length (now image)) × (length (now image) ≤ length (now marks)) × (placesIn to ≡ waysHere (now image) p) ⌝ }
-    ensures { λ r. ⌜ damageOf r ≡ judge (damageRefusals (now (image .entry)) (now (marks .entry)) p) tt ⌝ }
+    requires { ⌜ (p < length (now image)) × (length (now image) ≤ length (now marks)) ⌝ }
+    ensures { λ r.
+        ⌜ damageOf r
+        ≡ judge
+        (damageRefusals (now (image .entry)) (now (marks .entry)) p (targets (goingTo (now (image .entry)) (placesIn to)) (now (marks .entry)) p))
+        tt ⌝ }
 {
     if marks::is_flash(image, p) {
         let before = marks[p as usize - 2];

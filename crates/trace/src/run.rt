@@ -9,6 +9,7 @@ ghost use Rattle.trace.specs.Run.{ranOf, runAnswer, runMarks, runOrder, 
 ghost use Rattle.marks.specs.Tracer.{tracerOf};
 use crate::queue;
 use instruction::CutOff;
+use instruction::Mode;
 use targets::Image;
 use targets::Ways;
 
@@ -48,12 +49,19 @@ enum TookNext {
 }
 
 // Takes up p, the next of the queue, and writes what it found at the list's end.
-fn take_next(image: &[u8], marks: &mut [u8], order: &mut [u32], p: u32, tail: usize) -> TookNext
+fn take_next(
+    mode: Mode,
+    image: &[u8],
+    marks: &mut [u8],
+    order: &mut [u32],
+    p: u32,
+    tail: usize,
+) -> TookNext
     requires { ⌜ (p < length (now image)) × (length (now image) ≤ 65536) × (length (now image) ≤ length (now marks)) ⌝ }
-    requires { ⌜ tail + length (found (tracerOf (now image)) (now marks) p) ≤ length (now order) ⌝ }
-    ensures { λ r. ⌜ NextTaken (now (image .entry)) (now (marks .entry)) (now (order .entry)) p tail r (now (marks .exit)) (now (order .exit)) ⌝ }
+    requires { ⌜ tail + length (found (tracerOf mode (now image)) (now marks) p) ≤ length (now order) ⌝ }
+    ensures { λ r. ⌜ NextTaken mode (now (image .entry)) (now (marks .entry)) (now (order .entry)) p tail r (now (marks .exit)) (now (order .exit)) ⌝ }
 {
-    match targets::ways_at(image, p) {
+    match targets::ways_at(mode, image, p) {
         Ways::Goes(to) => {
             let taken = marks::take_up(image, marks, p, to);
             let noted = taken.noted;
@@ -65,10 +73,17 @@ fn take_next(image: &[u8], marks: &mut [u8], order: &mut [u32], p: u32, tail: us
 }
 
 // A run where the sizes are right.
-fn run_on(image: &[u8], marks: &mut [u8], order: &mut [u32], entries: &[u32], limit: u32) -> Ran
+fn run_on(
+    mode: Mode,
+    image: &[u8],
+    marks: &mut [u8],
+    order: &mut [u32],
+    entries: &[u32],
+    limit: u32,
+) -> Ran
     requires { ⌜ (length (now image) ≤ 65536) × (length (now image) ≤ length (now marks)) × (length (now image) ≤ length (now order)) ⌝ }
     ensures { λ r.
-        ⌜ RanTo (now (image .entry)) (now (marks .entry)) (now (order .entry)) (now (entries .entry)) limit r (now (marks .exit)) (now (order .exit)) ⌝ }
+        ⌜ RanTo mode (now (image .entry)) (now (marks .entry)) (now (order .entry)) (now (entries .entry)) limit r (now (marks .exit)) (now (order .exit)) ⌝ }
 {
     let n = image.len();
     marks::clear(marks, n);
@@ -80,7 +95,7 @@ fn run_on(image: &[u8], marks: &mut [u8], order: &mut [u32], entries: &[u32], li
             return Ran::Stopped(Counts::new(head as u32, tail as u32));
         }
         let p = order[head];
-        match take_next(image, marks, order, p, tail) {
+        match take_next(mode, image, marks, order, p, tail) {
             TookNext::On(t) => tail = t,
             TookNext::Off(c) => return Ran::Cut(c),
         }
@@ -90,10 +105,17 @@ fn run_on(image: &[u8], marks: &mut [u8], order: &mut [u32], entries: &[u32], li
 }
 
 // A run from the entries, for at most limit steps.
-pub fn run(image: &[u8], marks: &mut [u8], order: &mut [u32], entries: &[u32], limit: u32) -> Ran
-    ensures { λ r. ⌜ ranOf r ≡ runAnswer (now (image .entry)) (now (marks .entry)) (now (order .entry)) (now (entries .entry)) limit ⌝ }
-    ensures { λ _. ⌜ now (marks .exit) ≡ runMarks (now (image .entry)) (now (marks .entry)) (now (order .entry)) (now (entries .entry)) limit ⌝ }
-    ensures { λ _. ⌜ now (order .exit) ≡ runOrder (now (image .entry)) (now (marks .entry)) (now (order .entry)) (now (entries .entry)) limit ⌝ }
+pub fn run(
+    mode: Mode,
+    image: &[u8],
+    marks: &mut [u8],
+    order: &mut [u32],
+    entries: &[u32],
+    limit: u32,
+) -> Ran
+    ensures { λ r. ⌜ ranOf r ≡ runAnswer mode (now (image .entry)) (now (marks .entry)) (now (order .entry)) (now (entries .entry)) limit ⌝ }
+    ensures { λ _. ⌜ now (marks .exit) ≡ runMarks mode (now (image .entry)) (now (marks .entry)) (now (order .entry)) (now (entries .entry)) limit ⌝ }
+    ensures { λ _. ⌜ now (order .exit) ≡ runOrder mode (now (image .entry)) (now (marks .entry)) (now (order .entry)) (now (entries .entry)) limit ⌝ }
     ensures { λ r. ⌜ StepsTied (now (image .entry)) r (now (marks .exit)) ⌝ }
 {
     let n = image.len();
@@ -106,5 +128,5 @@ pub fn run(image: &[u8], marks: &mut [u8], order: &mut [u32], entries: &[u32], l
     if order.len() < n {
         return Ran::ShortOrder(order.len());
     }
-    run_on(image, marks, order, entries, limit)
+    run_on(mode, image, marks, order, entries, limit)
 }

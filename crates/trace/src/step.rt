@@ -4,10 +4,11 @@ ghost use Prim.Native.Nat.{_≤_, _<_};
 ghost use lib.ListN.{length};
 ghost use Rattle.trace.specs.Step.{steppedOf, stepAnswer, stepMarks, wholeAnswer, wholeMarks};
 ghost use Rattle.targets.specs.Ways.{placesIn};
-ghost use Rattle.targets.specs.At.{waysHere};
+ghost use Rattle.marks.specs.Taken.{goingTo};
 use crate::damage;
 use crate::damage::Damage;
 use instruction::CutOff;
+use instruction::Mode;
 use marks::Mark;
 use targets::Image;
 use targets::Places;
@@ -54,9 +55,9 @@ fn count(noted: Places) -> u32
 
 // A step at a waiting position with these targets.
 fn step_whole(image: &[u8], marks: &mut [u8], p: u32, to: Places) -> Stepped
-    requires { ⌜ (p < length (now image)) × (length (now image) ≤ length (now marks)) × (placesIn to ≡ waysHere (now image) p) ⌝ }
-    ensures { λ r. ⌜ steppedOf r ≡ wholeAnswer (now (image .entry)) (now (marks .entry)) p ⌝ }
-    ensures { λ _. ⌜ now (marks .exit) ≡ wholeMarks (now (image .entry)) (now (marks .entry)) p ⌝ }
+    requires { ⌜ (p < length (now image)) × (length (now image) ≤ length (now marks)) ⌝ }
+    ensures { λ r. ⌜ steppedOf r ≡ wholeAnswer (goingTo (now (image .entry)) (placesIn to)) (now (image .entry)) (now (marks .entry)) p ⌝ }
+    ensures { λ _. ⌜ now (marks .exit) ≡ wholeMarks (goingTo (now (image .entry)) (placesIn to)) (now (image .entry)) (now (marks .entry)) p ⌝ }
 {
     if let Damage::At(q) = damage::find_damage(image, marks, p, to) {
         return Stepped::Damaged(q);
@@ -67,9 +68,9 @@ fn step_whole(image: &[u8], marks: &mut [u8], p: u32, to: Places) -> Stepped
 }
 
 // Takes up one waiting position.
-pub fn step(image: &[u8], marks: &mut [u8], p: u32) -> Stepped
-    ensures { λ r. ⌜ steppedOf r ≡ stepAnswer (now (image .entry)) (now (marks .entry)) p ⌝ }
-    ensures { λ _. ⌜ now (marks .exit) ≡ stepMarks (now (image .entry)) (now (marks .entry)) p ⌝ }
+pub fn step(mode: Mode, image: &[u8], marks: &mut [u8], p: u32) -> Stepped
+    ensures { λ r. ⌜ steppedOf r ≡ stepAnswer mode (now (image .entry)) (now (marks .entry)) p ⌝ }
+    ensures { λ _. ⌜ now (marks .exit) ≡ stepMarks mode (now (image .entry)) (now (marks .entry)) p ⌝ }
 {
     let n = image.len();
     if Image::LIMIT < n {
@@ -89,7 +90,7 @@ pub fn step(image: &[u8], marks: &mut [u8], p: u32) -> Stepped
     if mark != Mark::WAITING {
         return Stepped::NotWaiting(mark);
     }
-    match targets::ways_at(image, p) {
+    match targets::ways_at(mode, image, p) {
         Ways::Goes(to) => step_whole(image, marks, p, to),
         Ways::Cut(c) => Stepped::Cut(c),
         Ways::Outside => Stepped::NotWaiting(0),

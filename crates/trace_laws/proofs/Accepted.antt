@@ -19,14 +19,15 @@ use Rattle.trace.specs.Step.{idle, damages, damageRefusals, stepRefusals, StepR
 use Rattle.marks.specs.Tracer.{tracerOf}
 use Rattle.targets.specs.At.{fitsHere, flashHere}
 use Rattle.instruction.proofs.Ands.{not-second}
+use Rattle.instruction.specs.declared.mode.Mode.{Mode}
 use Rattle.trace.proofs.StepAnswers.{idle-marks, whole}
 
 -- what an accepted step says
-pub record Went (image m : List ℕ) (p : ℕ) : Type 0 where
+pub record Went (mode : Mode) (image m : List ℕ) (p : ℕ) : Type 0 where
   pub small : length image ≤ 65536
   pub room : length image ≤ length m
-  pub ready : Ready (tracerOf image) m p
-  pub marks : stepMarks image m p ≡ took (tracerOf image) m p
+  pub ready : Ready (tracerOf mode image) m p
+  pub marks : stepMarks mode image m p ≡ took (tracerOf mode image) m p
 
 waits : (v : ℕ) → idle v ≡ false → v ≤ 3 → v ≡ 1
 waits v i h = by (eqb v 1) refl
@@ -39,9 +40,9 @@ fitted : (b : Bool) → not b ≡ false → b ≡ true
 fitted true e = refl
 fitted false e = absurd (never e)
 
-pub went : (image m : List ℕ) (p : ℕ) (s : StepResult) → stepAnswer image m p ≡ accepted s → Went image m p
+pub went : (mode : Mode) (image m : List ℕ) (p : ℕ) (s : StepResult) → stepAnswer mode image m p ≡ accepted s → Went mode image m p
 unfolding stepAnswer stepRefusals stepMarks
-went image m p s e =
+went mode image m p s e =
     let a = passed _ _ _ e in
     let b = passed _ _ _ (a .1) in
     let c = passed _ _ _ (b .1) in
@@ -53,14 +54,14 @@ went image m p s e =
       small = ltb-false 65536 (length image) (a .0);
       room = ltb-false (length m) (length image) (b .0);
       ready = record { inside = inside; waits = waits (getD m p 0) (d .0) (ltb-false 3 (getD m p 0) (f .0)); whole = fitted (fitsHere image p) (g .0) };
-      marks = ap (λ (r : Answer StepResult). after r (took (tracerOf image) m p) m) e;
+      marks = ap (λ (r : Answer StepResult). after r (took (tracerOf mode image) m p) m) e;
     }
 
 -- no mark inside is over 3
 abbrev pub Sound : List ℕ → List ℕ → Type 0
 Sound image m = (q : ℕ) → q < length image → getD m q 0 ≤ 3
 
-module _ (image m : List ℕ) (S : Sound image m) where
+module _ (mode : Mode) (image m : List ℕ) (S : Sound image m) where
   no-damage : {A : Type 0} (a : A) (ts : List ℕ) → judge (damages (length image) m ts) a ≡ accepted a
   unfolding damages
   no-damage a [] = done a
@@ -70,12 +71,12 @@ module _ (image m : List ℕ) (S : Sound image m) where
       by true e = not-second (ltb t (length image)) (damaged (getD m t 0)) (le-ltb 3 (getD m t 0) (S t (ltb-true t (length image) e)))
       by false e = rw e
 
-  sound-said : (p : ℕ) → p < length image → judge (damageRefusals image m p) (stepResult image m p) ≡ accepted (stepResult image m p)
+  sound-said : (p : ℕ) → p < length image → judge (damageRefusals image m p (targets (tracerOf mode image) m p)) (stepResult (tracerOf mode image) m p) ≡ accepted (stepResult (tracerOf mode image) m p)
   unfolding damageRefusals
   sound-said p h =
       let k : p - 2 < length image = omega arith in
-      pass _ _ _ (not-second (flashHere image p) (damaged (getD m (p - 2) 0)) (le-ltb 3 (getD m (p - 2) 0) (S (p - 2) k))) ∙ no-damage (stepResult image m p) (targets (tracerOf image) m p)
+      pass _ _ _ (not-second (flashHere image p) (damaged (getD m (p - 2) 0)) (le-ltb 3 (getD m (p - 2) 0) (S (p - 2) k))) ∙ no-damage (stepResult (tracerOf mode image) m p) (targets (tracerOf mode image) m p)
 
-  pub ready-accepted : length image ≤ 65536 → length image ≤ length m → (p : ℕ) → Ready (tracerOf image) m p → stepAnswer image m p ≡ accepted (stepResult image m p)
+  pub ready-accepted : length image ≤ 65536 → length image ≤ length m → (p : ℕ) → Ready (tracerOf mode image) m p → stepAnswer mode image m p ≡ accepted (stepResult (tracerOf mode image) m p)
   ready-accepted s l p r =
-      sym (whole image m p s l (r .inside) (r .waits) (r .whole) (accepted (stepResult image m p)) _ (sym (sound-said p (r .inside)), refl) .0)
+      sym (whole mode image m p s l (r .inside) (r .waits) (r .whole) (accepted (stepResult (tracerOf mode image) m p)) _ (sym (sound-said p (r .inside)), refl) .0)

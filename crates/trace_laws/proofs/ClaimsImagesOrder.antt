@@ -9,6 +9,7 @@ use lib.ListN.{length, getD}
 use borrow.Author.Tests.{ltb-false}
 use Rattle.instruction.specs.Answer.{Answer, accepted, after}
 use Rattle.instruction.proofs.Accepting.{passed}
+use Rattle.instruction.specs.declared.mode.Mode.{Mode}
 use Rattle.reach.specs.Mark.{cleared, IsTraced}
 use Rattle.reach.specs.Note.{note}
 use Rattle.reach.specs.Takes.{Takes, stay, up, ToEnd}
@@ -29,22 +30,22 @@ use Rattle.trace_laws.proofs.Accepted.{went, Sound, ready-accepted}
 use Rattle.trace_laws.proofs.Unflashed.{plain}
 
 -- accepted steps take positions up
-takes : (image : List ℕ) {m ps m′ : List ℕ} → claims.Steps image m ps m′ → Takes (tracerOf image) m ps m′
-takes image claims.stay = stay
-takes image (claims.further {m} {m′} {ps} {p} {s} e rest) =
-    let w = went image m p s e in up (w .ready) (subst (λ (x : List ℕ). Takes (tracerOf image) x ps m′) (w .marks) (takes image rest))
+takes : (mode : Mode) (image : List ℕ) {m ps m′ : List ℕ} → claims.Steps mode image m ps m′ → Takes (tracerOf mode image) m ps m′
+takes mode image claims.stay = stay
+takes mode image (claims.further {m} {m′} {ps} {p} {s} e rest) =
+    let w = went mode image m p s e in up (w .ready) (subst (λ (x : List ℕ). Takes (tracerOf mode image) x ps m′) (w .marks) (takes mode image rest))
 
 -- marks that start and steps leave are not damaged
-module _ (image : List ℕ) where
+module _ (mode : Mode) (image : List ℕ) where
   traced-small : (v : ℕ) → IsTraced v → v ≤ 3
   traced-small v (inl e) = omega arith
   traced-small v (inr e) = omega arith
 
-  took-sound : (m : List ℕ) (p : ℕ) → length image ≤ length m → p < length image → Sound image m → Sound image (took (tracerOf image) m p)
-  took-sound m p l h S q k = by (moved (tracerOf image) m p q l h)
+  took-sound : (m : List ℕ) (p : ℕ) → length image ≤ length m → p < length image → Sound image m → Sound image (took (tracerOf mode image) m p)
+  took-sound m p l h S q k = by (moved (tracerOf mode image) m p q l h)
     where
-      by : Moved (tracerOf image) m p q → getD (took (tracerOf image) m p) q 0 ≤ 3
-      by (itself e f) = rw f (traced-small _ (mark-traced (tracerOf image) m p))
+      by : Moved (tracerOf mode image) m p q → getD (took (tracerOf mode image) m p) q 0 ≤ 3
+      by (itself e f) = rw f (traced-small _ (mark-traced (tracerOf mode image) m p))
       by (kept e f g) = rw g (S q k)
       by (called e f g i) = rw i (omega arith)
 
@@ -56,10 +57,10 @@ module _ (image : List ℕ) where
       by (newly f g e) = rw e (omega arith)
 
   -- along takings
-  sound-along : {m ps m′ : List ℕ} → Takes (tracerOf image) m ps m′ → length image ≤ length m → Sound image m → (length image ≤ length m′) × Sound image m′
+  sound-along : {m ps m′ : List ℕ} → Takes (tracerOf mode image) m ps m′ → length image ≤ length m → Sound image m → (length image ≤ length m′) × Sound image m′
   sound-along stay l S = (l, S)
   sound-along (up {m} {m′} {ps} {p} r rest) l S =
-      sound-along rest (omega (arith, length-took (tracerOf image) m p)) (took-sound m p l (r .inside) S)
+      sound-along rest (omega (arith, length-took (tracerOf mode image) m p)) (took-sound m p l (r .inside) S)
 
 -- an accepted start
 pub record Began (image marks entries : List ℕ) : Type 0 where
@@ -78,26 +79,26 @@ began image marks entries k e =
       marks-are = ap (λ (r : Answer ℕ). after r (note (length image) entries (cleared (length image) marks)) marks) e;
     }
 
-to-end : (image marks entries m : List ℕ) → claims.StepsToEnd image marks entries m → ToEnd (tracerOf image) (cleared (length image) marks) entries m
-to-end image marks entries m T =
+to-end : (mode : Mode) (image marks entries m : List ℕ) → claims.StepsToEnd mode image marks entries m → ToEnd (tracerOf mode image) (cleared (length image) marks) entries m
+to-end mode image marks entries m T =
     let s = began image marks entries (T .count) (T .started) in
-    let t : Takes (tracerOf image) (note (length image) entries (cleared (length image) marks)) (T .order) m = subst (λ (x : List ℕ). Takes (tracerOf image) x (T .order) m) (s .marks-are) (takes image (T .steps)) in
+    let t : Takes (tracerOf mode image) (note (length image) entries (cleared (length image) marks)) (T .order) m = subst (λ (x : List ℕ). Takes (tracerOf mode image) x (T .order) m) (s .marks-are) (takes mode image (T .steps)) in
     let l : length image ≤ length (note (length image) entries (cleared (length image) marks)) = omega (arith, length-note (length image) entries (cleared (length image) marks), length-cleared (length image) marks (s .room), s .room) in
-    let z = sound-along image t l (start-sound image marks entries (s .room)) in
-    record { order = T .order; takes = t; ended = λ p r. T .still p (stepResult image m p) (ready-accepted image m (z .1) (s .small) (z .0) p r) }
+    let z = sound-along mode image t l (start-sound mode image marks entries (s .room)) in
+    record { order = T .order; takes = t; ended = λ p r. T .still p (stepResult (tracerOf mode image) m p) (ready-accepted mode image m (z .1) (s .small) (z .0) p r) }
 
 pub image-any-order : claims.ImageAnyOrder
-image-any-order image marks entries m B C T =
-    any-order (tracerOf image) (plain image B C) (cleared (length image) marks) entries m (cleared-base (tracerOf image) marks (began image marks entries (T .count) (T .started) .room)) (to-end image marks entries m T)
+image-any-order mode image marks entries m B C T =
+    any-order (tracerOf mode image) (plain mode image B C) (cleared (length image) marks) entries m (cleared-base (tracerOf mode image) marks (began image marks entries (T .count) (T .started) .room)) (to-end mode image marks entries m T)
 
 pub image-same-marks : claims.ImageSameMarks
-image-same-marks image marks entries m m′ B C T U =
-    one-final (tracerOf image) (cleared (length image) marks) entries m m′ (image-any-order image marks entries m B C T) (image-any-order image marks entries m′ B C U)
+image-same-marks mode image marks entries m m′ B C T U =
+    one-final (tracerOf mode image) (cleared (length image) marks) entries m m′ (image-any-order mode image marks entries m B C T) (image-any-order mode image marks entries m′ B C U)
 
 pub image-steps-bound : claims.ImageStepsBound
-image-steps-bound image m m′ ps l S = takes-bound (tracerOf image) m m′ ps l (takes image S)
+image-steps-bound mode image m m′ ps l S = takes-bound (tracerOf mode image) m m′ ps l (takes mode image S)
 
 pub image-run-final : claims.ImageRunFinal
 unfolding outcomeOf
-image-run-final image marks entries limit B C l e =
-    run-final limit (tracerOf image) entries (cleared (length image) marks) (plain image B C) (cleared-base (tracerOf image) marks l) e
+image-run-final mode image marks entries limit B C l e =
+    run-final limit (tracerOf mode image) entries (cleared (length image) marks) (plain mode image B C) (cleared-base (tracerOf mode image) marks l) e

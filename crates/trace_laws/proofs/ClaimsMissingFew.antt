@@ -45,13 +45,13 @@ cut-short false e = refl
 
 pub step-missing : StepMissing
 unfolding stepAnswer stepRefusals damageRefusals
-step-missing image m p vs bytes e =
+step-missing mode image m p vs bytes e =
     let a = other-passed _ _ _ 5 vs e (λ f. let g : _≡_ {A = ℕ} 1 5 = f in omega arith) in
     let b = other-passed _ _ _ 5 vs (a .1) (λ f. let g : _≡_ {A = ℕ} 2 5 = f in omega arith) in
     let c = other-passed _ _ _ 5 vs (b .1) (λ f. let g : _≡_ {A = ℕ} 4 5 = f in omega arith) in
     let d = other-passed _ _ _ 5 vs (c .1) (λ f. let g : _≡_ {A = ℕ} 4 5 = f in omega arith) in
     let h = other-passed _ _ _ 5 vs (d .1) (λ f. let g : _≡_ {A = ℕ} 6 5 = f in omega arith) in
-    let k = this-spoke _ _ _ 5 vs (h .1) (λ f. only-six (length image) m (targets (tracerOf image) m p) _ vs (other-passed _ _ _ 5 vs f (λ l. let g : _≡_ {A = ℕ} 6 5 = l in omega arith) .1)) in
+    let k = this-spoke _ _ _ 5 vs (h .1) (λ f. only-six (length image) m (targets (tracerOf mode image) m p) _ vs (other-passed _ _ _ 5 vs f (λ l. let g : _≡_ {A = ℕ} 6 5 = l in omega arith) .1)) in
     subst OneOrTwo (k .1) (few image p bytes (leb-false (length image) p (c .0)) (cut-short (fitsHere image p) (k .0)))
 
 -- sizes that are right are not refused
@@ -64,22 +64,22 @@ judged image marks order vs e =
 
 pub run-missing : RunMissing
 unfolding runAnswer outcomeOf
-run-missing image marks order entries limit vs bytes e = by (runJudged image marks order) refl
+run-missing mode image marks order entries limit vs bytes e = by (runJudged image marks order) refl
   where
-    ends : length image ≤ length marks → (d : End) → outcomeOf image marks entries limit .end ≡ d → (s n : ℕ) → endOf image d s n ≡ refused 5 vs → OneOrTwo vs
+    ends : length image ≤ length marks → (d : End) → outcomeOf mode image marks entries limit .end ≡ d → (s n : ℕ) → endOf image d s n ≡ refused 5 vs → OneOrTwo vs
     ends room finished f s n g = absurd (let z : _≡_ {A = ℕ} 0 1 = cc in omega arith)
     ends room stopped f s n g = absurd (let z : _≡_ {A = ℕ} 0 1 = cc in omega arith)
     ends room (cutOff p) f s n g =
-        let c = run-ending limit (tracerOf image) entries (cleared (length image) marks) (cleared-base (tracerOf image) marks room) .when-cut p f in
+        let c = run-ending limit (tracerOf mode image) entries (cleared (length image) marks) (cleared-base (tracerOf mode image) marks room) .when-cut p f in
         let h : cutValues (cutAt image p) ≡ vs = cc in subst OneOrTwo h (few image p bytes (c .inside) (c .cut))
 
     by : (j : Answer (Unit {0})) → runJudged image marks order ≡ j → OneOrTwo vs
     by (accepted u) f =
         let a = passed _ _ _ f in
         let b = passed _ _ _ (a .1) in
-        let out = outcomeOf image marks entries limit in
+        let out = outcomeOf mode image marks entries limit in
         let g : ranAnswer image out ≡ refused 5 vs = ap (λ (j : Answer (Unit {0})). andThen j (ranAnswer image out)) (sym f) ∙ e in
         ends (ltb-false (length marks) (length image) (b .0)) (out .end) refl (steps out) (length (noted out)) g
     by (refused n ws) f =
-        let g : refused n ws ≡ refused 5 vs = ap (λ (j : Answer (Unit {0})). andThen j (ranAnswer image (outcomeOf image marks entries limit))) (sym f) ∙ e in
+        let g : refused n ws ≡ refused 5 vs = ap (λ (j : Answer (Unit {0})). andThen j (ranAnswer image (outcomeOf mode image marks entries limit))) (sym f) ∙ e in
         let h : n ≡ 5 = cc in let k : ws ≡ vs = cc in absurd (judged image marks order vs (f ∙ (let l : _≡_ {A = Answer (Unit {0})} (refused n ws) (refused 5 vs) = cc in l)))

@@ -13,6 +13,7 @@ use Rattle.instruction.specs.Decode.{cutAt}
 use Rattle.instruction.specs.CutOff.{cutValues}
 use Rattle.instruction.proofs.Accepting.{passed, ended, differ}
 use Rattle.instruction.proofs.Judging.{pass, done}
+use Rattle.instruction.specs.declared.mode.Mode.{Mode}
 use Rattle.reach.specs.Mark.{tracedMark, count, cleared}
 use Rattle.reach.specs.Note.{note, fresh}
 use Rattle.reach.specs.Run.{End, finished, stopped, cutOff, steps, noted}
@@ -32,7 +33,7 @@ use Rattle.trace_laws.proofs.Finished as finish
 use Rattle.trace_laws.proofs.Unflashed.{plain}
 
 -- where the sizes are right, the engine starts as start does and sweeps
-module _ (image marks entries : List ℕ) (small : length image ≤ 65536) (room : length image ≤ length marks) where
+module _ (mode : Mode) (image marks entries : List ℕ) (small : length image ≤ 65536) (room : length image ≤ length marks) where
   abbrev begun : List ℕ
   begun = note (length image) entries (cleared (length image) marks)
 
@@ -43,32 +44,32 @@ module _ (image marks entries : List ℕ) (small : length image ≤ 65536) (room
       (pass _ _ (length (fresh (length image) entries (cleared (length image) marks))) (le-ltb 65536 (length image) small)
       ∙ pass _ _ _ (le-ltb (length marks) (length image) room) ∙ done _)
 
-  swept : sweepAnswer image marks entries ≡ accepted (sweepResult image (startMarks image marks entries))
+  swept : sweepAnswer mode image marks entries ≡ accepted (sweepResult mode image (startMarks image marks entries))
   unfolding sweepAnswer
   swept = pass _ _ _ (le-ltb 65536 (length image) small) ∙ pass _ _ _ (le-ltb (length marks) (length image) room) ∙ done _
 
-  leaves : sweepLeaves image marks entries ≡ sweptMarks (tracerOf image) (startMarks image marks entries)
+  leaves : sweepLeaves mode image marks entries ≡ sweptMarks (tracerOf mode image) (startMarks image marks entries)
   unfolding sweepLeaves
-  leaves = ap (λ (r : Answer SweepResult). after r (sweptMarks (tracerOf image) (startMarks image marks entries)) marks) swept
+  leaves = ap (λ (r : Answer SweepResult). after r (sweptMarks (tracerOf mode image) (startMarks image marks entries)) marks) swept
 
   -- it is the sweeps of the image's tracer
-  pub leaves-sweeps : sweepLeaves image marks entries ≡ sweepsOf (suc (length image)) (tracerOf image) entries (cleared (length image) marks)
+  pub leaves-sweeps : sweepLeaves mode image marks entries ≡ sweepsOf (suc (length image)) (tracerOf mode image) entries (cleared (length image) marks)
   unfolding sweptMarks
-  leaves-sweeps = leaves ∙ ap (sweptMarks (tracerOf image)) start-is
+  leaves-sweeps = leaves ∙ ap (sweptMarks (tracerOf mode image)) start-is
 
   start-long : length image ≤ length (startMarks image marks entries)
   start-long =
       let e = ap length start-is in
       omega (arith, e, length-note (length image) entries (cleared (length image) marks), length-cleared (length image) marks room)
 
-  each : EachTakes (tracerOf image) (startMarks image marks entries) (sweepLeaves image marks entries) (sweeps (tracerOf image) (startMarks image marks entries))
+  each : EachTakes (tracerOf mode image) (startMarks image marks entries) (sweepLeaves mode image marks entries) (sweeps (tracerOf mode image) (startMarks image marks entries))
   each =
-      subst (λ (m : List ℕ). EachTakes (tracerOf image) (startMarks image marks entries) m (sweeps (tracerOf image) (startMarks image marks entries)))
-      (sym leaves) (sweeps-each (tracerOf image) (startMarks image marks entries) start-long)
+      subst (λ (m : List ℕ). EachTakes (tracerOf mode image) (startMarks image marks entries) m (sweeps (tracerOf mode image) (startMarks image marks entries)))
+      (sym leaves) (sweeps-each (tracerOf mode image) (startMarks image marks entries) start-long)
 
 -- ---- what an accepted call says
 
-module _ (image marks entries : List ℕ) (s : SweepResult) (e : sweepAnswer image marks entries ≡ accepted s) where
+module _ (mode : Mode) (image marks entries : List ℕ) (s : SweepResult) (e : sweepAnswer mode image marks entries ≡ accepted s) where
   pub small-image : length image ≤ 65536
   unfolding sweepAnswer
   small-image = ltb-false 65536 (length image) (passed _ _ _ e .0)
@@ -77,63 +78,63 @@ module _ (image marks entries : List ℕ) (s : SweepResult) (e : sweepAnswer ima
   unfolding sweepAnswer
   long-marks = ltb-false (length marks) (length image) (passed _ _ _ (passed _ _ _ e .1) .0)
 
-  result-is : sweepResult image (startMarks image marks entries) ≡ s
+  result-is : sweepResult mode image (startMarks image marks entries) ≡ s
   unfolding sweepAnswer
   result-is = ended _ (passed _ _ _ (passed _ _ _ e .1) .1)
 
 pub image-sweep-steps : claims.ImageSweepSteps
 unfolding sweptSteps
-image-sweep-steps image marks entries s e =
-    ap (λ (r : SweepResult). r .steps) (sym (result-is image marks entries s e))
+image-sweep-steps mode image marks entries s e =
+    ap (λ (r : SweepResult). r .steps) (sym (result-is mode image marks entries s e))
     ∙ ap (λ (m : List ℕ). count tracedMark (take (length image) m))
-    (sym (leaves image marks entries (small-image image marks entries s e) (long-marks image marks entries s e)))
+    (sym (leaves mode image marks entries (small-image mode image marks entries s e) (long-marks mode image marks entries s e)))
 
 pub image-sweeps : claims.ImageSweeps
-image-sweeps image marks entries s e =
-    subst (λ (r : SweepResult). EachTakes (tracerOf image) (startMarks image marks entries) (sweepLeaves image marks entries) (r .sweeps))
-    (result-is image marks entries s e)
-    (each image marks entries (small-image image marks entries s e) (long-marks image marks entries s e))
+image-sweeps mode image marks entries s e =
+    subst (λ (r : SweepResult). EachTakes (tracerOf mode image) (startMarks image marks entries) (sweepLeaves mode image marks entries) (r .sweeps))
+    (result-is mode image marks entries s e)
+    (each mode image marks entries (small-image mode image marks entries s e) (long-marks mode image marks entries s e))
 
 -- ---- beside a run
 
 pub image-sweep-run : claims.ImageSweepRun
 unfolding outcomeOf
-image-sweep-run image marks order entries limit s B C a f =
-    let j = finish.sized image marks order entries limit s a in
-    let room = finish.covered image marks order entries limit j in
-    leaves-sweeps image marks entries (finish.short-image image marks order entries limit j) room
-    ∙ sweeps-run (suc (length image)) limit (tracerOf image) entries (cleared (length image) marks) (plain image B C)
-    (cleared-base (tracerOf image) marks room) (omega arith) (finish.ended image marks order entries limit s a f)
-    ∙ sym (finish.marks-are image marks order entries limit s a)
+image-sweep-run mode image marks order entries limit s B C a f =
+    let j = finish.sized mode image marks order entries limit s a in
+    let room = finish.covered mode image marks order entries limit j in
+    leaves-sweeps mode image marks entries (finish.short-image mode image marks order entries limit j) room
+    ∙ sweeps-run (suc (length image)) limit (tracerOf mode image) entries (cleared (length image) marks) (plain mode image B C)
+    (cleared-base (tracerOf mode image) marks room) (omega arith) (finish.ended mode image marks order entries limit s a f)
+    ∙ sym (finish.marks-are mode image marks order entries limit s a)
 
-module _ (image marks order entries : List ℕ) (limit : ℕ) (small : length image ≤ 65536) (room : length image ≤ length marks) (places : length image ≤ length order) where
+module _ (mode : Mode) (image marks order entries : List ℕ) (limit : ℕ) (small : length image ≤ 65536) (room : length image ≤ length marks) (places : length image ≤ length order) where
   judged : runJudged image marks order ≡ accepted tt
   judged =
       pass _ _ tt (le-ltb 65536 (length image) small) ∙ pass _ _ tt (le-ltb (length marks) (length image) room)
       ∙ pass _ _ tt (le-ltb (length order) (length image) places) ∙ done tt
 
-  answer-is : runAnswer image marks order entries limit ≡ ranAnswer image (outcomeOf image marks entries limit)
+  answer-is : runAnswer mode image marks order entries limit ≡ ranAnswer image (outcomeOf mode image marks entries limit)
   unfolding runAnswer
-  answer-is = ap (λ (q : Answer (Unit {0})). andThen q (ranAnswer image (outcomeOf image marks entries limit))) judged
+  answer-is = ap (λ (q : Answer (Unit {0})). andThen q (ranAnswer image (outcomeOf mode image marks entries limit))) judged
 
-  cut-five : (p : ℕ) → outcomeOf image marks entries limit .end ≡ cutOff p → claims.EndsInFive image marks order entries limit
+  cut-five : (p : ℕ) → outcomeOf mode image marks entries limit .end ≡ cutOff p → claims.EndsInFive mode image marks order entries limit
   cut-five p e =
-      (cutValues (cutAt image p), answer-is ∙ ap (λ (x : End). endOf image x (steps (outcomeOf image marks entries limit)) (length (noted (outcomeOf image marks entries limit)))) e)
+      (cutValues (cutAt image p), answer-is ∙ ap (λ (x : End). endOf image x (steps (outcomeOf mode image marks entries limit)) (length (noted (outcomeOf mode image marks entries limit)))) e)
 
-  five-cut : claims.EndsInFive image marks order entries limit → (p : ℕ) × (outcomeOf image marks entries limit .end ≡ cutOff p)
-  five-cut w = by (outcomeOf image marks entries limit .end) refl (sym answer-is ∙ w .1)
+  five-cut : claims.EndsInFive mode image marks order entries limit → (p : ℕ) × (outcomeOf mode image marks entries limit .end ≡ cutOff p)
+  five-cut w = by (outcomeOf mode image marks entries limit .end) refl (sym answer-is ∙ w .1)
     where
-      by : (x : End) → outcomeOf image marks entries limit .end ≡ x → endOf image x (steps (outcomeOf image marks entries limit)) (length (noted (outcomeOf image marks entries limit))) ≡ refused 5 (w .0) → (p : ℕ) × (outcomeOf image marks entries limit .end ≡ cutOff p)
+      by : (x : End) → outcomeOf mode image marks entries limit .end ≡ x → endOf image x (steps (outcomeOf mode image marks entries limit)) (length (noted (outcomeOf mode image marks entries limit))) ≡ refused 5 (w .0) → (p : ℕ) × (outcomeOf mode image marks entries limit .end ≡ cutOff p)
       by finished e f = absurd (differ (sym f))
       by stopped e f = absurd (differ (sym f))
       by (cutOff p) e f = (p, e)
 
 pub image-sweep-waits : claims.ImageSweepWaits
 unfolding outcomeOf
-image-sweep-waits image marks order entries limit B C small room places enough =
-    let w = sweeps-wait (suc (length image)) limit (tracerOf image) entries (cleared (length image) marks) (plain image B C)
-    (cleared-base (tracerOf image) marks room) (omega arith) enough in
-    let l = leaves-sweeps image marks entries small room in (
-      (λ h. let c = w .0 (subst (claims.Waits image) l h) in cut-five image marks order entries limit small room places (c .0) (c .1)),
-      (λ h. subst (claims.Waits image) (sym l) (w .1 (five-cut image marks order entries limit small room places h))),
+image-sweep-waits mode image marks order entries limit B C small room places enough =
+    let w = sweeps-wait (suc (length image)) limit (tracerOf mode image) entries (cleared (length image) marks) (plain mode image B C)
+    (cleared-base (tracerOf mode image) marks room) (omega arith) enough in
+    let l = leaves-sweeps mode image marks entries small room in (
+      (λ h. let c = w .0 (subst (claims.Waits image) l h) in cut-five mode image marks order entries limit small room places (c .0) (c .1)),
+      (λ h. subst (claims.Waits image) (sym l) (w .1 (five-cut mode image marks order entries limit small room places h))),
     )

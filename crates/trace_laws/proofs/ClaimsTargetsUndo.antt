@@ -14,28 +14,29 @@ use Rattle.instruction.specs.Resolve.{resolveAnswer}
 use Rattle.instruction.specs.declared.flow.Flow.{Flow}
 use Rattle.instruction.specs.declared.instr.Instr.{Instr}
 use Rattle.trace_laws.specs.ClaimsTargets.{lastIn, TargetsUndoResolve}
-use Rattle.targets.specs.Targets.{nextOf, byFlow, targetsIn, targetsAnswer}
+use Rattle.targets.specs.Targets.{nextOf, inMode, byFlow, targetsIn, targetsAnswer}
 use Rattle.targets.proofs.AskedAlone.{found}
 use Rattle.trace_laws.proofs.ResolvedAddress.{high, address}
 use Rattle.instruction_laws.proofs.ResolvedFits.{resolved-fits}
+use Rattle.instruction.specs.declared.mode.Mode.{Mode}
 
-module _ (i : Instr) (base : ℕ) (j : Instr) (room : sizeOf (formIn i) ≤ base) (e : resolveAnswer i base ≡ accepted j) where
+module _ (mode : Mode) (i : Instr) (base : ℕ) (j : Instr) (room : sizeOf (formIn i) ≤ base) (e : resolveAnswer mode i base ≡ accepted j) where
   abbrev position : ℕ
   position = base - sizeOf (formIn i)
 
   next : nextOf position j ≡ base
-  next = ap (λ (n : ℕ). position + sizeOf (formAt n)) (resolved-fits i base j e .form) ∙ omega arith
+  next = ap (λ (n : ℕ). position + sizeOf (formAt n)) (resolved-fits mode i base j e .form) ∙ omega arith
 
-  ways : targetsIn base j ≡ byFlow (flowOf (partsOf i .form)) (lastIn i) (pos base)
+  ways : targetsIn mode base j ≡ byFlow (flowOf (partsOf i .form)) (lastIn i) (inMode mode (pos base))
   unfolding targetsIn
-  ways = rw (resolved-fits i base j e .form, address i base j room e)
+  ways = rw (resolved-fits mode i base j e .form, address mode i base j room e)
 
-  undo : (f : Flow) → flowOf (partsOf i .form) ≡ f → targetsAnswer position j ≡ accepted (byFlow f (lastIn i) (pos base))
+  undo : (f : Flow) → flowOf (partsOf i .form) ≡ f → targetsAnswer mode position j ≡ accepted (byFlow f (lastIn i) (inMode mode (pos base)))
   undo f p =
-      sym (found position j (rw next (high i base j room e)) (sym (resolved-fits i base j e .fit)))
-      ∙ ap (λ (n : ℕ). accepted (targetsIn n j)) next ∙ ap accepted ways
-      ∙ ap (λ (g : Flow). accepted (byFlow g (lastIn i) (pos base))) p
+      sym (found mode position j (rw next (high mode i base j room e)) (sym (resolved-fits mode i base j e .fit)))
+      ∙ ap (λ (n : ℕ). accepted (targetsIn mode n j)) next ∙ ap accepted ways
+      ∙ ap (λ (g : Flow). accepted (byFlow g (lastIn i) (inMode mode (pos base)))) p
 
-pub targets-undo-resolve : TargetsUndoResolve
-targets-undo-resolve =
-    record { jump = λ i base j p room e. undo i base j room e _ p; branch = λ i base j p room e. undo i base j room e _ p }
+pub targets-undo-resolve : (mode : Mode) → TargetsUndoResolve mode
+targets-undo-resolve mode =
+    record { jump = λ i base j p room e. undo mode i base j room e _ p; branch = λ i base j p room e. undo mode i base j room e _ p }

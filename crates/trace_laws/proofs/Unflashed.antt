@@ -15,6 +15,7 @@ use Rattle.trace_laws.specs.ClaimsImages.{Clean}
 use Rattle.marks.specs.Tracer.{tracerOf, exemptHere}
 use Rattle.targets.specs.At.{formHere, flashHere}
 use Rattle.instruction.proofs.Ands.{first-part, second-part}
+use Rattle.instruction.specs.declared.mode.Mode.{Mode}
 use Rattle.marks.proofs.Jmpf.{jmpf-by-byte, two-before}
 
 module _ (image : List ℕ) (B : Bytes image) (C : Clean image) (p : ℕ) where
@@ -50,6 +51,6 @@ module _ (image : List ℕ) (B : Bytes image) (C : Clean image) (p : ℕ) where
       by true e = absurd (never-here e)
       by false e = e
 
-pub plain : (image : List ℕ) → Bytes image → Clean image → Plain (tracerOf image)
+pub plain : (mode : Mode) (image : List ℕ) → Bytes image → Clean image → Plain (tracerOf mode image)
 unfolding exemptHere
-plain image B C m p = rw (unflashed image B C p)
+plain mode image B C m p = rw (unflashed image B C p)

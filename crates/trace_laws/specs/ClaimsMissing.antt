@@ -7,12 +7,13 @@ use lib.IntN.{ℤ}
 use Rattle.instruction.specs.Bytes.{Bytes}
 use Rattle.instruction.specs.Answer.{refused}
 use Rattle.instruction_laws.specs.Missing.{OneOrTwo}
+use Rattle.instruction.specs.declared.mode.Mode.{Mode}
 use Rattle.trace.specs.Run.{runAnswer}
 use Rattle.trace.specs.Step.{stepAnswer}
 
 abbrev pub StepMissing : Type 0
-StepMissing = (image m : List ℕ) (p : ℕ) (vs : List ℤ) → Bytes image → stepAnswer image m p ≡ refused 5 vs → OneOrTwo vs
+StepMissing = (mode : Mode) (image m : List ℕ) (p : ℕ) (vs : List ℤ) → Bytes image → stepAnswer mode image m p ≡ refused 5 vs → OneOrTwo vs
 
 abbrev pub RunMissing : Type 0
 RunMissing =
-    (image marks order entries : List ℕ) (limit : ℕ) (vs : List ℤ) → Bytes image → runAnswer image marks order entries limit ≡ refused 5 vs → OneOrTwo vs
+    (mode : Mode) (image marks order entries : List ℕ) (limit : ℕ) (vs : List ℤ) → Bytes image → runAnswer mode image marks order entries limit ≡ refused 5 vs → OneOrTwo vs

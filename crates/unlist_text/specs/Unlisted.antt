@@ -6,6 +6,7 @@ use mathlib.Core.List.{List, [], _∷_, _++_}
 use lib.IntN.{ℤ, natAbs}
 use lib.ListN.{length, take, drop, replicate}
 use Rattle.instruction.specs.Answer.{Answer, accepted, refused}
+use Rattle.instruction.specs.declared.mode.Mode.the-variants.{Unwrapped}
 use Rattle.listing.specs.Hex.{hexes}
 use Rattle.read_back.specs.Back.{backAnswer, backImage}
 use Rattle.list_text.specs.Refusal.{valueLine}
@@ -35,4 +36,4 @@ printed image (accepted k) = imageText image
 printed image (refused r vs) = valueLine r (valueOf vs)
 
 unfoldable pub unlistedOf : List ℕ → ℕ → List ℕ
-unlistedOf text n = let room = emptyRoom n in printed (backImage text n room room) (backAnswer text n room room)
+unlistedOf text n = let room = emptyRoom n in printed (backImage Unwrapped text n room room) (backAnswer Unwrapped text n room room)

@@ -5,6 +5,7 @@ ghost use Rattle.views.specs.View.{viewedOf, roomAnswer, roomAfter};
 ghost use Rattle.unlist_text.specs.Unlisted.{unlistedOf};
 use crate::line;
 use crate::rooms;
+use instruction::Mode;
 use list_text::refusal;
 use read_back::Restored;
 use views::Viewed;
@@ -17,7 +18,7 @@ pub fn unlist_text(text: &[u8], length: usize, room: &mut [u8]) -> Viewed
 {
     let mut image = rooms::bytes();
     let mut marks = rooms::bytes();
-    match read_back::read_back(text, length, &mut image, &mut marks) {
+    match read_back::read_back(Mode::Unwrapped, text, length, &mut image, &mut marks) {
         Restored::Written(_) => line::put_image(rooms::first(&image, length), room),
         Restored::LongImage(n) => refusal::put_value(1, n, room),
         Restored::ShortMarks(n) => refusal::put_value(2, n, room),

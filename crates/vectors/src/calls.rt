@@ -1,6 +1,12 @@
-// The exported calls that a line can ask for. A line holds where the call is given what the line says and answers what it says.
+// The exported calls that a line can ask for. A line holds where the call is given what the line says and answers what it says. A small
+// letter asks for the call of the large one in wrapping mode.
 use crate::narrow;
+use crate::rings;
 use crate::traces;
+
+const UNWRAPPED: u32 = 0;
+
+const WRAPPING: u32 = 1;
 
 pub fn same(numbers: &[i64; 11], given: &[i64; 5], number: u32, answer: &[i64; 5]) -> bool {
     if numbers[5] != narrow::of_word(number) {
@@ -75,26 +81,26 @@ fn encode(numbers: &[i64; 11]) -> bool {
     same(numbers, &given, number, &answer)
 }
 
-fn resolve(numbers: &[i64; 11]) -> bool {
+fn resolve(mode: u32, numbers: &[i64; 11]) -> bool {
     let first = narrow::byte(numbers[0]);
     let a = narrow::operand(numbers[1]);
     let b = narrow::operand(numbers[2]);
     let c = narrow::operand(numbers[3]);
     let base = narrow::word(numbers[4]);
     let mut answer = [0i64; 5];
-    let number = pottagewing::pw_resolve(first, a, b, c, base, &mut answer);
+    let number = pottagewing::pw_resolve(mode, first, a, b, c, base, &mut answer);
     let given = inputs(first, a, b, c, narrow::of_word(base));
     same(numbers, &given, number, &answer)
 }
 
-fn targets(numbers: &[i64; 11]) -> bool {
+fn targets(mode: u32, numbers: &[i64; 11]) -> bool {
     let first = narrow::byte(numbers[0]);
     let a = narrow::operand(numbers[1]);
     let b = narrow::operand(numbers[2]);
     let c = narrow::operand(numbers[3]);
     let position = narrow::word(numbers[4]);
     let mut answer = [0i64; 5];
-    let number = pottagewing::pw_targets(position, first, a, b, c, &mut answer);
+    let number = pottagewing::pw_targets(mode, position, first, a, b, c, &mut answer);
     let given = inputs(first, a, b, c, narrow::of_word(position));
     same(numbers, &given, number, &answer)
 }
@@ -103,10 +109,20 @@ pub fn holds(letter: u8, numbers: &[i64; 11]) -> bool {
     match letter {
         b'D' => decode(numbers),
         b'E' => encode(numbers),
-        b'R' => resolve(numbers),
-        b'T' => targets(numbers),
-        b'G' => traces::run(numbers),
-        b'W' => traces::sweep(numbers),
+        b'R' => resolve(UNWRAPPED, numbers),
+        b'r' => resolve(WRAPPING, numbers),
+        b'T' => targets(UNWRAPPED, numbers),
+        b't' => targets(WRAPPING, numbers),
+        b'G' => traces::run(UNWRAPPED, numbers),
+        b'g' => traces::run(WRAPPING, numbers),
+        b'W' => traces::sweep(UNWRAPPED, numbers),
+        b'w' => traces::sweep(WRAPPING, numbers),
+        b'O' => rings::run(UNWRAPPED, numbers),
+        b'o' => rings::run(WRAPPING, numbers),
+        b'S' => rings::sweep(UNWRAPPED, numbers),
+        b's' => rings::sweep(WRAPPING, numbers),
+        b'P' => rings::step(UNWRAPPED, numbers),
+        b'p' => rings::step(WRAPPING, numbers),
         _ => false,
     }
 }

@@ -1,4 +1,5 @@
-// Replays a stored list of the original's answers through the exported calls, and prints how many of its lines hold.
+// Replays a stored list of the original's answers, and of the plain side's in wrapping mode, through the exported calls, and prints how many
+// of its lines hold.
 // The list was made by `compare/run --vectors SRC` over the original Rust's sources; data/ABOUT describes its lines.
 ghost use mathlib.Core.Path.{_≡_};
 ghost use lib.ListN.{length};
@@ -7,6 +8,7 @@ mod calls;
 mod line;
 mod narrow;
 mod replay;
+mod rings;
 mod traces;
 
 use libc::STDOUT_FILENO;

@@ -4,14 +4,14 @@ use crate::calls;
 use crate::narrow;
 
 // What stands in the lent memory before the run.
-const OLD_MARK: u8 = 9;
+pub const OLD_MARK: u8 = 9;
 
-const OLD_PLACE: u32 = 15;
+pub const OLD_PLACE: u32 = 15;
 
-const NO_LIMIT: u32 = 0xFFFF_FFFF;
+pub const NO_LIMIT: u32 = 0xFFFF_FFFF;
 
 // The bytes of two numbers, five of each.
-fn image(first: i64, second: i64) -> [u8; 10] {
+pub fn image(first: i64, second: i64) -> [u8; 10] {
     let mut bytes = [0u8; 10];
     let mut n = narrow::natural(first);
     let mut m = narrow::natural(second);
@@ -46,13 +46,28 @@ fn are(order: &[u32; 10], marks: &[u8; 10], places: i64, values: i64) -> bool {
 }
 
 // No line has this number.
-const OTHER: u32 = 255;
+pub const OTHER: u32 = 255;
 
 // The number that a run answers, or OTHER where it leaves something else than these digits.
-fn ran(image: &[u8], entries: &[u32; 2], places: i64, values: i64, answer: &mut [i64; 5]) -> u32 {
+fn ran(
+    mode: u32,
+    image: &[u8],
+    entries: &[u32; 2],
+    places: i64,
+    values: i64,
+    answer: &mut [i64; 5],
+) -> u32 {
     let mut marks = [OLD_MARK; 10];
     let mut order = [OLD_PLACE; 10];
-    let number = pottagewing::pw_run(image, &mut marks, &mut order, entries, NO_LIMIT, answer);
+    let number = pottagewing::pw_run(
+        mode,
+        image,
+        &mut marks,
+        &mut order,
+        entries,
+        NO_LIMIT,
+        answer,
+    );
     if are(&order, &marks, places, values) {
         number
     } else {
@@ -61,10 +76,17 @@ fn ran(image: &[u8], entries: &[u32; 2], places: i64, values: i64, answer: &mut 
 }
 
 // The same of sweeps, which have no order list.
-fn swept(image: &[u8], entries: &[u32; 2], places: i64, values: i64, answer: &mut [i64; 5]) -> u32 {
+fn swept(
+    mode: u32,
+    image: &[u8],
+    entries: &[u32; 2],
+    places: i64,
+    values: i64,
+    answer: &mut [i64; 5],
+) -> u32 {
     let mut marks = [OLD_MARK; 10];
     let order = [OLD_PLACE; 10];
-    let number = pottagewing::pw_sweep(image, &mut marks, entries, answer);
+    let number = pottagewing::pw_sweep(mode, image, &mut marks, entries, answer);
     if are(&order, &marks, places, values) {
         number
     } else {
@@ -73,7 +95,7 @@ fn swept(image: &[u8], entries: &[u32; 2], places: i64, values: i64, answer: &mu
 }
 
 // A number below 0 packs nothing.
-fn told(numbers: &[i64; 11], n: u8, a: u32, b: u32, number: u32, answer: &[i64; 5]) -> bool {
+pub fn told(numbers: &[i64; 11], n: u8, a: u32, b: u32, number: u32, answer: &[i64; 5]) -> bool {
     if numbers[1] < 0 {
         return false;
     }
@@ -92,7 +114,7 @@ fn told(numbers: &[i64; 11], n: u8, a: u32, b: u32, number: u32, answer: &[i64; 
 }
 
 // Whether a run, or sweeps, answer and leave what the line says.
-fn holds(sweeping: bool, numbers: &[i64; 11]) -> bool {
+fn holds(sweeping: bool, mode: u32, numbers: &[i64; 11]) -> bool {
     let n = narrow::byte(numbers[0]);
     let a = narrow::word(numbers[3]);
     let b = narrow::word(numbers[4]);
@@ -105,6 +127,7 @@ fn holds(sweeping: bool, numbers: &[i64; 11]) -> bool {
     let entries = [a, b];
     let number = if sweeping {
         swept(
+            mode,
             &bytes[0..end],
             &entries,
             numbers[9],
@@ -113,6 +136,7 @@ fn holds(sweeping: bool, numbers: &[i64; 11]) -> bool {
         )
     } else {
         ran(
+            mode,
             &bytes[0..end],
             &entries,
             numbers[9],
@@ -123,10 +147,10 @@ fn holds(sweeping: bool, numbers: &[i64; 11]) -> bool {
     told(numbers, n, a, b, number, &answer)
 }
 
-pub fn run(numbers: &[i64; 11]) -> bool {
-    holds(false, numbers)
+pub fn run(mode: u32, numbers: &[i64; 11]) -> bool {
+    holds(false, mode, numbers)
 }
 
-pub fn sweep(numbers: &[i64; 11]) -> bool {
-    holds(true, numbers)
+pub fn sweep(mode: u32, numbers: &[i64; 11]) -> bool {
+    holds(true, mode, numbers)
 }

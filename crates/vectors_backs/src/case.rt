@@ -11,6 +11,8 @@ pub struct Case {
     // How long the two rooms are.
     pub image: usize,
     pub marks: usize,
+    // Whether it is read in wrapping mode.
+    pub wrapping: bool,
 }
 
 impl Case {
@@ -20,6 +22,7 @@ impl Case {
             length: 0,
             image: 0,
             marks: 0,
+            wrapping: false,
         }
     }
 }
@@ -67,6 +70,7 @@ pub fn read(before: Case, letter: u8, rest: &[u8], text: &mut [u8], wanted: &mut
         }
         b'R' => c.image = number,
         b'K' => c.marks = number,
+        b'W' => c.wrapping = true,
         b'w' | b'l' | b's' | b'r' | b'm' | b'p' => return Case::new(),
         _ => return c,
     }

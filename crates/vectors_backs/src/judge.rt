@@ -5,6 +5,7 @@ ghost use lib.ListN.{length};
 use crate::case;
 use crate::case::Case;
 use crate::part;
+use instruction::Mode;
 use read_back::Place;
 use read_back::Read;
 use read_back::Restored;
@@ -65,6 +66,14 @@ fn too_long() -> Restored {
     Restored::NoRoom(0)
 }
 
+fn mode(wrapping: bool) -> Mode {
+    if wrapping {
+        Mode::Wrapping
+    } else {
+        Mode::Unwrapped
+    }
+}
+
 // The call, in rooms of the lengths that the case has.
 fn call(c: Case, text: &[u8], image: &mut [u8], marks: &mut [u8]) -> Restored {
     let t = c.text;
@@ -79,14 +88,20 @@ fn call(c: Case, text: &[u8], image: &mut [u8], marks: &mut [u8]) -> Restored {
     if marks.len() < k {
         return too_long();
     }
-    read_back::read_back(&text[0..t], c.length, &mut image[0..n], &mut marks[0..k])
+    read_back::read_back(
+        mode(c.wrapping),
+        &text[0..t],
+        c.length,
+        &mut image[0..n],
+        &mut marks[0..k],
+    )
 }
 
 // What a reader at the first line says of it goes with the answer: it is malformed where that is 15 for line 1, or 1, 2 or 11, which come
 // before any line is looked at.
-fn is_first(text: &[u8], letter: u8, value: usize) -> bool {
+fn is_first(mode: Mode, text: &[u8], letter: u8, value: usize) -> bool {
     let told = letter == b'm' && value == 1;
-    match reader::read(text, Place::start()) {
+    match reader::read(mode, text, Place::start()) {
         Read::Line(_, _) => !told,
         Read::End => text.len() == 0,
         Read::Malformed(k) => k == 1
@@ -110,7 +125,7 @@ fn holds(c: Case, letter: u8, value: usize, text: &[u8], wanted: &[u8]) -> bool 
     if text.len() < t {
         return false;
     }
-    if !is_first(&text[0..t], letter, value) {
+    if !is_first(mode(c.wrapping), &text[0..t], letter, value) {
         return false;
     }
     let n = written(letter, c.length);

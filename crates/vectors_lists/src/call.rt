@@ -1,4 +1,5 @@
 // The calls, in a room that holds no output before.
+use instruction::Mode;
 use list_text::Parsed;
 use listing::Arrivals;
 use views::Viewed;
@@ -25,12 +26,13 @@ fn is_old(room: &[u8]) -> bool {
     true
 }
 
-fn call(letter: u8, input: &[u8], marks: &[u8], room: &mut [u8]) -> Viewed {
+// The listing program has its own mode.
+fn call(letter: u8, mode: Mode, input: &[u8], marks: &[u8], room: &mut [u8]) -> Viewed {
     match letter {
         b'=' => list_text::list_text(input, room),
-        b'-' => listing::listing_with(input, marks, Arrivals::Declined, room),
-        b'+' => listing::listing_with(input, marks, Arrivals::Chosen, room),
-        _ => listing::listing(input, marks, room),
+        b'-' => listing::listing_with(mode, input, marks, Arrivals::Declined, room),
+        b'+' => listing::listing_with(mode, input, marks, Arrivals::Chosen, room),
+        _ => listing::listing(mode, input, marks, room),
     }
 }
 
@@ -48,7 +50,14 @@ pub fn bad_line(letter: u8, text: &[u8]) -> usize {
 }
 
 // A room that is one byte too short is refused with all that is needed, and stays as it is.
-pub fn is_refused(letter: u8, input: &[u8], marks: &[u8], need: usize, room: &mut [u8]) -> bool {
+pub fn is_refused(
+    letter: u8,
+    mode: Mode,
+    input: &[u8],
+    marks: &[u8],
+    need: usize,
+    room: &mut [u8],
+) -> bool {
     if need == 0 {
         return true;
     }
@@ -57,7 +66,7 @@ pub fn is_refused(letter: u8, input: &[u8], marks: &[u8], need: usize, room: &mu
     }
     let n = need - 1;
     fill(&mut room[0..n]);
-    let Viewed::NoRoom(k) = call(letter, input, marks, &mut room[0..n]) else {
+    let Viewed::NoRoom(k) = call(letter, mode, input, marks, &mut room[0..n]) else {
         return false;
     };
     if k != need {
@@ -67,7 +76,14 @@ pub fn is_refused(letter: u8, input: &[u8], marks: &[u8], need: usize, room: &mu
 }
 
 // The output is written, into a room of its length or with one or two bytes to spare, which stay.
-pub fn is_written(letter: u8, input: &[u8], marks: &[u8], need: usize, room: &mut [u8]) -> bool {
+pub fn is_written(
+    letter: u8,
+    mode: Mode,
+    input: &[u8],
+    marks: &[u8],
+    need: usize,
+    room: &mut [u8],
+) -> bool {
     if room.len() < need {
         return false;
     }
@@ -77,7 +93,7 @@ pub fn is_written(letter: u8, input: &[u8], marks: &[u8], need: usize, room: &mu
     }
     let all = need + spare;
     fill(&mut room[0..all]);
-    let Viewed::Written(k) = call(letter, input, marks, &mut room[0..all]) else {
+    let Viewed::Written(k) = call(letter, mode, input, marks, &mut room[0..all]) else {
         return false;
     };
     if k != need {

@@ -16,6 +16,8 @@ pub struct Case {
     pub bad: usize,
     // The output's checksum.
     pub sum: usize,
+    // Whether it is in wrapping mode.
+    pub wrapping: bool,
 }
 
 impl Case {
@@ -27,6 +29,7 @@ impl Case {
             times: 1,
             bad: 0,
             sum: 0,
+            wrapping: false,
         }
     }
 }
@@ -66,6 +69,7 @@ pub fn read(before: Case, letter: u8, rest: &[u8], given: &mut [u8]) -> Case {
         b'M' => c.marks = end,
         b'L' => c.bad = number,
         b'S' => c.sum = number,
+        b'W' => c.wrapping = true,
         b'=' | b'-' | b'+' | b'?' => return Case::new(),
         _ => return c,
     }

@@ -4,6 +4,7 @@ use crate::call;
 use crate::case;
 use crate::case::Case;
 use crate::sum;
+use instruction::Mode;
 
 // Nothing where there is no such part.
 fn part<'a>(given: &'a [u8], from: usize, to: usize) -> &'a [u8] {
@@ -37,17 +38,26 @@ fn is_output(output: &[u8], told: &[u8], sum: usize) -> bool {
     begins(output, told)
 }
 
+fn mode(wrapping: bool) -> Mode {
+    if wrapping {
+        Mode::Wrapping
+    } else {
+        Mode::Unwrapped
+    }
+}
+
 // The last letter says which call is meant, and its number how long the output is.
 fn holds(c: Case, letter: u8, need: usize, given: &[u8], room: &mut [u8]) -> bool {
     let input = part(given, 0, c.input);
     let marks = part(given, c.input, c.marks);
+    let m = mode(c.wrapping);
     if call::bad_line(letter, input) != c.bad {
         return false;
     }
-    if !call::is_refused(letter, input, marks, need, room) {
+    if !call::is_refused(letter, m, input, marks, need, room) {
         return false;
     }
-    if !call::is_written(letter, input, marks, need, room) {
+    if !call::is_written(letter, m, input, marks, need, room) {
         return false;
     }
     let told = part(given, c.marks, c.told);

@@ -5,6 +5,7 @@ ghost use lib.ListN.{length};
 
 mod line;
 mod replay;
+mod rings;
 mod view;
 
 use libc::STDOUT_FILENO;

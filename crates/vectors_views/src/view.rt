@@ -1,10 +1,16 @@
-// One view over a short image. A line holds where the call answers and leaves what the line says.
+// One view over a short image. A line holds where the call answers and leaves what the line says. A small letter asks for the view of the
+// large one in wrapping mode.
 ghost use Prim.Native.Nat.{_<_};
+use crate::rings;
+
+pub const UNWRAPPED: u32 = 0;
+
+pub const WRAPPING: u32 = 1;
 
 // What stands in the lent rooms before.
-const OLD_BYTE: u8 = 9;
+pub const OLD_BYTE: u8 = 9;
 
-const OLD_PLACE: u32 = 9;
+pub const OLD_PLACE: u32 = 9;
 
 // No line has this number.
 const OTHER: u32 = 256;
@@ -21,22 +27,24 @@ fn ask(
 ) -> u32 {
     match letter {
         b'M' => pottagewing::pw_mask(image, marks, bytes, answer),
-        b'L' => pottagewing::pw_target_marks(image, marks, bytes, answer),
+        b'L' => pottagewing::pw_target_marks(UNWRAPPED, image, marks, bytes, answer),
+        b'l' => pottagewing::pw_target_marks(WRAPPING, image, marks, bytes, answer),
         b'O' => pottagewing::pw_overlaps(image, marks, p, places, answer),
-        b'A' => pottagewing::pw_arrivals(image, marks, p, places, answer),
+        b'A' => pottagewing::pw_arrivals(UNWRAPPED, image, marks, p, places, answer),
+        b'a' => pottagewing::pw_arrivals(WRAPPING, image, marks, p, places, answer),
         b'B' => pottagewing::pw_data_run(image, marks, p, answer),
         _ => OTHER,
     }
 }
 
-fn word(b: u8) -> u32
+pub fn word(b: u8) -> u32
     ensures { λ r. ⌜ r < 256 ⌝ }
 {
     b as u32
 }
 
 // The highest byte comes first.
-fn position(a: u8, b: u8, c: u8, d: u8) -> u32 {
+pub fn position(a: u8, b: u8, c: u8, d: u8) -> u32 {
     ((word(a) * 256 + word(b)) * 256 + word(c)) * 256 + word(d)
 }
 
@@ -55,7 +63,7 @@ fn are(bytes: &[u8; 10], places: &[u32; 10], values: &[u8; 49]) -> bool {
     true
 }
 
-pub fn holds(letter: u8, values: [u8; 49]) -> bool {
+fn is_short(letter: u8, values: [u8; 49]) -> bool {
     let n = word(values[20]) as usize;
     let k = word(values[21]) as usize;
     let m = word(values[22]) as usize;
@@ -89,4 +97,14 @@ pub fn holds(letter: u8, values: [u8; 49]) -> bool {
         return false;
     }
     are(&bytes, &places, &values)
+}
+
+pub fn holds(letter: u8, values: [u8; 49]) -> bool {
+    match letter {
+        b'T' => rings::target_marks(UNWRAPPED, values),
+        b't' => rings::target_marks(WRAPPING, values),
+        b'F' => rings::arrivals(UNWRAPPED, values),
+        b'f' => rings::arrivals(WRAPPING, values),
+        _ => is_short(letter, values),
+    }
 }

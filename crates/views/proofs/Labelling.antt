@@ -10,6 +10,7 @@ use lib.Dec.{ltb, eqb}
 use lib.ListN.{length, getD, set, take, drop, replicate, length-map, length-replicate, getD-replicate, take-append-drop, List·getD-append}
 use lib.Seq.{getD-set-same, getD-set-other, getD-take, ext-getD, length-take-le, drop-set-lt, drop-at}
 use borrow.Author.Tests.{le-ltb, ltb-true, ltb-false, eqb-true, eqb-false}
+use Rattle.instruction.specs.declared.mode.Mode.{Mode}
 use Rattle.reach.specs.Mark.{cleared, tracedMark}
 use Rattle.marks.specs.Clear.{wiped}
 use Rattle.marks.specs.Tracer.{exemptHere}
@@ -19,21 +20,21 @@ use Rattle.views.proofs.Ors.{or-second, or-start}
 use Rattle.views.proofs.Ups.{up-length, up-at, some-snoc}
 use Rattle.views.specs.Labels.{namedFrom, names, labelled, labelsOf, labelAt}
 
-module _ (image m : List ℕ) (p : ℕ) where
-  pub from-untraced : tracedMark (getD m p 0) ≡ false → 65536 ≡ namedFrom image m p
+module _ (mode : Mode) (image m : List ℕ) (p : ℕ) where
+  pub from-untraced : tracedMark (getD m p 0) ≡ false → 65536 ≡ namedFrom mode image m p
   from-untraced t = rw t
 
   module _ (t : tracedMark (getD m p 0) ≡ true) where
-    pub from-exempt : exemptHere image m p ≡ true → 65536 ≡ namedFrom image m p
-    from-exempt e = sym (ap₂ (λ (a b : Bool). cond a (cond b 65536 (nameOf image p)) 65536) t e)
+    pub from-exempt : exemptHere image m p ≡ true → 65536 ≡ namedFrom mode image m p
+    from-exempt e = sym (ap₂ (λ (a b : Bool). cond a (cond b 65536 (nameOf mode image p)) 65536) t e)
 
-    pub from-name : exemptHere image m p ≡ false → nameOf image p ≡ namedFrom image m p
-    from-name e = sym (ap₂ (λ (a b : Bool). cond a (cond b 65536 (nameOf image p)) 65536) t e)
+    pub from-name : exemptHere image m p ≡ false → nameOf mode image p ≡ namedFrom mode image m p
+    from-name e = sym (ap₂ (λ (a b : Bool). cond a (cond b 65536 (nameOf mode image p)) 65536) t e)
 
-pub labels-length : (image m : List ℕ) → length (labelsOf image m) ≡ length image
+pub labels-length : (mode : Mode) (image m : List ℕ) → length (labelsOf mode image m) ≡ length image
 unfolding labelsOf
-labels-length image m =
-    length-map (positions image) (λ (t : ℕ). bit (labelled image m t)) ∙ up-length (length image) 0
+labels-length mode image m =
+    length-map (positions image) (λ (t : ℕ). bit (labelled mode image m t)) ∙ up-length (length image) 0
 
 -- a room cleared: nothing is marked, and the rest stays
 module _ (n : ℕ) (room base : List ℕ) (fits : n ≤ length room) (e : base ≡ wiped n room) where
@@ -48,14 +49,14 @@ module _ (n : ℕ) (room base : List ℕ) (fits : n ≤ length room) (e : base �
   pub clear-rest : drop n base ≡ drop n room
   clear-rest = ap (drop n) wide ∙ drop-at (replicate n 0) (drop n room) n (length-replicate {A = ℕ} n 0)
 
-module _ (image m base : List ℕ) where
+module _ (mode : Mode) (image m base : List ℕ) where
   abbrev n : ℕ
   n = length image
 
   -- what the positions below p name is marked, and the rest of the room stays
   pub record Labels (p : ℕ) (v : List ℕ) : Type 0 where
     pub long : length v ≡ length base
-    pub marked : (t : ℕ) → t < n → getD v t 0 ≡ bit (some (names image m t) (upFrom p 0))
+    pub marked : (t : ℕ) → t < n → getD v t 0 ≡ bit (some (names mode image m t) (upFrom p 0))
     pub rest : drop n v ≡ drop n base
 
   pub labels-start : ((t : ℕ) → t < n → getD base t 0 ≡ 0) → Labels 0 base
@@ -65,41 +66,41 @@ module _ (image m base : List ℕ) where
   module _ (fits : n ≤ length base) where
     module _ (p : ℕ) (v : List ℕ) (L : Labels p v) where
       -- one more is named
-      more : (t : ℕ) → t < n → getD (labelAt n (namedFrom image m p) v) t 0 ≡ bit (some (names image m t) (upFrom p 0) || names image m t p)
-      more t h = by (eqb (namedFrom image m p) t) refl (ltb (namedFrom image m p) n) refl
+      more : (t : ℕ) → t < n → getD (labelAt n (namedFrom mode image m p) v) t 0 ≡ bit (some (names mode image m t) (upFrom p 0) || names mode image m t p)
+      more t h = by (eqb (namedFrom mode image m p) t) refl (ltb (namedFrom mode image m p) n) refl
         where
-          by : (a : Bool) → eqb (namedFrom image m p) t ≡ a → (b : Bool) → ltb (namedFrom image m p) n ≡ b → getD (cond b (set v (namedFrom image m p) 1) v) t 0 ≡ bit (some (names image m t) (upFrom p 0) || a)
+          by : (a : Bool) → eqb (namedFrom mode image m p) t ≡ a → (b : Bool) → ltb (namedFrom mode image m p) n ≡ b → getD (cond b (set v (namedFrom mode image m p) 1) v) t 0 ≡ bit (some (names mode image m t) (upFrom p 0) || a)
           by true e true f =
-              ap (λ (k : ℕ). getD (set v k 1) t 0) (eqb-true (namedFrom image m p) t e)
-              ∙ getD-set-same v t 1 0 (omega (arith, L .long)) ∙ ap bit (sym (or-second (some (names image m t) (upFrom p 0)) true refl))
+              ap (λ (k : ℕ). getD (set v k 1) t 0) (eqb-true (namedFrom mode image m p) t e)
+              ∙ getD-set-same v t 1 0 (omega (arith, L .long)) ∙ ap bit (sym (or-second (some (names mode image m t) (upFrom p 0)) true refl))
           by true e false f =
-              absurd (let g = ltb-false (namedFrom image m p) n f in let k = eqb-true (namedFrom image m p) t e in omega arith)
+              absurd (let g = ltb-false (namedFrom mode image m p) n f in let k = eqb-true (namedFrom mode image m p) t e in omega arith)
           by false e true f =
-              getD-set-other v (namedFrom image m p) t 1 0 (λ k. eqb-false (namedFrom image m p) t e (sym k)) ∙ L .marked t h ∙ ap bit (sym (or-start (some (names image m t) (upFrom p 0)) false refl))
-          by false e false f = L .marked t h ∙ ap bit (sym (or-start (some (names image m t) (upFrom p 0)) false refl))
+              getD-set-other v (namedFrom mode image m p) t 1 0 (λ k. eqb-false (namedFrom mode image m p) t e (sym k)) ∙ L .marked t h ∙ ap bit (sym (or-start (some (names mode image m t) (upFrom p 0)) false refl))
+          by false e false f = L .marked t h ∙ ap bit (sym (or-start (some (names mode image m t) (upFrom p 0)) false refl))
 
-      kept : (b : Bool) → ltb (namedFrom image m p) n ≡ b → drop n (cond b (set v (namedFrom image m p) 1) v) ≡ drop n v
-      kept true f = drop-set-lt n v (namedFrom image m p) 1 (ltb-true (namedFrom image m p) n f)
+      kept : (b : Bool) → ltb (namedFrom mode image m p) n ≡ b → drop n (cond b (set v (namedFrom mode image m p) 1) v) ≡ drop n v
+      kept true f = drop-set-lt n v (namedFrom mode image m p) 1 (ltb-true (namedFrom mode image m p) n f)
       kept false f = refl
 
-      pub labels-next : (t : ℕ) → t ≡ namedFrom image m p → (v′ : List ℕ) → v′ ≡ labelAt n t v → length v′ ≡ length v → Labels (p + 1) v′
+      pub labels-next : (t : ℕ) → t ≡ namedFrom mode image m p → (v′ : List ℕ) → v′ ≡ labelAt n t v → length v′ ≡ length v → Labels (p + 1) v′
       labels-next t g v′ e l =
-          let f : v′ ≡ labelAt n (namedFrom image m p) v = e ∙ ap (λ (k : ℕ). labelAt n k v) g in
+          let f : v′ ≡ labelAt n (namedFrom mode image m p) v = e ∙ ap (λ (k : ℕ). labelAt n k v) g in
           record {
             long = l ∙ L .long;
             marked =
-                λ k h. ap (λ (u : List ℕ). getD u k 0) f ∙ more k h ∙ ap bit (sym (some-snoc (names image m k) p 0 ∙ ap (λ (q : ℕ). some (names image m k) (upFrom p 0) || names image m k q) (zero-add p)));
-            rest = ap (drop n) f ∙ kept (ltb (namedFrom image m p) n) refl ∙ L .rest;
+                λ k h. ap (λ (u : List ℕ). getD u k 0) f ∙ more k h ∙ ap bit (sym (some-snoc (names mode image m k) p 0 ∙ ap (λ (q : ℕ). some (names mode image m k) (upFrom p 0) || names mode image m k q) (zero-add p)));
+            rest = ap (drop n) f ∙ kept (ltb (namedFrom mode image m p) n) refl ∙ L .rest;
           }
 
-    pub labels-end : (p : ℕ) → p ≤ n → n ≤ p → (v : List ℕ) → Labels p v → v ≡ labelsOf image m ++ drop n base
+    pub labels-end : (p : ℕ) → p ≤ n → n ≤ p → (v : List ℕ) → Labels p v → v ≡ labelsOf mode image m ++ drop n base
     unfolding labelsOf labelled
     labels-end p h k v L =
         let s : length (take n v) ≡ n = length-take-le n v (omega (arith, L .long)) in
         sym (take-append-drop n v)
-        ∙ ap (λ (u : List ℕ). u ++ drop n v) (ext-getD 0 (take n v) (labelsOf image m) (s ∙ sym (labels-length image m))
+        ∙ ap (λ (u : List ℕ). u ++ drop n v) (ext-getD 0 (take n v) (labelsOf mode image m) (s ∙ sym (labels-length mode image m))
         (λ i q.
         let j : i < n = omega (arith, s) in
-        getD-take n v i 0 j ∙ L .marked i j ∙ ap (λ (e : ℕ). bit (some (names image m i) (upFrom e 0))) (le-antisymm h k)
-        ∙ sym (up-at (λ (t : ℕ). bit (labelled image m t)) n 0 i j ∙ ap (λ (t : ℕ). bit (labelled image m t)) (zero-add i))))
-        ∙ ap (λ (u : List ℕ). labelsOf image m ++ u) (L .rest)
+        getD-take n v i 0 j ∙ L .marked i j ∙ ap (λ (e : ℕ). bit (some (names mode image m i) (upFrom e 0))) (le-antisymm h k)
+        ∙ sym (up-at (λ (t : ℕ). bit (labelled mode image m t)) n 0 i j ∙ ap (λ (t : ℕ). bit (labelled mode image m t)) (zero-add i))))
+        ∙ ap (λ (u : List ℕ). labelsOf mode image m ++ u) (L .rest)

@@ -13,6 +13,7 @@ use borrow.Author.Tests.{lt-ltb, ltb-true, le-leb, leb-true, eqb-true}
 use Rattle.instruction.proofs.Sign.{never}
 use Rattle.targets.specs.At.{sizeHere, fitsHere, waysHere}
 use Rattle.instruction.proofs.Ands.{both, first-part, second-part}
+use Rattle.instruction.specs.declared.mode.Mode.{Mode}
 use Rattle.reach.specs.ClaimsOrder.{Final}
 use Rattle.reach.specs.Mark.{traced, flash, tracedMark, cleared}
 use Rattle.reach.specs.Reach.{Reach}
@@ -28,9 +29,9 @@ use Rattle.views_laws.proofs.Reached.{plainly, over, reached-inside}
 use Rattle.views_laws.proofs.Somes.{which, passing}
 
 -- marks that are final
-module _ (image marks entries m : List ℕ) (F : Final (tracerOf image) (cleared (length image) marks) entries m) where
+module _ (mode : Mode) (image marks entries m : List ℕ) (F : Final (tracerOf mode image) (cleared (length image) marks) entries m) where
   abbrev At : ℕ → Type 0
-  At q = Reach (tracerOf image) (waysHere image) (cleared (length image) marks) entries q
+  At q = Reach (tracerOf mode image) (waysHere mode image) (cleared (length image) marks) entries q
 
   -- a reachable position has mark 1 or 2
   reached-mark : (q : ℕ) → q < length image → At q → (b : Bool) → fitsHere image q ≡ b → getD m q 0 ≡ flash → ⊥
@@ -55,7 +56,7 @@ module _ (image marks entries m : List ℕ) (F : Final (tracerOf image) (cleared
   reached-traced q h r f = ap tracedMark (F .two q h .1 (r, f))
 
   -- a byte that is masked is code
-  masked-code : (b : ℕ) → masked image m b ≡ true → Code image entries b
+  masked-code : (b : ℕ) → masked image m b ≡ true → Code mode image entries b
   unfolding masked
   masked-code b e =
       let P = which (covers image m b) (length image) 0 e in
@@ -66,18 +67,18 @@ module _ (image marks entries m : List ℕ) (F : Final (tracerOf image) (cleared
       let r = traced-reached q h (second-part (ltb q (length image)) _ t) in
       record {
         position = q;
-        reachable = plainly (tracerOf image) (waysHere image) marks entries (r .0);
+        reachable = plainly (tracerOf mode image) (waysHere mode image) marks entries (r .0);
         fits = r .1;
         from = leb-true q b (first-part (leb q b) _ u);
         to = ltb-true b (q + sizeHere image q) (second-part (leb q b) _ u);
       }
 
   -- and code is masked
-  code-masked : (b : ℕ) → Code image entries b → masked image m b ≡ true
+  code-masked : (b : ℕ) → Code mode image entries b → masked image m b ≡ true
   unfolding masked
   code-masked b C =
       let q = C .position in
-      let r = over (tracerOf image) (waysHere image) marks entries (C .reachable) in
+      let r = over (tracerOf mode image) (waysHere mode image) marks entries (C .reachable) in
       let h = reached-inside (C .reachable) .inside in
       passing (covers image m b) (length image) 0 q (omega arith) (subst (λ (k : ℕ). q < k) (sym (zero-add (length image))) h)
       (both (tracedAt image m q) (under image b q)
@@ -88,15 +89,15 @@ module _ (image marks entries m : List ℕ) (F : Final (tracerOf image) (cleared
   unfolding maskOf
   mask-at b h = up-at (λ (k : ℕ). bit (masked image m k)) (length image) 0 b h ∙ ap (λ (k : ℕ). bit (masked image m k)) (zero-add b)
 
-  told : (b : ℕ) → b < length image → ((getD (maskOf image m) b 0 ≡ 1) × Code image entries b) ⊎ ((getD (maskOf image m) b 0 ≡ 0) × (Code image entries b → ⊥))
+  told : (b : ℕ) → b < length image → ((getD (maskOf image m) b 0 ≡ 1) × Code mode image entries b) ⊎ ((getD (maskOf image m) b 0 ≡ 0) × (Code mode image entries b → ⊥))
   told b h = by (masked image m b) refl
     where
-      by : (t : Bool) → masked image m b ≡ t → ((getD (maskOf image m) b 0 ≡ 1) × Code image entries b) ⊎ ((getD (maskOf image m) b 0 ≡ 0) × (Code image entries b → ⊥))
+      by : (t : Bool) → masked image m b ≡ t → ((getD (maskOf image m) b 0 ≡ 1) × Code mode image entries b) ⊎ ((getD (maskOf image m) b 0 ≡ 0) × (Code mode image entries b → ⊥))
       by true e = inl (mask-at b h ∙ ap bit e, masked-code b e)
       by false e = inr (mask-at b h ∙ ap bit e, λ C. never (sym (code-masked b C) ∙ e))
 
 pub code-bytes : CodeBytes
-code-bytes image marks order entries limit s B C a f b h =
-    subst (λ (m : List ℕ). ((getD (maskOf image m) b 0 ≡ 1) × Code image entries b) ⊎ ((getD (maskOf image m) b 0 ≡ 0) × (Code image entries b → ⊥)))
-    (sym (marks-are image marks order entries limit s a))
-    (told image marks entries _ (image-run-final image marks entries limit B C (covered image marks order entries limit (sized image marks order entries limit s a)) (ended image marks order entries limit s a f)) b h)
+code-bytes mode image marks order entries limit s B C a f b h =
+    subst (λ (m : List ℕ). ((getD (maskOf image m) b 0 ≡ 1) × Code mode image entries b) ⊎ ((getD (maskOf image m) b 0 ≡ 0) × (Code mode image entries b → ⊥)))
+    (sym (marks-are mode image marks order entries limit s a))
+    (told mode image marks entries _ (image-run-final mode image marks entries limit B C (covered mode image marks order entries limit (sized mode image marks order entries limit s a)) (ended mode image marks order entries limit s a f)) b h)

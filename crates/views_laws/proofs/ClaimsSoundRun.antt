@@ -10,6 +10,7 @@ use lib.ListN.{length, getD}
 use Rattle.instruction.specs.Forms.{formNamed}
 use Rattle.targets.specs.At.{formHere, fitsHere, flashHere}
 use Rattle.instruction.proofs.Ands.{first-part, second-part}
+use Rattle.instruction.specs.declared.mode.Mode.{Mode}
 use Rattle.reach.specs.Mark.{flash, traced, tracedMark, cleared}
 use Rattle.reach.specs.Note.{note}
 use Rattle.reach.specs.Takes.{Ready, Takes, stay, up}
@@ -55,32 +56,9 @@ module _ (image : List ℕ) where
   is-jmpf m q e =
       first-part (eqb (formHere image q) (formNamed "Jmpf")) _ (second-part (leb 2 q) _ (first-part (flashHere image q) _ e))
 
-  marked-fine : (m : List ℕ) (q : ℕ) → fitsHere image q ≡ true → Fine q (mark (tracerOf image) m q)
-  unfolding mark
-  marked-fine m q f = by (exemptHere image m q) refl
-    where
-      by : (b : Bool) → exemptHere image m q ≡ b → Fine q (cond b flash traced)
-      by true e = flash-fine q f (is-jmpf m q e)
-      by false e = traced-fine q f
-
   -- every mark is
   abbrev Good : List ℕ → Type 0
   Good m = (q : ℕ) → q < n → Fine q (getD m q 0)
-
-  -- no step damages a mark
-  pub step-good : (m : List ℕ) (p : ℕ) → n ≤ length m → Ready (tracerOf image) m p → Good m → Good (took (tracerOf image) m p)
-  step-good m p l R g q h = by (moved (tracerOf image) m p q l (R .inside))
-    where
-      by : Moved (tracerOf image) m p q → Fine q (getD (took (tracerOf image) m p) q 0)
-      by (itself e x) =
-          subst (Fine q) (sym (x ∙ ap (mark (tracerOf image) m) (sym e))) (marked-fine m q (ap (fitsHere image) e ∙ R .whole))
-      by (kept d f x) = subst (Fine q) (sym x) (g q h)
-      by (called d i o x) = subst (Fine q) (sym x) (waiting-fine q)
-
-  pub takes-good : {m m′ ps : List ℕ} → n ≤ length m → Takes (tracerOf image) m ps m′ → Good m → Good m′
-  takes-good l stay g = g
-  takes-good {m} l (up {p = p} R rest) g =
-      takes-good (let e = length-took (tracerOf image) m p in omega arith) rest (step-good m p l R g)
 
   pub start-good : (marks entries : List ℕ) → n ≤ length marks → Good (note n entries (cleared n marks))
   start-good marks entries l q h = by (noticed n entries (cleared n marks) q (omega (arith, length-cleared n marks l)))
@@ -89,10 +67,35 @@ module _ (image : List ℕ) where
       by (as-before f x) = subst (Fine q) (sym (x ∙ cleared-at n marks q h)) (untouched-fine q)
       by (newly i o x) = subst (Fine q) (sym x) (waiting-fine q)
 
+-- taking positions up
+module _ (mode : Mode) (image : List ℕ) where
+  marked-fine : (m : List ℕ) (q : ℕ) → fitsHere image q ≡ true → Fine image q (mark (tracerOf mode image) m q)
+  unfolding mark
+  marked-fine m q f = by (exemptHere image m q) refl
+    where
+      by : (b : Bool) → exemptHere image m q ≡ b → Fine image q (cond b flash traced)
+      by true e = flash-fine image q f (is-jmpf image m q e)
+      by false e = traced-fine image q f
+
+  -- no step damages a mark
+  pub step-good : (m : List ℕ) (p : ℕ) → length image ≤ length m → Ready (tracerOf mode image) m p → Good image m → Good image (took (tracerOf mode image) m p)
+  step-good m p l R g q h = by (moved (tracerOf mode image) m p q l (R .inside))
+    where
+      by : Moved (tracerOf mode image) m p q → Fine image q (getD (took (tracerOf mode image) m p) q 0)
+      by (itself e x) =
+          subst (Fine image q) (sym (x ∙ ap (mark (tracerOf mode image) m) (sym e))) (marked-fine m q (ap (fitsHere image) e ∙ R .whole))
+      by (kept d f x) = subst (Fine image q) (sym x) (g q h)
+      by (called d i o x) = subst (Fine image q) (sym x) (waiting-fine image q)
+
+  pub takes-good : {m m′ ps : List ℕ} → length image ≤ length m → Takes (tracerOf mode image) m ps m′ → Good image m → Good image m′
+  takes-good l stay g = g
+  takes-good {m} l (up {p = p} R rest) g =
+      takes-good (let e = length-took (tracerOf mode image) m p in omega arith) rest (step-good m p l R g)
+
 pub run-undamaged : RunUndamaged
 unfolding outcomeOf damagedHere
-run-undamaged image marks entries limit l p h =
-    takes-good image
+run-undamaged mode image marks entries limit l p h =
+    takes-good mode image
     (let e = length-note (length image) entries (cleared (length image) marks) in omega (arith, length-cleared (length image) marks l))
-    (run-takes limit (tracerOf image) entries (cleared (length image) marks) (cleared-base (tracerOf image) marks l) .takes)
+    (run-takes limit (tracerOf mode image) entries (cleared (length image) marks) (cleared-base (tracerOf mode image) marks l) .takes)
     (start-good image marks entries l) p h

@@ -28,21 +28,21 @@ start-undamaged image marks entries k e =
 
 pub step-undamaged : StepUndamaged
 unfolding damagedHere
-step-undamaged image m p s u e =
-    let w = went image m p s e in subst (Undamaged image) (sym (w .marks)) (step-good image m p (w .room) (w .ready) u)
+step-undamaged mode image m p s u e =
+    let w = went mode image m p s e in subst (Undamaged image) (sym (w .marks)) (step-good mode image m p (w .room) (w .ready) u)
 
 pub steps-undamaged : StepsUndamaged
-steps-undamaged image m ps m′ u stay = u
-steps-undamaged image m ps m′ u (further {p = p} {s = s} e rest) =
-    steps-undamaged image _ _ m′ (step-undamaged image m p s u e) rest
+steps-undamaged mode image m ps m′ u stay = u
+steps-undamaged mode image m ps m′ u (further {p = p} {s = s} e rest) =
+    steps-undamaged mode image _ _ m′ (step-undamaged mode image m p s u e) rest
 
 pub sweep-undamaged : SweepUndamaged
 unfolding damagedHere
-sweep-undamaged image marks entries s e =
-    let room = long-marks image marks entries s e in
+sweep-undamaged mode image marks entries s e =
+    let room = long-marks mode image marks entries s e in
     let begun : List ℕ = note (length image) entries (cleared (length image) marks) in
     let l = length-note (length image) entries (cleared (length image) marks) in
-    subst (Undamaged image) (sym (leaves-sweeps image marks entries (small-image image marks entries s e) room))
-    (takes-good image (omega (arith, l, length-cleared (length image) marks room))
-    (sweeps-take (tracerOf image) (suc (length image)) begun (omega (arith, l, length-cleared (length image) marks room)) .takes)
+    subst (Undamaged image) (sym (leaves-sweeps mode image marks entries (small-image mode image marks entries s e) room))
+    (takes-good mode image (omega (arith, l, length-cleared (length image) marks room))
+    (sweeps-take (tracerOf mode image) (suc (length image)) begun (omega (arith, l, length-cleared (length image) marks room)) .takes)
     (start-good image marks entries room))

@@ -8,6 +8,7 @@ use mathlib.Core.Path.{_≡_}
 use lib.ListN.{length, getD}
 use Rattle.instruction.specs.Bytes.{Bytes}
 use Rattle.instruction.specs.Answer.{accepted}
+use Rattle.instruction.specs.declared.mode.Mode.{Mode}
 use Rattle.targets.specs.At.{sizeHere, fitsHere, waysHere}
 use Rattle.reach.specs.Reach.{Reach}
 use Rattle.trace.specs.Run.{RunResult, runAnswer, runMarks}
@@ -16,13 +17,13 @@ use Rattle.trace_laws.specs.ClaimsImages.{Clean}
 use Rattle.views.specs.Mask.{maskOf}
 
 -- p is reachable from these entries: an entry inside the image, or a target inside the image of a reachable position whose instruction fits
-abbrev pub Reachable : List ℕ → List ℕ → ℕ → Type 0
-Reachable image entries p = Reach (tracerOf image) (waysHere image) [] entries p
+abbrev pub Reachable : Mode → List ℕ → List ℕ → ℕ → Type 0
+Reachable mode image entries p = Reach (tracerOf mode image) (waysHere mode image) [] entries p
 
 -- b lies under an instruction at a reachable position that fits
-pub record Code (image entries : List ℕ) (b : ℕ) : Type 0 where
+pub record Code (mode : Mode) (image entries : List ℕ) (b : ℕ) : Type 0 where
   pub position : ℕ
-  pub reachable : Reachable image entries position
+  pub reachable : Reachable mode image entries position
   pub fits : fitsHere image position ≡ true
   pub from : position ≤ b
   pub to : b < position + sizeHere image position
@@ -31,7 +32,7 @@ pub record Code (image entries : List ℕ) (b : ℕ) : Type 0 where
 -- other byte
 abbrev pub CodeBytes : Type 0
 CodeBytes =
-    (image marks order entries : List ℕ) (limit : ℕ) (s : RunResult) → Bytes image → Clean image → runAnswer image marks order entries limit ≡ accepted s → s .finished ≡ true
+    (mode : Mode) (image marks order entries : List ℕ) (limit : ℕ) (s : RunResult) → Bytes image → Clean image → runAnswer mode image marks order entries limit ≡ accepted s → s .finished ≡ true
     → (b : ℕ) → b < length image
-    → ((getD (maskOf image (runMarks image marks order entries limit)) b 0 ≡ 1) × Code image entries b)
-    ⊎ ((getD (maskOf image (runMarks image marks order entries limit)) b 0 ≡ 0) × (Code image entries b → ⊥))
+    → ((getD (maskOf image (runMarks mode image marks order entries limit)) b 0 ≡ 1) × Code mode image entries b)
+    ⊎ ((getD (maskOf image (runMarks mode image marks order entries limit)) b 0 ≡ 0) × (Code mode image entries b → ⊥))

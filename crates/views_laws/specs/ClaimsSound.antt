@@ -7,6 +7,7 @@ use mathlib.Core.List.{List}
 use mathlib.Core.Path.{_≡_}
 use lib.ListN.{length}
 use Rattle.instruction.specs.Answer.{accepted}
+use Rattle.instruction.specs.declared.mode.Mode.{Mode}
 use Rattle.trace.specs.Run.{outcomeOf}
 use Rattle.trace.specs.Start.{startAnswer, startMarks}
 use Rattle.trace.specs.Step.{StepResult, stepAnswer, stepMarks}
@@ -21,7 +22,7 @@ Undamaged image m = (p : ℕ) → p < length image → damagedHere image m p ≡
 -- for every image, also one with B8 0D 21, from any entries, however the run ends
 abbrev pub RunUndamaged : Type 0
 RunUndamaged =
-    (image marks entries : List ℕ) (limit : ℕ) → length image ≤ length marks → Undamaged image (outcomeOf image marks entries limit .marks)
+    (mode : Mode) (image marks entries : List ℕ) (limit : ℕ) → length image ≤ length marks → Undamaged image (outcomeOf mode image marks entries limit .marks)
 
 -- what start leaves
 abbrev pub StartUndamaged : Type 0
@@ -31,15 +32,15 @@ StartUndamaged =
 -- an accepted step keeps marks that are not damaged so
 abbrev pub StepUndamaged : Type 0
 StepUndamaged =
-    (image m : List ℕ) (p : ℕ) (s : StepResult) → Undamaged image m → stepAnswer image m p ≡ accepted s
-    → Undamaged image (stepMarks image m p)
+    (mode : Mode) (image m : List ℕ) (p : ℕ) (s : StepResult) → Undamaged image m → stepAnswer mode image m p ≡ accepted s
+    → Undamaged image (stepMarks mode image m p)
 
 -- so do any accepted steps, one after the other
 abbrev pub StepsUndamaged : Type 0
-StepsUndamaged = (image m ps m′ : List ℕ) → Undamaged image m → Steps image m ps m′ → Undamaged image m′
+StepsUndamaged = (mode : Mode) (image m ps m′ : List ℕ) → Undamaged image m → Steps mode image m ps m′ → Undamaged image m′
 
 -- what the sweeping engine leaves
 abbrev pub SweepUndamaged : Type 0
 SweepUndamaged =
-    (image marks entries : List ℕ) (s : SweepResult) → sweepAnswer image marks entries ≡ accepted s
-    → Undamaged image (sweepLeaves image marks entries)
+    (mode : Mode) (image marks entries : List ℕ) (s : SweepResult) → sweepAnswer mode image marks entries ≡ accepted s
+    → Undamaged image (sweepLeaves mode image marks entries)

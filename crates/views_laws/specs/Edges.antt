@@ -14,6 +14,7 @@ use Rattle.targets.specs.Targets.{targetsAnswer}
 use Rattle.trace.specs.Run.{runMarks, runOrder}
 use Rattle.views.specs.Labels.{labelsOf}
 use Rattle.instruction.specs.declared.instr.Instr.the-variants.{Not1, Br, «Mov_d9», Call, Jmpf, Brf, Jmp}
+use Rattle.instruction.specs.declared.mode.Mode.the-variants.{Unwrapped}
 
 -- the image of edge 12
 abbrev pub flashCall : List ℕ
@@ -25,10 +26,10 @@ unread = replicate 5 9
 
 -- a run in it from one entry: the marks it leaves, and the order list, which notes positions from its start on
 abbrev pub marksFrom : ℕ → List ℕ
-marksFrom entry = runMarks flashCall unread unread (entry ∷ []) 5
+marksFrom entry = runMarks Unwrapped flashCall unread unread (entry ∷ []) 5
 
 abbrev pub orderFrom : ℕ → List ℕ
-orderFrom entry = runOrder flashCall unread unread (entry ∷ []) 5
+orderFrom entry = runOrder Unwrapped flashCall unread unread (entry ∷ []) 5
 
 abbrev pub Edges : Type 0
 Edges =
@@ -39,20 +40,20 @@ Edges =
     × (decodeAnswer (0x1F ∷ 0x34 ∷ []) ≡ accepted (Call (pos 0xF34)))
     × (decodeAnswer (0x21 ∷ 0x12 ∷ 0x34 ∷ []) ≡ accepted (Jmpf (pos 0x1234)))
     × (decodeAnswer (0x11 ∷ 0x00 ∷ 0x80 ∷ []) ≡ accepted (Brf (pos 0x8000)))
-    × (targetsAnswer 0 (Brf (pos 0x8000)) ≡ accepted (pos 0x8002 ∷ []))
-    × (resolveAnswer (Brf (pos 0)) 3 ≡ accepted (Brf (pos 0xFFFE)))
+    × (targetsAnswer Unwrapped 0 (Brf (pos 0x8000)) ≡ accepted (pos 0x8002 ∷ []))
+    × (resolveAnswer Unwrapped (Brf (pos 0)) 3 ≡ accepted (Brf (pos 0xFFFE)))
     × (instrBytes (Brf (pos 0xFFFE)) ≡ 0x11 ∷ 0xFE ∷ 0xFF ∷ [])
-    × (resolveAnswer (Br (pos 129)) 2 ≡ accepted (Br (pos 127)))
-    × (resolveAnswer (Br (pos 130)) 2 ≡ refused 9 (pos 128 ∷ []))
-    × (resolveAnswer (Jmp (pos 0x0FFF)) 2 ≡ accepted (Jmp (pos 0xFFF)))
+    × (resolveAnswer Unwrapped (Br (pos 129)) 2 ≡ accepted (Br (pos 127)))
+    × (resolveAnswer Unwrapped (Br (pos 130)) 2 ≡ refused 9 (pos 128 ∷ []))
+    × (resolveAnswer Unwrapped (Jmp (pos 0x0FFF)) 2 ≡ accepted (Jmp (pos 0xFFF)))
     × (instrBytes (Jmp (pos 0xFFF)) ≡ 0x3F ∷ 0xFF ∷ [])
-    × (resolveAnswer (Jmp (pos 0x1000)) 2 ≡ refused 10 (pos 0 ∷ pos 1 ∷ []))
-    × (resolveAnswer (Jmp (pos 65536)) 2 ≡ refused 7 (pos 1 ∷ pos 65536 ∷ []))
-    × (resolveAnswer (Br (pos 65536)) 2 ≡ refused 8 (pos 65536 ∷ []))
+    × (resolveAnswer Unwrapped (Jmp (pos 0x1000)) 2 ≡ refused 10 (pos 0 ∷ pos 1 ∷ []))
+    × (resolveAnswer Unwrapped (Jmp (pos 65536)) 2 ≡ refused 7 (pos 1 ∷ pos 65536 ∷ []))
+    × (resolveAnswer Unwrapped (Br (pos 65536)) 2 ≡ refused 8 (pos 65536 ∷ []))
     × (decodeAnswer [] ≡ refused 12 (pos 0 ∷ []))
     × (decodeAnswer (0x68 ∷ 0x00 ∷ []) ≡ refused 5 (pos 0 ∷ pos 0x68 ∷ pos 1 ∷ []))
     × (orderFrom 0 ≡ 0 ∷ 2 ∷ 9 ∷ 9 ∷ 9 ∷ [])
     × (getD (marksFrom 0) 2 0 ≡ 3)
     × (orderFrom 2 ≡ 2 ∷ 0 ∷ 9 ∷ 9 ∷ 9 ∷ [])
     × (getD (marksFrom 2) 2 0 ≡ 2)
-    × (getD (labelsOf flashCall (marksFrom 2)) 0 0 ≡ 0)
+    × (getD (labelsOf Unwrapped flashCall (marksFrom 2)) 0 0 ≡ 0)

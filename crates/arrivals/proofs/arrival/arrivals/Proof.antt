@@ -6,6 +6,7 @@ use Prim.Native.Nat.{ℕ}
 use borrow.Author.Needs.{needs}
 use borrow.Author.Tests.{not-true, not-false}
 use lib.ListN.{drop}
+use Rattle.instruction.specs.declared.mode.Mode.{Mode}
 use Rattle.views.specs.View.{Sound}
 use Rattle.views.proofs.Viewing.{is-sound, small, refused-all, no-room-for, shown-as}
 use Rattle.arrivals.specs.Arrivals.{arrivalsOf}
@@ -14,6 +15,9 @@ use Rattle.arrivals.proofs.arrival.arrivals.Tie as tie
 
 abbrev start : tie.After-is-written → tie.Start
 start c = c .before .before .before .before .before
+
+abbrev mode : tie.After-is-written → Mode
+mode c = start c .args .mode
 
 abbrev image : tie.After-is-written → List ℕ
 image c = start c .args .image .now
@@ -25,7 +29,7 @@ abbrev room : tie.After-is-written → List ℕ
 room c = start c .args .room .now
 
 abbrev out : tie.After-is-written → List ℕ
-out c = arrivalsOf (image c) (marks c) (start c .args .p)
+out c = arrivalsOf (mode c) (image c) (marks c) (start c .args .p)
 
 returns : tie.Need-returns
 returns c =

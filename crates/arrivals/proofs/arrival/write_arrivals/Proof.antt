@@ -8,6 +8,7 @@ use native.Mathlib.Omega.{arith}
 use borrow.Author.Needs.{needs}
 use lib.ListN.{length, length-set}
 use lib.Seq.{sets}
+use Rattle.instruction.specs.declared.mode.Mode.{Mode}
 use Rattle.views.proofs.Laid.{laid}
 use Rattle.arrivals.specs.Arrivals.{arrivalsOf}
 use Rattle.arrivals.proofs.Arriving.{leftFrom, all-left, none-left, Next, next-is, passed}
@@ -15,17 +16,20 @@ use Rattle.arrivals.proofs.arrival.write_arrivals.Statement.{statement}
 use Rattle.arrivals.proofs.arrival.write_arrivals.Tie as tie
 
 abbrev Inv-loop : tie.InvT-loop
-Inv-loop image marks p room₀ n i₀ q₀ room i q =
+Inv-loop mode image marks p room₀ n i₀ q₀ room i q =
     (length room ≡ length room₀)
-    × (i + length (leftFrom image marks p q) ≡ length (arrivalsOf image marks p))
-    × (sets room i (leftFrom image marks p q) ≡ sets room₀ 0 (arrivalsOf image marks p))
-    × (q < length image → leftFrom image marks p q ≡ q ∷ leftFrom image marks p (q + 1))
+    × (i + length (leftFrom mode image marks p q) ≡ length (arrivalsOf mode image marks p))
+    × (sets room i (leftFrom mode image marks p q) ≡ sets room₀ 0 (arrivalsOf mode image marks p))
+    × (q < length image → leftFrom mode image marks p q ≡ q ∷ leftFrom mode image marks p (q + 1))
 
 abbrev μ-loop : tie.MeasureT-loop
-μ-loop image marks p room₀ n i₀ q₀ room i q = length (leftFrom image marks p q)
+μ-loop mode image marks p room₀ n i₀ q₀ room i q = length (leftFrom mode image marks p q)
 
 abbrev start : tie.After-next-arrival Inv-loop μ-loop → tie.Start Inv-loop μ-loop
 start c = c .before .before .before .before
+
+abbrev mode : tie.After-next-arrival Inv-loop μ-loop → Mode
+mode c = start c .args .mode
 
 abbrev image : tie.After-next-arrival Inv-loop μ-loop → List ℕ
 image c = start c .args .image .now
@@ -38,8 +42,8 @@ p c = start c .args .p
 
 loop-holds : tie.Need-loop-holds Inv-loop μ-loop
 loop-holds c =
-    let n = next-is (image c) (marks c) (p c) (start c .pre .0) 0 (c .next-arrival .result) (c .next-arrival .ensures) in
-    let e = n .same ∙ all-left (image c) (marks c) (p c) in
+    let n = next-is (mode c) (image c) (marks c) (p c) (start c .pre .0) 0 (c .next-arrival .result) (c .next-arrival .ensures) in
+    let e = n .same ∙ all-left (mode c) (image c) (marks c) (p c) in
     (refl, omega (arith, ap length e), ap (sets (start c .args .room .now) 0) e, n .head)
 
 -- there is room for one more
@@ -50,18 +54,18 @@ room-left c =
     omega (arith, v .0, v .1, start (l .before) .pre .1, ap length (v .3 (c .loop-test .taken)))
 
 -- the arrival after q
-next : (c : tie.After-next-arrival2 Inv-loop μ-loop) → let s = c .before .before .before in Next (image s) (marks s) (p s) (c .before .before .loop .q + 1) (c .next-arrival2 .result)
+next : (c : tie.After-next-arrival2 Inv-loop μ-loop) → let s = c .before .before .before in Next (mode s) (image s) (marks s) (p s) (c .before .before .loop .q + 1) (c .next-arrival2 .result)
 next c =
     let s = c .before .before .before in
-    next-is (image s) (marks s) (p s) (start s .pre .0) (c .before .before .loop .q + 1) (c .next-arrival2 .result) (c .next-arrival2 .ensures)
+    next-is (mode s) (image s) (marks s) (p s) (start s .pre .0) (c .before .before .loop .q + 1) (c .next-arrival2 .result) (c .next-arrival2 .ensures)
 
 -- one less is left
-turn : (c : tie.After-next-arrival2 Inv-loop μ-loop) → let l = c .before .before in let s = l .before in leftFrom (image s) (marks s) (p s) (l .loop .q) ≡ l .loop .q ∷ leftFrom (image s) (marks s) (p s) (c .next-arrival2 .result)
+turn : (c : tie.After-next-arrival2 Inv-loop μ-loop) → let l = c .before .before in let s = l .before in leftFrom (mode s) (image s) (marks s) (p s) (l .loop .q) ≡ l .loop .q ∷ leftFrom (mode s) (image s) (marks s) (p s) (c .next-arrival2 .result)
 turn c =
     let t = c .before in
     let l = t .before in
     let s = l .before in
-    passed (image s) (marks s) (p s) (start s .pre .0) (l .loop .q) (c .next-arrival2 .result) (t .loop-test .taken) (l .loop .inv .3) (next c)
+    passed (mode s) (image s) (marks s) (p s) (start s .pre .0) (l .loop .q) (c .next-arrival2 .result) (t .loop-test .taken) (l .loop .inv .3) (next c)
 
 loop-again : tie.Need-loop-again Inv-loop μ-loop
 loop-again c =
@@ -73,8 +77,8 @@ returns : tie.Need-returns Inv-loop μ-loop
 returns c =
     let l = c .before in
     let s = l .before in
-    let e = none-left (image s) (marks s) (p s) (l .loop .q) (c .loop-test .left) in
-    ap (sets (l .loop .room) (l .loop .i)) (sym e) ∙ l .loop .inv .2 ∙ laid (arrivalsOf (image s) (marks s) (p s)) (start s .args .room .now) (start s .pre .1)
+    let e = none-left (mode s) (image s) (marks s) (p s) (l .loop .q) (c .loop-test .left) in
+    ap (sets (l .loop .room) (l .loop .i)) (sym e) ∙ l .loop .inv .2 ∙ laid (arrivalsOf (mode s) (image s) (marks s) (p s)) (start s .args .room .now) (start s .pre .1)
 
 pub write-arrivals-spec : {M : Type 1} → statement M
 write-arrivals-spec =

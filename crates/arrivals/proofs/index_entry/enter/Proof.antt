@@ -6,6 +6,7 @@ use Prim.Native.Nat.{ℕ, _+_, _*_, _<_, _≤_}
 use native.Mathlib.Omega.{arith}
 use borrow.Author.Needs.{needs}
 use lib.ListN.{length, getD}
+use Rattle.instruction.specs.declared.mode.Mode.{Mode}
 use Rattle.arrivals.specs.Index.{targetOf}
 use Rattle.arrivals.specs.Entered.{linked, headed, Entered}
 use Rattle.arrivals.proofs.Entering.{entered}
@@ -14,6 +15,9 @@ use Rattle.arrivals.proofs.index_entry.enter.Tie as tie
 
 abbrev start : tie.After-two → tie.Start
 start t = t .before .before .before .before .before .before
+
+abbrev mode : tie.After-two → Mode
+mode t = start t .args .mode
 
 abbrev image : tie.After-two → List ℕ
 image t = start t .args .image .now
@@ -28,10 +32,10 @@ abbrev old : tie.After-two → List ℕ
 old t = start t .args .index .now
 
 -- the targets by their numbers
-one : (t : tie.After-two) → t .before .one .result ≡ targetOf (image t) (marks t) 0 (q t)
+one : (t : tie.After-two) → t .before .one .result ≡ targetOf (mode t) (image t) (marks t) 0 (q t)
 one t = t .before .one .ensures ∙ ap (λ (l : List ℕ). getD l 0 65536) (t .before .before .held-at .ensures)
 
-two : (t : tie.After-two) → t .two .result ≡ targetOf (image t) (marks t) 1 (q t)
+two : (t : tie.After-two) → t .two .result ≡ targetOf (mode t) (image t) (marks t) 1 (q t)
 two t = t .two .ensures ∙ ap (λ (l : List ℕ). getD l 1 65536) (t .before .before .held-at .ensures)
 
 -- what stands after each call
@@ -103,13 +107,13 @@ returns c =
     let k₁ = link-of k₂ in
     let t = two-of k₁ in
     let n : ℕ = length (image t) in
-    let a : ℕ = targetOf (image t) (marks t) 0 (q t) in
-    let b : ℕ = targetOf (image t) (marks t) 1 (q t) in
+    let a : ℕ = targetOf (mode t) (image t) (marks t) 0 (q t) in
+    let b : ℕ = targetOf (mode t) (image t) (marks t) 1 (q t) in
     let e₁ = k₁ .link .ensures ∙ ap (λ (x : ℕ). linked n x (n + q t) (old t)) (one t) in
     let e₂ = k₂ .link2 .ensures ∙ ap (λ (x : ℕ). linked n x (2 * n + q t) (k₁ .link .last .0)) (two t) ∙ ap (linked n b (2 * n + q t)) e₁ in
     let e₃ = k₃ .head .ensures ∙ ap (λ (x : ℕ). headed n x (q t) (k₂ .link2 .last .0)) (one t) ∙ ap (headed n a (q t)) e₂ in
     let e₄ = k₄ .head2 .ensures ∙ ap (λ (x : ℕ). headed n x (q t) (k₃ .head .last .0)) (two t) ∙ ap (headed n b (q t)) e₃ in
-    subst (λ (l : List ℕ). Entered (image t) (marks t) (q t) l) (sym e₄) (entered (image t) (marks t) (start t .pre .1) (q t) (start t .pre .0) (old t) (start t .pre .2))
+    subst (λ (l : List ℕ). Entered (mode t) (image t) (marks t) (q t) l) (sym e₄) (entered (mode t) (image t) (marks t) (start t .pre .1) (q t) (start t .pre .0) (old t) (start t .pre .2))
 
 pub enter-spec : {M : Type 1} → statement M
 enter-spec =

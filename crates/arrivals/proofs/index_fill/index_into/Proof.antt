@@ -6,19 +6,23 @@ use Prim.Native.Nat.{ℕ, _+_, _-_, _*_, _<_, _≤_}
 use native.Mathlib.Omega.{arith}
 use borrow.Author.Needs.{needs}
 use lib.ListN.{length}
+use Rattle.instruction.specs.declared.mode.Mode.{Mode}
 use Rattle.arrivals.specs.Entered.{Entered}
 use Rattle.arrivals.proofs.Indexing.{blank-entered, all-entered, past-room, other-room, own-room}
 use Rattle.arrivals.proofs.index_fill.index_into.Statement.{statement}
 use Rattle.arrivals.proofs.index_fill.index_into.Tie as tie
 
 abbrev Inv-loop : tie.InvT-loop
-Inv-loop image marks index₀ q₀ index q = (q ≤ length image) × Entered image marks q index
+Inv-loop mode image marks index₀ q₀ index q = (q ≤ length image) × Entered mode image marks q index
 
 abbrev μ-loop : tie.MeasureT-loop
-μ-loop image marks index₀ q₀ index q = q
+μ-loop mode image marks index₀ q₀ index q = q
 
 abbrev start : tie.Else1 Inv-loop μ-loop → tie.Start Inv-loop μ-loop
 start e = e .before .before .before .before
+
+abbrev mode : tie.Else1 Inv-loop μ-loop → Mode
+mode e = start e .args .mode
 
 abbrev image : tie.Else1 Inv-loop μ-loop → List ℕ
 image e = start e .args .image .now
@@ -33,13 +37,13 @@ fits : (e : tie.Else1 Inv-loop μ-loop) → length (image e) ≤ 65536
 fits e = e .if1 .left
 
 returns : tie.Need-returns Inv-loop μ-loop
-returns c = let a = c .before .before .before .before .args in past-room (a .image .now) (a .marks .now) (a .index .now) (c .if1 .taken)
+returns c = let a = c .before .before .before .before .args in past-room (a .mode) (a .image .now) (a .marks .now) (a .index .now) (c .if1 .taken)
 
 mul-if2 : tie.Need-mul-if2 Inv-loop μ-loop
 mul-if2 c = let h = fits c in record { fits = omega (arith, h) }
 
 returns-2 : tie.Need-returns-2 Inv-loop μ-loop
-returns-2 c = let e = c .before in other-room (image e) (marks e) (room e) (fits e) (c .if2 .taken)
+returns-2 c = let e = c .before in other-room (mode e) (image e) (marks e) (room e) (fits e) (c .if2 .taken)
 
 -- the room has three cells for each position
 own : (e : tie.Else2 Inv-loop μ-loop) → length (room (e .before)) ≡ 3 * length (image (e .before))
@@ -50,7 +54,7 @@ loop-holds c =
     let b = c .before .before in
     let o = b .before .before in
     let e = o .before in
-    (omega arith, subst (λ (l : List ℕ). Entered (image e) (marks e) (length (image e)) l) (sym (b .blank .ensures)) (blank-entered (image e) (marks e) (length (room e)) (own o)))
+    (omega arith, subst (λ (l : List ℕ). Entered (mode e) (image e) (marks e) (length (image e)) l) (sym (b .blank .ensures)) (blank-entered (mode e) (image e) (marks e) (length (room e)) (own o)))
 
 abbrev from : tie.At-loop Inv-loop μ-loop → tie.Else2 Inv-loop μ-loop
 from l = l .before .before .before .before .before
@@ -71,27 +75,27 @@ enter-requires c κs =
     let t = c .before in
     let l = t .before in
     let e = from l .before in
-    (lower t .1, fits e, subst (λ (k : ℕ). Entered (image e) (marks e) k (l .loop .index)) (lower t .0) (l .loop .inv .1))
+    (lower t .1, fits e, subst (λ (k : ℕ). Entered (mode e) (image e) (marks e) k (l .loop .index)) (lower t .0) (l .loop .inv .1))
 
 loop-again : tie.Need-loop-again Inv-loop μ-loop
 loop-again c = let n = c .before .before in let g = lower (n .before .before) .1 in (omega (arith, g), n .enter .ensures)
 
 -- all are entered
-entered : (c : tie.After-loop Inv-loop μ-loop) → let l = c .before in let e = from l .before in Entered (image e) (marks e) 0 (l .loop .index)
+entered : (c : tie.After-loop Inv-loop μ-loop) → let l = c .before in let e = from l .before in Entered (mode e) (image e) (marks e) 0 (l .loop .index)
 entered c =
     let l = c .before in
     let e = from l .before in
     let h : l .loop .q ≤ 0 = c .loop-test .left in
     let z : l .loop .q ≡ 0 = omega arith in
-    subst (λ (k : ℕ). Entered (image e) (marks e) k (l .loop .index)) z (l .loop .inv .1)
+    subst (λ (k : ℕ). Entered (mode e) (image e) (marks e) k (l .loop .index)) z (l .loop .inv .1)
 
 returns-3 : tie.Need-returns-3 Inv-loop μ-loop
 returns-3 c =
     let l = c .before in
     let o = from l in
     let e = o .before in
-    let w = own-room (image e) (marks e) (room e) (fits e) (own o) in
-    (w .0, all-entered (image e) (marks e) (l .loop .index) (entered c) ∙ w .1)
+    let w = own-room (mode e) (image e) (marks e) (room e) (fits e) (own o) in
+    (w .0, all-entered (mode e) (image e) (marks e) (l .loop .index) (entered c) ∙ w .1)
 
 pub index-into-spec : {M : Type 1} → statement M
 index-into-spec =

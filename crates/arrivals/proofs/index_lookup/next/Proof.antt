@@ -30,7 +30,7 @@ abbrev q : tie.After-one → ℕ
 q o = start (from o) .args .q
 
 abbrev held : tie.After-one → List ℕ
-held o = heldAt (start (from o) .args .image .now) (start (from o) .args .marks .now) (q o)
+held o = heldAt (start (from o) .args .mode) (start (from o) .args .image .now) (start (from o) .args .marks .now) (q o)
 
 returns : tie.Need-returns
 returns c =

@@ -15,10 +15,10 @@ restored-requires c κs =
     let t = c .before .before .before .before in
     let s = t .before .before .before .before .before .before in
     let a = s .args in
-    let l : length (a .text .now) < 2 ^ 63 = omega (arith, s .good .0 .1) in
+    let l : length (a .text .now) < 2 ^ 63 = omega (arith, s .good .1 .0 .1) in
     let m : length (a .marks .now) < 2 ^ 63 = omega arith in
     let n : a .length < 2 ^ 63 = omega arith in
-    back-small (a .text .now) (a .length) (a .image .now) (a .marks .now) l n m (t .read-back .result) (t .read-back .ensures .0)
+    back-small (a .mode) (a .text .now) (a .length) (a .image .now) (a .marks .now) l n m (t .read-back .result) (t .read-back .ensures .0)
 
 returns : tie.Need-returns
 returns c =

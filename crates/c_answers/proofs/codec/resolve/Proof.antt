@@ -16,7 +16,7 @@ returns c =
     let i = r .before in
     let s = i .before in
     let e = i .with-first .ensures ∙ named-is (s .args .first) (s .fits .a) (s .fits .b) (s .fits .c) in
-    c .resolved .ensures ∙ ap (replyOf instrValues) (r .resolve .ensures ∙ ap (λ (j : Instr). resolveAnswer j (s .args .base)) e)
+    c .resolved .ensures ∙ ap (replyOf instrValues) (r .resolve .ensures ∙ ap (λ (j : Instr). resolveAnswer (s .args .mode) j (s .args .base)) e)
 
 pub resolve-spec : {M : Type 1} → statement M
 resolve-spec = tie.close (tie.spec (λ c κs. search needs) (λ c κs. search needs) (λ c κs. search needs) returns)

@@ -8,6 +8,7 @@ use mir.Syntax.{w32}
 use mir.Val.{toZ, ofZ}
 use Rattle.instruction.specs.Answer.{accepted}
 use Rattle.instruction.specs.Code.{codeOf}
+use Rattle.instruction.specs.declared.mode.Mode.the-variants.{Unwrapped}
 use Rattle.instruction.specs.ResolveOperand.{noAddress}
 use Rattle.instruction.proofs.Resolving.{wraps-is, long-no, long-is}
 use Rattle.instruction.proofs.Sign.{back}
@@ -20,7 +21,7 @@ tested c = sym (rw (back (c .before .fits .z)) at (c .is-outside .ensures))
 returns : tie.Need-returns
 returns c =
     let s = c .before .before in
-    rw (back (s .fits .z)) (long-no (s .args .base) 0 (s .args .z) (tested (c .before) ∙ c .if1 .taken))
+    rw (back (s .fits .z)) (long-no Unwrapped (s .args .base) 0 (s .args .z) (tested (c .before) ∙ c .if1 .taken))
 
 returns-2 : tie.Need-returns-2
 returns-2 c =
@@ -34,7 +35,7 @@ returns-2 c =
     let h : r < 65536 = search needs in
     let f : toZ w32 (ofZ w32 (c .num .result)) ≡ c .num .result = search needs in
     ap accepted (f ∙ c .num .ensures)
-    ∙ long-is (s .args .base) 0 (s .args .z) e (w .wrapping-add-u16 .result)
+    ∙ long-is Unwrapped (s .args .base) 0 (s .args .z) e (w .wrapping-add-u16 .result)
     (w .wrapping-add-u16 .ensures ∙ wraps-is (s .args .z) (s .args .base) r e (s .pre) h (b .wrapping-sub-u16 .ensures ∙ ap (λ (m : ℕ). m % 65536) x))
 
 pub long-spec : {M : Type 1} → statement M

@@ -9,6 +9,7 @@ use lib.IntN.{ℤ, pos, natAbs}
 use mir.Syntax.{w32}
 use mir.Val.{toZ, ofZ}
 use Rattle.instruction.specs.Answer.{Answer, accepted, refused}
+use Rattle.instruction.specs.declared.mode.Mode.the-variants.{Unwrapped}
 use Rattle.instruction.specs.ResolveOperand.{noAddress, top}
 use Rattle.instruction.specs.declared.answer.Tops.{Tops}
 use Rattle.instruction.proofs.Named.{named}
@@ -36,14 +37,14 @@ returns : tie.Need-returns
 returns c =
     let u = c .before .before in
     let a = u .before .args in
-    named (c .new .ensures) (back (u .before .fits .z)) (page-no (a .base) (a .n) (a .z) (tested u ∙ c .before .if1 .taken))
+    named (c .new .ensures) (back (u .before .fits .z)) (page-no Unwrapped (a .base) (a .n) (a .z) (tested u ∙ c .before .if1 .taken))
 
 returns-2 : tie.Need-returns-2
 returns-2 c =
     let k = c .before .before in
     let a = k .before .before .before .args in
     tops (c .new2 .ensures) refl (ap top (at k))
-    (page-other (a .base) (a .n) (a .z) (inside k) (λ e. c .before .if2 .taken (ap top (at k) ∙ e)))
+    (page-other Unwrapped (a .base) (a .n) (a .z) (inside k) (λ e. c .before .if2 .taken (ap top (at k) ∙ e)))
 
 returns-3 : tie.Need-returns-3
 returns-3 c =
@@ -51,7 +52,7 @@ returns-3 c =
     let a = k .before .before .before .args in
     let f : toZ w32 (ofZ w32 (c .num .result)) ≡ c .num .result = search needs in
     ap accepted (f ∙ c .num .ensures ∙ ap (λ (m : ℕ). pos (m % 4096)) (at k))
-    ∙ page-is (a .base) (a .n) (a .z) (inside k) (sym (ap top (at k)) ∙ c .before .if2 .left)
+    ∙ page-is Unwrapped (a .base) (a .n) (a .z) (inside k) (sym (ap top (at k)) ∙ c .before .if2 .left)
 
 pub page-spec : {M : Type 1} → statement M
 page-spec =

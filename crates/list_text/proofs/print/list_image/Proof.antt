@@ -60,16 +60,16 @@ order-is r = order-are (made r)
 
 -- the marks that the run left, lent again
 abbrev left : tie.After-run → List ℕ
-left r = r .run .last .1 .0 ++ drop (length (image (made r))) (made r .before .bytes .result)
+left r = r .run .last .1 .1 .0 ++ drop (length (image (made r))) (made r .before .bytes .result)
 
-left-long : (r : tie.After-run) → length (r .run .last .1 .0) ≡ length (image (made r))
-left-long r = r .run .kept .1 .0 ∙ sym (marks-long (made r))
+left-long : (r : tie.After-run) → length (r .run .last .1 .1 .0) ≡ length (image (made r))
+left-long r = r .run .kept .1 .1 .0 ∙ sym (marks-long (made r))
 
-again : (r : tie.After-run) → take (length (image (made r))) (left r) ≡ r .run .last .1 .0
-again r = take-at (r .run .last .1 .0) _ (length (image (made r))) (left-long r)
+again : (r : tie.After-run) → take (length (image (made r))) (left r) ≡ r .run .last .1 .1 .0
+again r = take-at (r .run .last .1 .1 .0) _ (length (image (made r))) (left-long r)
 
 within : (r : tie.After-run) → length (image (made r)) ≤ length (left r)
-within r = omega (arith, left-long r, length-append (r .run .last .1 .0) (drop (length (image (made r))) (made r .before .bytes .result)))
+within r = omega (arith, left-long r, length-append (r .run .last .1 .1 .0) (drop (length (image (made r))) (made r .before .bytes .result)))
 
 sized : (r : tie.After-run) → length (image (made r)) ≡ length (take (length (image (made r))) (left r))
 sized r = sym (ap length (again r) ∙ left-long r)
@@ -80,7 +80,7 @@ returns c =
     let e = w .before .before .before in
     let r = e .before .before .before .before in
     let a = start r .args in
-    listed-run (a .image .now) (a .entries .now) (start r .pre) (lent r) (order r) (bytes-are r) (order-is r) _ (ap ranOf (sym (e .enum-told .given .1)) ∙ r .run .ensures .0) _ (again r ∙ r .run .ensures .1 .0) (ap length (again r) ∙ r .run .kept .1 .0) _ _ (a .room .now) (w .listing-with .ensures)
+    listed-run (a .image .now) (a .entries .now) (start r .pre) (lent r) (order r) (bytes-are r) (order-is r) _ (ap ranOf (sym (e .enum-told .given .1)) ∙ r .run .ensures .0) _ (again r ∙ r .run .ensures .1 .0) (ap length (again r) ∙ r .run .kept .1 .1 .0) _ _ (a .room .now) (w .listing-with .ensures)
 
 returns-2 : tie.Need-returns-2
 returns-2 c =
@@ -88,7 +88,7 @@ returns-2 c =
     let e = w .before .before .before in
     let r = e .before .before .before .before in
     let a = start r .args in
-    listed-run (a .image .now) (a .entries .now) (start r .pre) (lent r) (order r) (bytes-are r) (order-is r) _ (ap ranOf (sym (e .enum-told2 .given .1)) ∙ r .run .ensures .0) _ (again r ∙ r .run .ensures .1 .0) (ap length (again r) ∙ r .run .kept .1 .0) _ _ (a .room .now) (w .listing-with2 .ensures)
+    listed-run (a .image .now) (a .entries .now) (start r .pre) (lent r) (order r) (bytes-are r) (order-is r) _ (ap ranOf (sym (e .enum-told2 .given .1)) ∙ r .run .ensures .0) _ (again r ∙ r .run .ensures .1 .0) (ap length (again r) ∙ r .run .kept .1 .1 .0) _ _ (a .room .now) (w .listing-with2 .ensures)
 
 returns-3 : tie.Need-returns-3
 returns-3 c =

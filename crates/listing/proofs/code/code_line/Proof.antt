@@ -44,7 +44,7 @@ add c =
     let w = there i in
     let z = size-short (bytes h) 0 (λ n. h .before .before .shared-slice-known .given n .fits) in
     let e : c .size .result ≡ sizeOf (formIn (i .i .given .0 .0)) = c .size .ensures in
-    record { fits = omega (arith, e, w .size, z .1, start h .good .0) }
+    record { fits = omega (arith, e, w .size, z .1, start h .good .1 .0) }
 
 put-instr-requires : tie.Need-put-instr-requires
 put-instr-requires c κs =
@@ -60,7 +60,7 @@ returns c =
     let i = z .before .before in
     let h = i .before .before in
     let e : z .size .result ≡ sizeOf (formIn (i .i .given .0 .0)) = z .size .ensures in
-    puts-as (code-past (p h) (bytes h) (i .i .given .0 .0) (told i) (omega (arith, e, c .if1 .taken))) (puts-none _ _)
+    puts-as (code-past (start h .args .mode) (p h) (bytes h) (i .i .given .0 .0) (told i) (omega (arith, e, c .if1 .taken))) (puts-none _ _)
 
 returns-2 : tie.Need-returns-2
 returns-2 c =
@@ -70,17 +70,17 @@ returns-2 c =
     let i = z .before .before in
     let h = i .before .before in
     let e : z .size .result ≡ sizeOf (formIn (i .i .given .0 .0)) = z .size .ensures in
-    puts-as (code-here (p h) (bytes h) (i .i .given .0 .0) (told i) (omega (arith, e, l .if1 .left))) (k .put-instr .ensures .0)
+    puts-as (code-here (start h .args .mode) (p h) (bytes h) (i .i .given .0 .0) (told i) (omega (arith, e, l .if1 .left))) (k .put-instr .ensures .0)
 
 returns-3 : tie.Need-returns-3
 returns-3 c =
     let h = c .before .before in
-    puts-as (code-cut (p h) (bytes h) (c .enum-told .given .0 .0) (sym (c .enum-told .given .1) ∙ h .instr-at .ensures)) (puts-none _ _)
+    puts-as (code-cut (start h .args .mode) (p h) (bytes h) (c .enum-told .given .0 .0) (sym (c .enum-told .given .1) ∙ h .instr-at .ensures)) (puts-none _ _)
 
 returns-4 : tie.Need-returns-4
 returns-4 c =
     let h = c .before .before in
-    puts-as (code-none (p h) (bytes h) (sym (c .enum-told2 .given .1) ∙ h .instr-at .ensures)) (puts-none _ _)
+    puts-as (code-none (start h .args .mode) (p h) (bytes h) (sym (c .enum-told2 .given .1) ∙ h .instr-at .ensures)) (puts-none _ _)
 
 pub code-line-spec : {M : Type 1} → statement M
 code-line-spec =

@@ -8,6 +8,7 @@ use native.Mathlib.Omega.{arith}
 use borrow.Author.Needs.{needs}
 use borrow.Author.Tests.{lt-ltb, le-ltb}
 use lib.ListN.{length}
+use Rattle.instruction.specs.declared.mode.Mode.{Mode}
 use Rattle.arrivals.specs.Arrivals.{arrivalsOf, nextArrival}
 use Rattle.arrivals.proofs.Arriving.{leftFrom, all-left, none-left, Next, next-is}
 use Rattle.arrivals.specs.Index.{lowestIn}
@@ -20,6 +21,9 @@ use Rattle.listing.proofs.lines.put_arrivals.Tie as tie
 
 abbrev start : tie.Else1 → tie.Start
 start e = e .before .before .before .before .before
+
+abbrev mode : tie.Else1 → Mode
+mode e = start e .args .mode
 
 abbrev image : tie.Else1 → List ℕ
 image e = start e .args .image .now
@@ -36,29 +40,29 @@ index e = start e .args .index .now
 returns : tie.Need-returns
 returns c =
     let a = c .before .before .before .before .before .args in
-    (puts-as (not-chosen (a .p) (isLent (a .index .now)) (arrivalsOf (a .image .now) (a .marks .now) (a .p)) (le-ltb 0 (length (a .index .now)) (omega (arith, c .if1 .taken)))) (puts-none _ _), omega arith)
+    (puts-as (not-chosen (a .p) (isLent (a .index .now)) (arrivalsOf (a .mode) (a .image .now) (a .marks .now) (a .p)) (le-ltb 0 (length (a .index .now)) (omega (arith, c .if1 .taken)))) (puts-none _ _), omega arith)
 
 -- an index is lent
 lent : (e : tie.Else1) → isLent (index e) ≡ true
 lent e = let n : length (index e) ≡ 0 → ⊥ = e .if1 .left in lt-ltb 0 (length (index e)) (omega arith)
 
 -- its first is the lowest arrival
-lowest : (n : tie.After-first) → n .first .result ≡ nextArrival (image (n .before)) (marks (n .before)) (p (n .before)) 0
+lowest : (n : tie.After-first) → n .first .result ≡ nextArrival (mode (n .before)) (image (n .before)) (marks (n .before)) (p (n .before)) 0
 lowest n =
     let e = n .before in
-    n .first .ensures ∙ ap (λ (l : List ℕ). lowestIn l (p e)) (start e .pre .3 (lent e)) ∙ first-indexed (image e) (marks e) (p e) (start e .pre .2)
+    n .first .ensures ∙ ap (λ (l : List ℕ). lowestIn l (p e)) (start e .pre .3 (lent e)) ∙ first-indexed (mode e) (image e) (marks e) (p e) (start e .pre .2)
 
-first : (n : tie.After-first) → Next (image (n .before)) (marks (n .before)) (p (n .before)) 0 (n .first .result)
-first n = let e = n .before in next-is (image e) (marks e) (p e) (start e .pre .1) 0 (n .first .result) (lowest n)
+first : (n : tie.After-first) → Next (mode (n .before)) (image (n .before)) (marks (n .before)) (p (n .before)) 0 (n .first .result)
+first n = let e = n .before in next-is (mode e) (image e) (marks e) (p e) (start e .pre .1) 0 (n .first .result) (lowest n)
 
-all : (n : tie.After-first) → arrivalsOf (image (n .before)) (marks (n .before)) (p (n .before)) ≡ leftFrom (image (n .before)) (marks (n .before)) (p (n .before)) (n .first .result)
-all n = let e = n .before in sym (first n .same ∙ all-left (image e) (marks e) (p e))
+all : (n : tie.After-first) → arrivalsOf (mode (n .before)) (image (n .before)) (marks (n .before)) (p (n .before)) ≡ leftFrom (mode (n .before)) (image (n .before)) (marks (n .before)) (p (n .before)) (n .first .result)
+all n = let e = n .before in sym (first n .same ∙ all-left (mode e) (image e) (marks e) (p e))
 
 returns-2 : tie.Need-returns-2
 returns-2 c =
     let n = c .before in
     let e = n .before in
-    (puts-as (no-arrivals (p e) (isLent (index e)) (arrivalsOf (image e) (marks e) (p e)) (lent e) (all n ∙ none-left (image e) (marks e) (p e) (n .first .result) (c .if2 .taken))) (puts-none _ _), omega arith)
+    (puts-as (no-arrivals (p e) (isLent (index e)) (arrivalsOf (mode e) (image e) (marks e) (p e)) (lent e) (all n ∙ none-left (mode e) (image e) (marks e) (p e) (n .first .result) (c .if2 .taken))) (puts-none _ _), omega arith)
 
 put-arrived-requires : tie.Need-put-arrived-requires
 put-arrived-requires c κs =
@@ -80,7 +84,7 @@ returns-3 c =
     let t : q < length (image e) = d .if2 .left in
     let h : j .put-start .result ≤ start e .args .at + 6 = puts-begin (p e) (j .put-start .ensures) in
     let g : k .put-arrived .result ≤ j .put-start .result + 327681 = k .put-arrived .ensures .1 in
-    (puts-as (arrivals (p e) (isLent (index e)) (arrivalsOf (image e) (marks e) (p e)) (lent e) q (leftFrom (image e) (marks e) (p e) (q + 1)) (all n ∙ first n .head t)) (puts-then (j .put-start .ensures) (k .put-arrived .ensures .0)), omega arith)
+    (puts-as (arrivals (p e) (isLent (index e)) (arrivalsOf (mode e) (image e) (marks e) (p e)) (lent e) q (leftFrom (mode e) (image e) (marks e) (p e) (q + 1)) (all n ∙ first n .head t)) (puts-then (j .put-start .ensures) (k .put-arrived .ensures .0)), omega arith)
 
 pub put-arrivals-spec : {M : Type 1} → statement M
 put-arrivals-spec =

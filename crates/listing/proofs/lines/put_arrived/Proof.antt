@@ -6,6 +6,7 @@ use Prim.Native.Nat.{ℕ, _+_, _*_, _^_, _<_, _≤_}
 use native.Mathlib.Omega.{arith}
 use borrow.Author.Needs.{needs}
 use lib.ListN.{length}
+use Rattle.instruction.specs.declared.mode.Mode.{Mode}
 use Rattle.arrivals.specs.Arrivals.{heldAt, arrivalsOf}
 use Rattle.arrivals.proofs.Arriving.{leftFrom, all-left, none-left, few, Next, next-is, passed}
 use Rattle.arrivals.specs.Index.{nextIn}
@@ -23,17 +24,20 @@ abbrev text : List ℕ → List ℕ
 text qs = fieldsText (map hex4 qs)
 
 abbrev Inv-loop : tie.InvT-loop
-Inv-loop image marks index out₀ at p first n a₀ q₀ out a q =
+Inv-loop mode image marks index out₀ at p first n a₀ q₀ out a q =
     (length out ≡ length out₀)
-    × (a + 5 * length (leftFrom image marks p q) ≤ at + 327680)
-    × Going (text (arrivalsOf image marks p)) out₀ at out a (text (leftFrom image marks p q))
-    × (q < length image → leftFrom image marks p q ≡ q ∷ leftFrom image marks p (q + 1))
+    × (a + 5 * length (leftFrom mode image marks p q) ≤ at + 327680)
+    × Going (text (arrivalsOf mode image marks p)) out₀ at out a (text (leftFrom mode image marks p q))
+    × (q < length image → leftFrom mode image marks p q ≡ q ∷ leftFrom mode image marks p (q + 1))
 
 abbrev μ-loop : tie.MeasureT-loop
-μ-loop image marks index out₀ at p first n a₀ q₀ out a q = length (leftFrom image marks p q)
+μ-loop mode image marks index out₀ at p first n a₀ q₀ out a q = length (leftFrom mode image marks p q)
 
 abbrev start : tie.After-slice-known Inv-loop μ-loop → tie.Start Inv-loop μ-loop
 start c = c .before .before .before .before
+
+abbrev mode : tie.After-slice-known Inv-loop μ-loop → Mode
+mode c = start c .args .mode
 
 abbrev image : tie.After-slice-known Inv-loop μ-loop → List ℕ
 image c = start c .args .image .now
@@ -48,12 +52,12 @@ loop-holds : tie.Need-loop-holds Inv-loop μ-loop
 loop-holds c =
     let a = start c .args in
     let s = start c .pre in
-    let n = next-is (image c) (marks c) (p c) (s .1) 0 (a .first) (s .3) in
-    let e : leftFrom (image c) (marks c) (p c) (a .first) ≡ arrivalsOf (image c) (marks c) (p c) = n .same ∙ all-left (image c) (marks c) (p c) in
-    (refl, omega (arith, ap length e, few (image c) (marks c) (p c), s .1), going-from (a .out .now) (a .at) (ap text e), n .head)
+    let n = next-is (mode c) (image c) (marks c) (p c) (s .1) 0 (a .first) (s .3) in
+    let e : leftFrom (mode c) (image c) (marks c) (p c) (a .first) ≡ arrivalsOf (mode c) (image c) (marks c) (p c) = n .same ∙ all-left (mode c) (image c) (marks c) (p c) in
+    (refl, omega (arith, ap length e, few (mode c) (image c) (marks c) (p c), s .1), going-from (a .out .now) (a .at) (ap text e), n .head)
 
 -- the arrival after q
-next : (c : tie.After-next Inv-loop μ-loop) → let l = c .before .before .before .before .before .before in let s = l .before in Next (image s) (marks s) (p s) (l .loop .q + 1) (c .next .result)
+next : (c : tie.After-next Inv-loop μ-loop) → let l = c .before .before .before .before .before .before in let s = l .before in Next (mode s) (image s) (marks s) (p s) (l .loop .q + 1) (c .next .result)
 next c =
     let t = c .before .before .before .before .before in
     let l = t .before in
@@ -61,17 +65,17 @@ next c =
     let v = start s .pre in
     let q : ℕ = l .loop .q in
     let h : q < length (image s) = t .loop-test .taken in
-    let a = left-arrives (image s) (marks s) (p s) q h (l .loop .inv .3 h) in
-    let e = c .next .ensures ∙ ap (λ (i : List ℕ). nextIn i (length (image s)) (heldAt (image s) (marks s) q) (p s) q) (v .2) ∙ next-indexed (image s) (marks s) (p s) q (v .1) h a in
-    next-is (image s) (marks s) (p s) (v .1) (q + 1) (c .next .result) e
+    let a = left-arrives (mode s) (image s) (marks s) (p s) q h (l .loop .inv .3 h) in
+    let e = c .next .ensures ∙ ap (λ (i : List ℕ). nextIn i (length (image s)) (heldAt (mode s) (image s) (marks s) q) (p s) q) (v .2) ∙ next-indexed (mode s) (image s) (marks s) (p s) q (v .1) h a in
+    next-is (mode s) (image s) (marks s) (p s) (v .1) (q + 1) (c .next .result) e
 
 -- one less is left
-turn : (c : tie.After-next Inv-loop μ-loop) → let l = c .before .before .before .before .before .before in let s = l .before in leftFrom (image s) (marks s) (p s) (l .loop .q) ≡ l .loop .q ∷ leftFrom (image s) (marks s) (p s) (c .next .result)
+turn : (c : tie.After-next Inv-loop μ-loop) → let l = c .before .before .before .before .before .before in let s = l .before in leftFrom (mode s) (image s) (marks s) (p s) (l .loop .q) ≡ l .loop .q ∷ leftFrom (mode s) (image s) (marks s) (p s) (c .next .result)
 turn c =
     let t = c .before .before .before .before .before in
     let l = t .before in
     let s = l .before in
-    passed (image s) (marks s) (p s) (start s .pre .1) (l .loop .q) (c .next .result) (t .loop-test .taken) (l .loop .inv .3) (next c)
+    passed (mode s) (image s) (marks s) (p s) (start s .pre .1) (l .loop .q) (c .next .result) (t .loop-test .taken) (l .loop .inv .3) (next c)
 
 loop-again : tie.Need-loop-again Inv-loop μ-loop
 unfolding fieldsText
@@ -93,7 +97,7 @@ returns c =
     let e = k .before .before in
     let l = e .before in
     let s = l .before in
-    let z : text (leftFrom (image s) (marks s) (p s) (l .loop .q)) ≡ 10 ∷ [] = ap text (none-left (image s) (marks s) (p s) (l .loop .q) (e .loop-test .left)) in
+    let z : text (leftFrom (mode s) (image s) (marks s) (p s) (l .loop .q)) ≡ 10 ∷ [] = ap text (none-left (mode s) (image s) (marks s) (p s) (l .loop .q) (e .loop-test .left)) in
     let h : k .put-byte .result ≤ l .loop .a + 1 = puts-most (k .put-byte .ensures) (omega arith) in
     (going-over (going-next (l .loop .inv .2) z (k .put-byte .ensures)) refl, omega (arith, h, place l))
 

@@ -6,6 +6,7 @@ use Prim.Native.Nat.{ℕ, _+_, _^_, _≤_, _<_}
 use native.Mathlib.Omega.{arith}
 use borrow.Author.Needs.{needs}
 use lib.ListN.{length, length-drop}
+use Rattle.instruction.specs.declared.mode.Mode.{Mode}
 use Rattle.targets.specs.Here.{hereOf}
 use Rattle.targets.specs.declared.here.Here.the-variants.{Whole}
 use Rattle.targets.proofs.HereIs.{to-end}
@@ -18,6 +19,9 @@ use Rattle.listing.proofs.lines.put_here.Tie as tie
 
 abbrev start : tie.After-instr-at → tie.Start
 start h = h .before .before .before
+
+abbrev mode : tie.After-instr-at → Mode
+mode h = start h .args .mode
 
 abbrev image : tie.After-instr-at → List ℕ
 image h = start h .args .image .now
@@ -62,17 +66,17 @@ returns c =
     let i = k .before .before .before .before in
     let h = i .before .before in
     let g : k .put-instr .result ≤ start h .args .at + 2 ^ 18 = k .put-instr .ensures .1 in
-    (puts-as (ap (instrText (p h) (i .i .given .0 .0)) (to-end (image h) (p h)) ∙ ap (hereLine (image h) (p h)) (told i)) (k .put-instr .ensures .0), omega arith)
+    (puts-as (ap (instrText (mode h) (p h) (i .i .given .0 .0)) (to-end (image h) (p h)) ∙ ap (hereLine (mode h) (image h) (p h)) (told i)) (k .put-instr .ensures .0), omega arith)
 
 returns-2 : tie.Need-returns-2
 returns-2 c =
     let h = c .before .before in
-    (puts-as (ap (hereLine (image h) (p h)) (sym (c .enum-told .given .1) ∙ h .instr-at .ensures)) (puts-none _ _), omega arith)
+    (puts-as (ap (hereLine (mode h) (image h) (p h)) (sym (c .enum-told .given .1) ∙ h .instr-at .ensures)) (puts-none _ _), omega arith)
 
 returns-3 : tie.Need-returns-3
 returns-3 c =
     let h = c .before .before in
-    (puts-as (ap (hereLine (image h) (p h)) (sym (c .enum-told2 .given .1) ∙ h .instr-at .ensures)) (puts-none _ _), omega arith)
+    (puts-as (ap (hereLine (mode h) (image h) (p h)) (sym (c .enum-told2 .given .1) ∙ h .instr-at .ensures)) (puts-none _ _), omega arith)
 
 pub put-here-spec : {M : Type 1} → statement M
 put-here-spec =

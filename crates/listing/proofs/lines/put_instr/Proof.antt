@@ -98,7 +98,7 @@ returns c =
     let h : w .put-word .result ≤ a .at + 131088 = after-word w in
     let g : n .put-operands .result ≤ w .put-word .result + 16 = puts-most (n .put-operands .ensures) (operands-length (f .first-of .result) (a .instr)) in (
       puts-as
-          (instr (a .bytes .now) (a .p) (a .instr) (f .first-of .result) (f .first-of .ensures ∙ ap firstOf (t .targets .ensures)) (m .mnemonic .result)
+          (instr (a .mode) (a .bytes .now) (a .p) (a .instr) (f .first-of .result) (f .first-of .ensures ∙ ap firstOf (t .targets .ensures)) (m .mnemonic .result)
           (ap (letters 8) (m .mnemonic .ensures) ∙ spelled (a .instr)) _ (ap (λ (k : ℕ). take k (a .bytes .now)) (z .size .ensures)))
           (puts-then (j .put-start .ensures) (puts-then (b .put-bytes .ensures) (puts-then (w .put-word .ensures) (n .put-operands .ensures)))),
       omega arith,

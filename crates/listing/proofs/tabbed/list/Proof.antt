@@ -5,6 +5,7 @@ use mathlib.Core.List.{List}
 use Prim.Native.Nat.{ℕ, _-_, _≤_}
 use borrow.Author.Needs.{needs}
 use lib.ListN.{length, take, drop}
+use Rattle.instruction.specs.declared.mode.Mode.{Mode}
 use Rattle.views.specs.View.{Sound}
 use Rattle.views.proofs.Viewing.{small, covered}
 use Rattle.views.specs.Labels.{labelsOf}
@@ -30,6 +31,9 @@ roomed l = masked l .before .before
 abbrev start : tie.After-labels2 → tie.Start
 start l = roomed l .before .before .before .before .before .before
 
+abbrev mode : tie.After-labels2 → Mode
+mode l = start l .args .mode
+
 abbrev image : tie.After-labels2 → List ℕ
 image l = start l .args .image .now
 
@@ -43,7 +47,7 @@ abbrev room : tie.After-labels2 → List ℕ
 room l = start l .args .room .now
 
 abbrev text : tie.After-labels2 → List ℕ
-text l = textOf (image l) (marks l) (isLent (index l))
+text l = textOf (mode l) (image l) (marks l) (isLent (index l))
 
 sound : (l : tie.After-labels2) → Sound (image l) (marks l)
 sound l = start l .pre .0
@@ -52,23 +56,23 @@ abbrev mask : tie.After-labels2 → List ℕ
 mask l = masked l .build-byte-mask .last .1 .1 .0
 
 abbrev labels : tie.After-labels2 → List ℕ
-labels l = l .before .target-marks .last .1 .1 .0
+labels l = l .before .target-marks .last .1 .1 .1 .0
 
 mask-front : (l : tie.After-labels2) → take (length (image l)) (mask l) ≡ maskOf (image l) (marks l)
 mask-front l =
     let b = roomed l .before in
     in-front (image l) (marks l) (sound l) (maskOf (image l) (marks l)) (mask-length (image l) (marks l)) (b .bytes .result) (b .bytes .ensures) (mask l) (masked l .build-byte-mask .ensures .1)
 
-labels-front : (l : tie.After-labels2) → take (length (image l)) (labels l) ≡ labelsOf (image l) (marks l)
+labels-front : (l : tie.After-labels2) → take (length (image l)) (labels l) ≡ labelsOf (mode l) (image l) (marks l)
 labels-front l =
     let b = roomed l in
-    in-front (image l) (marks l) (sound l) (labelsOf (image l) (marks l)) (labels-length (image l) (marks l)) (b .bytes2 .result) (b .bytes2 .ensures) (labels l) (l .before .target-marks .ensures .1)
+    in-front (image l) (marks l) (sound l) (labelsOf (mode l) (image l) (marks l)) (labels-length (mode l) (image l) (marks l)) (b .bytes2 .result) (b .bytes2 .ensures) (labels l) (l .before .target-marks .ensures .1)
 
 mask-long : (l : tie.After-labels2) → length (image l) ≤ length (mask l)
 mask-long l = long-enough (mask l) (maskOf (image l) (marks l)) (length (image l)) (mask-front l) (mask-length (image l) (marks l))
 
 labels-long : (l : tie.After-labels2) → length (image l) ≤ length (labels l)
-labels-long l = long-enough (labels l) (labelsOf (image l) (marks l)) (length (image l)) (labels-front l) (labels-length (image l) (marks l))
+labels-long l = long-enough (labels l) (labelsOf (mode l) (image l) (marks l)) (length (image l)) (labels-front l) (labels-length (mode l) (image l) (marks l))
 
 abbrev partOf : ℕ → List ℕ → List ℕ
 partOf n l = take (n - 0) (drop 0 l)
@@ -76,27 +80,27 @@ partOf n l = take (n - 0) (drop 0 l)
 mask-part : (l : tie.After-labels2) → partOf (length (image l)) (mask l) ≡ maskOf (image l) (marks l)
 mask-part l = part-is (mask l) (maskOf (image l) (marks l)) (length (image l)) (mask-front l)
 
-labels-part : (l : tie.After-labels2) → partOf (length (image l)) (labels l) ≡ labelsOf (image l) (marks l)
-labels-part l = part-is (labels l) (labelsOf (image l) (marks l)) (length (image l)) (labels-front l)
+labels-part : (l : tie.After-labels2) → partOf (length (image l)) (labels l) ≡ labelsOf (mode l) (image l) (marks l)
+labels-part l = part-is (labels l) (labelsOf (mode l) (image l) (marks l)) (length (image l)) (labels-front l)
 
 -- the text of a walk
-shown : (l : tie.After-labels2) → walk (image l) (marks l) (partOf (length (image l)) (mask l)) (partOf (length (image l)) (labels l)) (isLent (index l)) (length (image l)) 0 0 ≡ text l
-shown l = is-text (image l) (marks l) _ _ (isLent (index l)) (mask-part l) (labels-part l)
+shown : (l : tie.After-labels2) → walk (mode l) (image l) (marks l) (partOf (length (image l)) (mask l)) (partOf (length (image l)) (labels l)) (isLent (index l)) (length (image l)) 0 0 ≡ text l
+shown l = is-text (mode l) (image l) (marks l) _ _ (isLent (index l)) (mask-part l) (labels-part l)
 
 -- what a walk asks
-record Asked (image marks mask labels index : List ℕ) : Type 0 where
+record Asked (mode : Mode) (image marks mask labels index : List ℕ) : Type 0 where
   fits : length image ≤ 65536
   marked : length image ≤ length marks
   masked : length mask ≡ length image
   labelled : length labels ≡ length image
-  indexed : Indexed image marks index
+  indexed : Indexed mode image marks index
 
-asked : (l : tie.After-labels2) → Asked (image l) (marks l) (partOf (length (image l)) (mask l)) (partOf (length (image l)) (labels l)) (index l)
+asked : (l : tie.After-labels2) → Asked (mode l) (image l) (marks l) (partOf (length (image l)) (mask l)) (partOf (length (image l)) (labels l)) (index l)
 asked l = record {
   fits = small (image l) (marks l) (sound l);
   marked = covered (image l) (marks l) (sound l);
   masked = ap length (mask-part l) ∙ mask-length (image l) (marks l);
-  labelled = ap length (labels-part l) ∙ labels-length (image l) (marks l);
+  labelled = ap length (labels-part l) ∙ labels-length (mode l) (image l) (marks l);
   indexed = start l .pre .1;
 }
 

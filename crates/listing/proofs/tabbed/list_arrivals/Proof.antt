@@ -7,6 +7,7 @@ use native.Mathlib.Omega.{arith}
 use borrow.Author.Needs.{needs}
 use lib.ListN.{length, take, drop, length-append}
 use lib.Seq.{length-take-le, take-at}
+use Rattle.instruction.specs.declared.mode.Mode.{Mode}
 use Rattle.views.proofs.Viewing.{small}
 use Rattle.arrivals.specs.Index.{indexOf}
 use Rattle.arrivals.proofs.Indexing.{own-room}
@@ -16,6 +17,9 @@ use Rattle.listing.proofs.tabbed.list_arrivals.Tie as tie
 
 abbrev start : tie.After-cells → tie.Start
 start k = k .before .before .before .before
+
+abbrev mode : tie.After-cells → Mode
+mode k = start k .args .mode
 
 abbrev image : tie.After-cells → List ℕ
 image k = start k .args .image .now
@@ -49,16 +53,16 @@ abbrev made : tie.After-index-into → tie.After-cells
 made i = i .before .before
 
 abbrev new : tie.After-index-into → List ℕ
-new i = i .index-into .last .1 .1 .0
+new i = i .index-into .last .1 .1 .1 .0
 
 -- is the index
-is-index : (i : tie.After-index-into) → new i ≡ indexOf (image (made i)) (marks (made i))
+is-index : (i : tie.After-index-into) → new i ≡ indexOf (mode (made i)) (image (made i)) (marks (made i))
 is-index i =
     let k = made i in
-    i .index-into .ensures .1 ∙ sym (own-room (image k) (marks k) (take (n k) (cells k)) (fits k) (part k) .1)
+    i .index-into .ensures .1 ∙ sym (own-room (mode k) (image k) (marks k) (take (n k) (cells k)) (fits k) (part k) .1)
 
 new-long : (i : tie.After-index-into) → length (new i) ≡ n (made i)
-new-long i = i .index-into .kept .1 .1 .0 ∙ part (made i)
+new-long i = i .index-into .kept .1 .1 .1 .0 ∙ part (made i)
 
 -- the array with it
 abbrev whole : tie.After-index-into → List ℕ
@@ -81,7 +85,7 @@ returns c =
     let l = c .before .before in
     let i = l .before .before .before .before in
     let k = made i in
-    same-text (image k) (marks k) (start k .args .room .now) (index-text (image k) (marks k) (take (n k) (whole i)) (again i ∙ is-index i)) (l .list .ensures)
+    same-text (image k) (marks k) (start k .args .room .now) (index-text (mode k) (image k) (marks k) (take (n k) (whole i)) (again i ∙ is-index i)) (l .list .ensures)
 
 pub list-arrivals-spec : {M : Type 1} → statement M
 list-arrivals-spec =

@@ -7,6 +7,7 @@ use Prim.Native.Nat.{ℕ}
 use borrow.Author.Needs.{needs}
 use borrow.Author.Tests.{not-true, not-false}
 use Rattle.instruction.proofs.Sign.{never}
+use Rattle.instruction.specs.declared.mode.Mode.{Mode}
 use Rattle.views.specs.View.{Sound}
 use Rattle.views.proofs.Viewing.{is-sound, refused-all}
 use Rattle.listing.specs.Walk.{listingOf}
@@ -16,6 +17,9 @@ use Rattle.listing.proofs.tabbed.listing_with.Tie as tie
 
 abbrev start : tie.After-is-written → tie.Start
 start w = w .before .before .before .before .before
+
+abbrev mode : tie.After-is-written → Mode
+mode w = start w .args .mode
 
 abbrev image : tie.After-is-written → List ℕ
 image w = start w .args .image .now
@@ -29,7 +33,7 @@ room w = start w .args .room .now
 returns : tie.Need-returns
 returns c =
     let w = c .before in
-    refused-all (image w) (marks w) (listingOf (image w) (marks w) (start w .args .arrivals)) (room w) (w .before .check .result) (w .before .check .ensures) (sym (w .is-written .ensures) ∙ not-true _ (c .if1 .taken))
+    refused-all (image w) (marks w) (listingOf (mode w) (image w) (marks w) (start w .args .arrivals)) (room w) (w .before .check .result) (w .before .check .ensures) (sym (w .is-written .ensures) ∙ not-true _ (c .if1 .taken))
 
 sound : (e : tie.Else1) → Sound (image (e .before)) (marks (e .before))
 sound e =
@@ -44,7 +48,7 @@ returns-2 c =
     let l = c .before .before in
     let t = l .before .before in
     let w = t .before .before .before in
-    same-text (image w) (marks w) (room w) (is-listing (image w) (marks w) (start w .args .arrivals) true (sym (t .if2 .taken) ∙ t .before .is-chosen .ensures)) (l .list-arrivals .ensures)
+    same-text (image w) (marks w) (room w) (is-listing (mode w) (image w) (marks w) (start w .args .arrivals) true (sym (t .if2 .taken) ∙ t .before .is-chosen .ensures)) (l .list-arrivals .ensures)
 
 list-requires : tie.Need-list-requires
 list-requires c κs = (sound (c .before .before .before .before .before), λ h. absurd (never (sym h)))
@@ -54,7 +58,7 @@ returns-3 c =
     let l = c .before .before in
     let e = l .before .before .before .before in
     let w = e .before .before .before in
-    same-text (image w) (marks w) (room w) (is-listing (image w) (marks w) (start w .args .arrivals) false (sym (e .if2 .left) ∙ e .before .is-chosen .ensures)) (l .list .ensures)
+    same-text (image w) (marks w) (room w) (is-listing (mode w) (image w) (marks w) (start w .args .arrivals) false (sym (e .if2 .left) ∙ e .before .is-chosen .ensures)) (l .list .ensures)
 
 pub listing-with-spec : {M : Type 1} → statement M
 listing-with-spec =

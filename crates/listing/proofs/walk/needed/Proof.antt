@@ -31,8 +31,8 @@ returns : tie.Need-returns
 returns c =
     let k = c .before in
     let a = start k .args in
-    let w = all-width (a .image .now) (a .marks .now) (λ n. k .before .before .before .before .before .shared-slice-known .given n .fits) (a .mask .now) (a .labels .now) (isLent (a .index .now)) in
-    let l : length (walk (a .image .now) (a .marks .now) (a .mask .now) (a .labels .now) (isLent (a .index .now)) (length (a .image .now)) 0 0) ≤ k .most .result * length (a .image .now) = subst (λ (j : ℕ). length (walk (a .image .now) (a .marks .now) (a .mask .now) (a .labels .now) (isLent (a .index .now)) (length (a .image .now)) 0 0) ≤ j * length (a .image .now)) (sym (k .most .ensures)) w in
+    let w = all-width (a .mode) (a .image .now) (a .marks .now) (λ n. k .before .before .before .before .before .shared-slice-known .given n .fits) (a .mask .now) (a .labels .now) (isLent (a .index .now)) in
+    let l : length (walk (a .mode) (a .image .now) (a .marks .now) (a .mask .now) (a .labels .now) (isLent (a .index .now)) (length (a .image .now)) 0 0) ≤ k .most .result * length (a .image .now) = subst (λ (j : ℕ). length (walk (a .mode) (a .image .now) (a .marks .now) (a .mask .now) (a .labels .now) (isLent (a .index .now)) (length (a .image .now)) 0 0) ≤ j * length (a .image .now)) (sym (k .most .ensures)) w in
     let h = c .if1 .taken in
     record { covers = l; exact = λ g. absurd (omega (arith, g, h)) }
 

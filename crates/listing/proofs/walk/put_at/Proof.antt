@@ -26,7 +26,7 @@ returns c =
     let t = i .before in
     let a = start t .args in
     let e : traced t ≡ true = sym (t .is-traced .ensures) ∙ i .if1 .taken in
-    (puts-as (print-code (a .image .now) (a .marks .now) (a .mask .now) (a .labels .now) (isLent (a .index .now)) (a .p) e) (k .put-code .ensures .0), k .put-code .ensures .1)
+    (puts-as (print-code (a .mode) (a .image .now) (a .marks .now) (a .mask .now) (a .labels .now) (isLent (a .index .now)) (a .p) e) (k .put-code .ensures .0), k .put-code .ensures .1)
 
 untraced : (i : tie.Else1) → traced (i .before) ≡ false
 untraced i = sym (i .before .is-traced .ensures) ∙ i .if1 .left
@@ -35,7 +35,7 @@ returns-2 : tie.Need-returns-2
 returns-2 c =
     let i = c .before .before in
     let a = start (i .before) .args in
-    (puts-as (print-none (a .image .now) (a .marks .now) (a .mask .now) (a .labels .now) (isLent (a .index .now)) (a .p) (untraced i) (c .if2 .taken)) (puts-none _ _), omega arith)
+    (puts-as (print-none (a .mode) (a .image .now) (a .marks .now) (a .mask .now) (a .labels .now) (isLent (a .index .now)) (a .p) (untraced i) (c .if2 .taken)) (puts-none _ _), omega arith)
 
 put-data-requires : tie.Need-put-data-requires
 put-data-requires c κs =
@@ -51,7 +51,7 @@ returns-3 c =
     let i = d .before .before in
     let a = start (i .before) .args in
     let g : k .put-data .result ≤ a .at + 2 ^ 20 = k .put-data .ensures .1 in
-    (puts-as (print-data (a .image .now) (a .marks .now) (a .mask .now) (a .labels .now) (isLent (a .index .now)) (a .p) (untraced i) (d .if2 .left) _ (r .data-run .ensures)) (k .put-data .ensures .0), omega arith)
+    (puts-as (print-data (a .mode) (a .image .now) (a .marks .now) (a .mask .now) (a .labels .now) (isLent (a .index .now)) (a .p) (untraced i) (d .if2 .left) _ (r .data-run .ensures)) (k .put-data .ensures .0), omega arith)
 
 pub put-at-spec : {M : Type 1} → statement M
 put-at-spec =

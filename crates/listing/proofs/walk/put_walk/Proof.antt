@@ -5,6 +5,7 @@ use mathlib.Core.List.{List}
 use Prim.Native.Nat.{ℕ, _+_, _-_, _*_, _<_, _≤_}
 use native.Mathlib.Omega.{arith}
 use lib.ListN.{length}
+use Rattle.instruction.specs.declared.mode.Mode.{Mode}
 use Rattle.listing.specs.Lent.{isLent}
 use Rattle.listing.specs.Walk.{passed, walk}
 use Rattle.text.proofs.Putting.{Going, going-from, going-next, going-over, puts-length}
@@ -13,17 +14,20 @@ use Rattle.listing.proofs.walk.put_walk.Statement.{statement}
 use Rattle.listing.proofs.walk.put_walk.Tie as tie
 
 abbrev Inv-loop : tie.InvT-loop
-Inv-loop image marks mask labels index out₀ n at₀ p₀ out at p =
+Inv-loop mode image marks mask labels index out₀ n at₀ p₀ out at p =
     (p ≤ length image)
     × (at ≤ 4194304 * p)
     × (length out ≡ length out₀)
-    × Going (walk image marks mask labels (isLent index) (length image) 0 0) out₀ 0 out at (leftAt image marks mask labels (isLent index) p)
+    × Going (walk mode image marks mask labels (isLent index) (length image) 0 0) out₀ 0 out at (leftAt mode image marks mask labels (isLent index) p)
 
 abbrev μ-loop : tie.MeasureT-loop
-μ-loop image marks mask labels index out₀ n at₀ p₀ out at p = length image - p
+μ-loop mode image marks mask labels index out₀ n at₀ p₀ out at p = length image - p
 
 abbrev start : tie.At-loop Inv-loop μ-loop → tie.Start Inv-loop μ-loop
 start l = l .before .before .before .before .before .before .before
+
+abbrev mode : tie.At-loop Inv-loop μ-loop → Mode
+mode l = start l .args .mode
 
 abbrev image : tie.At-loop Inv-loop μ-loop → List ℕ
 image l = start l .args .image .now
@@ -40,7 +44,7 @@ labels l = start l .args .labels .now
 loop-holds : tie.Need-loop-holds Inv-loop μ-loop
 loop-holds c =
     let a = c .before .before .before .before .before .before .args in
-    (omega arith, omega arith, refl, going-from (a .out .now) 0 (left-start (a .image .now) (a .marks .now) (a .mask .now) (a .labels .now) (isLent (a .index .now))))
+    (omega arith, omega arith, refl, going-from (a .out .now) 0 (left-start (a .mode) (a .image .now) (a .marks .now) (a .mask .now) (a .labels .now) (isLent (a .index .now))))
 
 -- the position is inside the image, the marks, the mask and the target marks
 record Inside (image marks mask labels : List ℕ) (p : ℕ) : Type 0 where
@@ -87,12 +91,12 @@ loop-again c =
     let v = l .loop .inv in
     let s = step c in
     let g : k .put-at .result ≤ l .loop .at + 4194304 = k .put-at .ensures .1 in
-    (s .1, omega (arith, g, v .1, s .0), puts-length (k .put-at .ensures .0) ∙ v .2, going-next (v .3) (left-next (image l) (marks l) (mask l) (labels l) (isLent (start l .args .index .now)) (l .loop .p) (c .step-at .result) (inside t .byte) (c .step-at .ensures)) (k .put-at .ensures .0))
+    (s .1, omega (arith, g, v .1, s .0), puts-length (k .put-at .ensures .0) ∙ v .2, going-next (v .3) (left-next (mode l) (image l) (marks l) (mask l) (labels l) (isLent (start l .args .index .now)) (l .loop .p) (c .step-at .result) (inside t .byte) (c .step-at .ensures)) (k .put-at .ensures .0))
 
 returns : tie.Need-returns Inv-loop μ-loop
 returns c =
     let l = c .before in
-    going-over (l .loop .inv .3) (left-end (image l) (marks l) (mask l) (labels l) (isLent (start l .args .index .now)) (l .loop .p) (c .loop-test .left))
+    going-over (l .loop .inv .3) (left-end (mode l) (image l) (marks l) (mask l) (labels l) (isLent (start l .args .index .now)) (l .loop .p) (c .loop-test .left))
 
 pub put-walk-spec : {M : Type 1} → statement M
 put-walk-spec =

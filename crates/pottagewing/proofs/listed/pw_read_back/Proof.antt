@@ -8,9 +8,9 @@ use Rattle.pottagewing.proofs.listed.pw_read_back.Tie as tie
 returns : tie.Need-returns
 returns c =
     let t = c .before .before .before .before .before .before in
-    let g = given (t .read-back .ensures .0) (c .give .ensures) in
-    (g .0, (g .1, t .read-back .ensures .1))
+    let e = rw (t .before .before .before .mode .ensures) at (t .read-back .ensures) in
+    let g = given (e .0) (c .give .ensures) in (g .0, (g .1, e .1))
 
 pub pw-read-back-spec : {M : Type 1} → statement M
 pw-read-back-spec =
-    tie.close (tie.spec (λ c κs. search needs) (λ c κs. search needs) (λ c. search needs) (λ c. search needs) returns)
+    tie.close (tie.spec (λ c κs. search needs) (λ c κs. search needs) (λ c κs. search needs) (λ c. search needs) (λ c. search needs) returns)

@@ -8,8 +8,8 @@ use Rattle.pottagewing.proofs.tracing.pw_step.Tie as tie
 returns : tie.Need-returns
 returns c =
     let t = c .before .before .before .before in
-    let g = given (t .step .ensures .0) (c .give .ensures) in
-    (g .0, (g .1, t .step .ensures .1))
+    let e = rw (t .before .before .mode .ensures) at (t .step .ensures) in
+    let g = given (e .0) (c .give .ensures) in (g .0, (g .1, e .1))
 
 pub pw-step-spec : {M : Type 1} → statement M
-pw-step-spec = tie.close (tie.spec (λ c κs. search needs) (λ c κs. search needs) (λ c. search needs) returns)
+pw-step-spec = tie.close (tie.spec (λ c κs. search needs) (λ c κs. search needs) (λ c κs. search needs) (λ c. search needs) returns)

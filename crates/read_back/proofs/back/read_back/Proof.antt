@@ -15,7 +15,7 @@ use Rattle.read_back.proofs.back.read_back.Statement.{statement}
 use Rattle.read_back.proofs.back.read_back.Tie as tie
 
 returns : tie.Need-returns
-returns c = let a = c .before .before .before .before .args in parted (too-long (a .text .now) (a .length) (a .image .now) (a .marks .now) (c .if1 .taken))
+returns c = let a = c .before .before .before .before .args in parted (too-long (a .mode) (a .text .now) (a .length) (a .image .now) (a .marks .now) (c .if1 .taken))
 
 abbrev start : tie.Else1 → tie.Start
 start e = e .before .before .before .before
@@ -24,14 +24,14 @@ returns-2 : tie.Need-returns-2
 returns-2 c =
     let e = c .before in
     let a = start e .args in
-    parted (short-marks (a .text .now) (a .length) (a .image .now) (a .marks .now) (e .if1 .left) (c .if2 .taken))
+    parted (short-marks (a .mode) (a .text .now) (a .length) (a .image .now) (a .marks .now) (e .if1 .left) (c .if2 .taken))
 
 returns-3 : tie.Need-returns-3
 returns-3 c =
     let f = c .before in
     let e = f .before in
     let a = start e .args in
-    parted (no-room (a .text .now) (a .length) (a .image .now) (a .marks .now) (e .if1 .left) (f .if2 .left) (c .if3 .taken))
+    parted (no-room (a .mode) (a .text .now) (a .length) (a .image .now) (a .marks .now) (e .if1 .left) (f .if2 .left) (c .if3 .taken))
 
 abbrev else3 : tie.After-no-marks → tie.Else3
 else3 m = m .before .before
@@ -65,16 +65,16 @@ abbrev made : tie.After-read-lines → tie.After-no-marks
 made l = l .before .before .before
 
 abbrev new : tie.After-read-lines → List ℕ
-new l = l .read-lines .last .1 .0
+new l = l .read-lines .last .1 .1 .0
 
 abbrev told : tie.After-read-lines → List ℕ
-told l = l .read-lines .last .1 .1 .0
+told l = l .read-lines .last .1 .1 .1 .0
 
 new-long : (l : tie.After-read-lines) → length (new l) ≡ n (made l)
-new-long l = l .read-lines .kept .1 .0 ∙ sym (part (made l))
+new-long l = l .read-lines .kept .1 .1 .0 ∙ sym (part (made l))
 
 told-long : (l : tie.After-read-lines) → length (told l) ≡ n (made l)
-told-long l = l .read-lines .kept .1 .1 .0 ∙ sym (seen-part (made l))
+told-long l = l .read-lines .kept .1 .1 .1 .0 ∙ sym (seen-part (made l))
 
 -- the part that is lent again is what was left
 again : (l : tie.After-read-lines) → take (n (made l)) (new l ++ drop (n (made l)) (made l .before .no-cells .result)) ≡ new l
@@ -90,7 +90,7 @@ returns-4 c =
     let f = else3 m .before in
     let a = start (from m) .args in
     parted
-    (is-bad (a .text .now) (a .length) (a .image .now) (a .marks .now) (from m .if1 .left) (f .if2 .left) (else3 m .if3 .left) _ _ (new l) (told l) (blank-cells m) (blank-marks m) (l .read-lines .result) (l .read-lines .ensures)
+    (is-bad (a .mode) (a .text .now) (a .length) (a .image .now) (a .marks .now) (from m .if1 .left) (f .if2 .left) (else3 m .if3 .left) _ _ (new l) (told l) (blank-cells m) (blank-marks m) (l .read-lines .result) (l .read-lines .ensures)
     (λ j e. none-other (rw e at (c .match .keys2))))
 
 abbrev lined : tie.After-enum-told → tie.After-read-lines
@@ -116,7 +116,7 @@ put-image-requires c κs =
     let m = made l in
     let f = else3 m .before in
     let a = start (from m) .args in
-    (omega (arith, sized l, else3 m .if3 .left), rw (again l) (bounded (a .text .now) (a .length) (a .image .now) (a .marks .now) (from m .if1 .left) (f .if2 .left) (else3 m .if3 .left) _ _ (new l) (told l) (blank-cells m) (blank-marks m) (l .read-lines .result) (l .read-lines .ensures) _ (e .enum-told .given .1)))
+    (omega (arith, sized l, else3 m .if3 .left), rw (again l) (bounded (a .mode) (a .text .now) (a .length) (a .image .now) (a .marks .now) (from m .if1 .left) (f .if2 .left) (else3 m .if3 .left) _ _ (new l) (told l) (blank-cells m) (blank-marks m) (l .read-lines .result) (l .read-lines .ensures) _ (e .enum-told .given .1)))
 
 abbrev imaged : tie.After-slice-known3 → tie.After-enum-told
 imaged s = s .before .before .before .before .before
@@ -137,7 +137,7 @@ returns-5 c =
     let f = else3 m .before in
     let a = start (from m) .args in
     parted
-    (is-done (a .text .now) (a .length) (a .image .now) (a .marks .now) (from m .if1 .left) (f .if2 .left) (else3 m .if3 .left) _ _ (new l) (told l) (blank-cells m) (blank-marks m) (l .read-lines .result) (l .read-lines .ensures) _ (e .enum-told .given .1) _ _
+    (is-done (a .mode) (a .text .now) (a .length) (a .image .now) (a .marks .now) (from m .if1 .left) (f .if2 .left) (else3 m .if3 .left) _ _ (new l) (told l) (blank-cells m) (blank-marks m) (l .read-lines .result) (l .read-lines .ensures) _ (e .enum-told .given .1) _ _
     (i .put-image .ensures ∙ ap (λ (x : List ℕ). bytesIn x ++ drop (length x) (a .image .now)) (again l))
     (p .put-marks .ensures ∙ ap (λ (x : List ℕ). x ++ drop (length x) (a .marks .now)) (seen-again l)))
 

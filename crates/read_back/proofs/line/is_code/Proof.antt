@@ -7,6 +7,7 @@ use native.Mathlib.Omega.{arith}
 use borrow.Author.Needs.{needs}
 use lib.ListN.{length, take, replicate, length-take}
 use lib.Seq.{sets, length-sets}
+use Rattle.instruction.specs.declared.mode.Mode.{Mode}
 use Rattle.text.specs.Bytes.{bytesOf}
 use Rattle.text.specs.Four.{fourOf}
 use Rattle.targets.proofs.HereIs.{to-end}
@@ -17,10 +18,13 @@ use Rattle.read_back.proofs.line.is_code.Statement.{statement}
 use Rattle.read_back.proofs.line.is_code.Tie as tie
 
 returns : tie.Need-returns
-returns c = too-wide (c .before .before .args .line .now) (c .if1 .taken)
+returns c = too-wide (c .before .before .args .mode) (c .before .before .args .line .now) (c .if1 .taken)
 
 abbrev start : tie.Else1 → tie.Start
 start c = c .before .before
+
+abbrev mode : tie.Else1 → Mode
+mode c = start c .args .mode
 
 abbrev line : tie.Else1 → List ℕ
 line c = start c .args .line .now
@@ -68,25 +72,25 @@ bytes : (k : tie.After-code-line) → take (length (got (put k .before .before))
 bytes k =
     let u = put k in
     let d = u .before .before in
-    ap (take (length (got d) / 2)) (wrote u) ∙ read-bytes (line (from k)) (got d) (d .digits .ensures) (replicate 16 0) refl (few d)
+    ap (take (length (got d) / 2)) (wrote u) ∙ read-bytes (mode (from k)) (line (from k)) (got d) (d .digits .ensures) (replicate 16 0) refl (few d)
 
 returns-2 : tie.Need-returns-2
 returns-2 c =
     let k = c .before .before in
-    other-width (line (from k)) _ _ _ _ _ (position k) (bytes k) refl (k .code-line .ensures) (c .if2 .taken)
+    other-width (mode (from k)) (line (from k)) _ _ _ _ _ (position k) (bytes k) refl (k .code-line .ensures) (c .if2 .taken)
 
 returns-3 : tie.Need-returns-3
 returns-3 c =
     let e = c .before in
     let k = e .before .before in
-    other-end (line (from k)) _ _ _ _ _ (position k) (bytes k) refl (k .code-line .ensures) (e .if2 .left) (c .if3 .taken)
+    other-end (mode (from k)) (line (from k)) _ _ _ _ _ (position k) (bytes k) refl (k .code-line .ensures) (e .if2 .left) (c .if3 .taken)
 
 returns-4 : tie.Need-returns-4
 returns-4 c =
     let f = c .before .before in
     let e = f .before in
     let k = e .before .before in
-    c .same .ensures ∙ compared (line (from k)) _ _ _ _ _ (position k) (bytes k) refl (k .code-line .ensures) (e .if2 .left) (f .if3 .left)
+    c .same .ensures ∙ compared (mode (from k)) (line (from k)) _ _ _ _ _ (position k) (bytes k) refl (k .code-line .ensures) (e .if2 .left) (f .if3 .left)
 
 narrow : (k : tie.After-code-line) → length (line (from k)) ≤ 30
 narrow k = from k .if1 .left
@@ -103,7 +107,7 @@ shared c = let k = c .before .before .before in omega (arith, narrow k, puts-len
 shown : tie.Need-slice-aggregate-same
 shown c =
     let k = c .before .before .before .before in
-    omega (arith, narrow k, puts-length (k .code-line .ensures), length-take (length (line (from k))) (k .code-line .last .1 .1 .0))
+    omega (arith, narrow k, puts-length (k .code-line .ensures), length-take (length (line (from k))) (k .code-line .last .1 .1 .1 .0))
 
 pub is-code-spec : {M : Type 1} → statement M
 is-code-spec =

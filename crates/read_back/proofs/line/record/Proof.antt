@@ -8,7 +8,7 @@ use lib.ListN.{length}
 use Rattle.targets.proofs.HereIs.{to-end}
 use Rattle.text.specs.Four.{fourOf}
 use Rattle.read_back.specs.Offsets.{positionAt}
-use Rattle.read_back.proofs.ByFields.{good-line, record-is}
+use Rattle.read_back.proofs.ByFields.{record-is}
 use Rattle.read_back.proofs.Records.{made, with-bytes, with-places}
 use Rattle.read_back.proofs.line.record.Statement.{statement}
 use Rattle.read_back.proofs.line.record.Tie as tie
@@ -36,12 +36,12 @@ returns-2 c =
     let q = h .before in
     let l = start q .args .line .now in
     made (c .new2 .result) _ _ _ (c .new2 .ensures)
-    ∙ with-places l (good-line l (start q .pre) .long) (q .four-of .result) (position q) (sym (h .has-bytes .ensures) ∙ e .if1 .left)
+    ∙ with-places l (start q .pre .long) (q .four-of .result) (position q) (sym (h .has-bytes .ensures) ∙ e .if1 .left)
     ∙ record-is l (start q .pre)
 
 -- it has a letter, a tab and four digits
 long : (s : tie.Start) → 6 ≤ length (s .args .line .now)
-long s = good-line (s .args .line .now) (s .pre) .long
+long s = s .pre .long
 
 pub record-spec : {M : Type 1} → statement M
 record-spec =

@@ -8,19 +8,25 @@ use borrow.Author.Needs.{needs}
 use borrow.Author.Tests.{not-true, not-false}
 use lib.ListN.{length, take, drop}
 use lib.Seq.{sets}
+use Rattle.instruction.specs.declared.mode.Mode.{Mode}
 use Rattle.instruction.proofs.Parted.{parted}
 use Rattle.text.proofs.Cases.{neither}
-use Rattle.read_back.specs.Line.{positionOn, isLine, recordOf}
+use Rattle.read_back.specs.Line.{positionOn, recordOf}
 use Rattle.read_back.specs.Read.{isGood}
 use Rattle.read_back.specs.Sheet.{listedOn, agree, reach, markedBy}
 use Rattle.read_back.specs.declared.place.Place.{Place}
 use Rattle.read_back.specs.declared.place.Record.{Record}
+use Rattle.read_back.specs.Offsets.{Spaced}
+use Rattle.read_back.proofs.ByFields.{good-line}
 use Rattle.read_back.proofs.Turning.{line, Taken, taken, untaken, after-0, starts, ends, its-line, its-good, its-record, left-bad, left-past, left-on}
 use Rattle.read_back.proofs.turn.read_on.Statement.{statement}
 use Rattle.read_back.proofs.turn.read_on.Tie as tie
 
 abbrev start : tie.After-read-line → tie.Start
 start k = k .before .before .before .before
+
+abbrev mode : tie.After-read-line → Mode
+mode k = start k .args .mode
 
 abbrev text : tie.After-read-line → List ℕ
 text k = start k .args .text .now
@@ -30,16 +36,16 @@ place k = start k .args .place
 
 -- the line at the place
 abbrev it : tie.After-read-line → List ℕ
-it k = line (text k) (place k) (start k .pre)
+it k = line (mode k) (text k) (place k) (start k .pre)
 
 returns : tie.Need-returns
 returns c =
     let k = c .before in
     let a = start k .args in
     parted
-    (left-bad (place k) (a .cells .now) (a .marks .now) (it k)
+    (left-bad (mode k) (place k) (a .cells .now) (a .marks .now) (it k)
     (ap (λ (b : Bool). b && agree (a .cells .now) (positionOn (it k)) (listedOn (it k)))
-    (untaken (text k) (place k) (start k .pre) (k .read-line .result) (k .read-line .ensures) (λ r n f. neither (rw f at (c .match .keys2))))))
+    (untaken (mode k) (text k) (place k) (start k .pre) (k .read-line .result) (k .read-line .ensures) (λ r n f. neither (rw f at (c .match .keys2))))))
 
 abbrev before : tie.After-struct-known → tie.After-read-line
 before s = s .before .before .before .before
@@ -50,23 +56,23 @@ rec s = s .before .before .r .given .0 .0
 abbrev next : tie.After-struct-known → Place
 next s = s .before .before .r .given .0 .1 .0
 
-got : (s : tie.After-struct-known) → let k = before s in Taken (text k) (place k) (start k .pre) (rec s) (next s)
-got s = let k = before s in taken (text k) (place k) (start k .pre) (k .read-line .result) (k .read-line .ensures) (rec s) (next s) (s .before .before .r .given .1)
+got : (s : tie.After-struct-known) → let k = before s in Taken (mode k) (text k) (place k) (start k .pre) (rec s) (next s)
+got s = let k = before s in taken (mode k) (text k) (place k) (start k .pre) (k .read-line .result) (k .read-line .ensures) (rec s) (next s) (s .before .before .r .given .1)
 
 -- the part of the text that the calls are given
 is : (s : tie.After-struct-known) → let k = before s in take (next s .at - 1 - place k .at) (drop (place k .at) (text k)) ≡ it k
-is s = let k = before s in its-line (text k) (place k) (start k .pre) (rec s) (next s) (got s)
+is s = let k = before s in its-line (mode k) (text k) (place k) (start k .pre) (rec s) (next s) (got s)
 
-given : (s : tie.After-struct-known) → let k = before s in let l = take (next s .at - 1 - place k .at) (drop (place k .at) (text k)) in (isLine l ≡ true) × (rec s ≡ recordOf l)
+given : (s : tie.After-struct-known) → let k = before s in let l = take (next s .at - 1 - place k .at) (drop (place k .at) (text k)) in Spaced l × (rec s ≡ recordOf l)
 given s =
     let k = before s in
-    (its-good (text k) (place k) (start k .pre) (rec s) (next s) (got s), its-record (text k) (place k) (start k .pre) (rec s) (next s) (got s))
+    (good-line (mode k) _ (its-good (mode k) (text k) (place k) (start k .pre) (rec s) (next s) (got s)), its-record (mode k) (text k) (place k) (start k .pre) (rec s) (next s) (got s))
 
 begins : (s : tie.After-struct-known) → place (before s) .at ≤ next s .at - 1
-begins s = let k = before s in starts (text k) (place k) (start k .pre) (rec s) (next s) (got s)
+begins s = let k = before s in starts (mode k) (text k) (place k) (start k .pre) (rec s) (next s) (got s)
 
 stops : (s : tie.After-struct-known) → next s .at - 1 ≤ length (text (before s))
-stops s = let k = before s in ends (text k) (place k) (start k .pre) (rec s) (next s) (got s)
+stops s = let k = before s in ends (mode k) (text k) (place k) (start k .pre) (rec s) (next s) (got s)
 
 abbrev known : tie.After-agrees → tie.After-struct-known
 known g = g .before .before .before
@@ -75,7 +81,7 @@ agreed : (g : tie.After-agrees) → let k = before (known g) in g .agrees .resul
 agreed g = g .agrees .ensures ∙ ap (λ (l : List ℕ). agree (start (before (known g)) .args .cells .now) (positionOn l) (listedOn l)) (is (known g))
 
 -- whether it fits
-fits : (g : tie.After-agrees) (b : Bool) → g .agrees .result ≡ b → let k = before (known g) in (isGood (place k) (it k) && agree (start k .args .cells .now) (positionOn (it k)) (listedOn (it k))) ≡ b
+fits : (g : tie.After-agrees) (b : Bool) → g .agrees .result ≡ b → let k = before (known g) in (isGood (mode k) (place k) (it k) && agree (start k .args .cells .now) (positionOn (it k)) (listedOn (it k))) ≡ b
 fits g b e = let k = before (known g) in ap (λ (x : Bool). x && agree (start k .args .cells .now) (positionOn (it k)) (listedOn (it k))) (got (known g) .good) ∙ sym (agreed g) ∙ e
 
 returns-2 : tie.Need-returns-2
@@ -83,7 +89,7 @@ returns-2 c =
     let g = c .before in
     let k = before (known g) in
     let a = start k .args in
-    parted (left-bad (place k) (a .cells .now) (a .marks .now) (it k) (fits g false (not-true _ (c .if1 .taken))))
+    parted (left-bad (mode k) (place k) (a .cells .now) (a .marks .now) (it k) (fits g false (not-true _ (c .if1 .taken))))
 
 abbrev agreeing : tie.After-reaches → tie.Else1
 agreeing h = h .before .before
@@ -99,7 +105,7 @@ returns-3 c =
     let e = agreeing h in
     let k = before (known (e .before)) in
     let a = start k .args in
-    parted (left-past (place k) (a .cells .now) (a .marks .now) (it k) (fits (e .before) true (not-false _ (e .if1 .left))) (sym (reached h) ∙ c .if2 .taken))
+    parted (left-past (mode k) (place k) (a .cells .now) (a .marks .now) (it k) (fits (e .before) true (not-false _ (e .if1 .left))) (sym (reached h) ∙ c .if2 .taken))
 
 abbrev there : tie.Else2 → tie.After-struct-known
 there e = known (agreeing (e .before) .before)
@@ -115,7 +121,7 @@ returns-4 c =
     let k = before s in
     let a = start k .args in
     parted
-    (left-on (place k) (a .cells .now) (a .marks .now) (it k) (fits (e .before) true (not-false _ (e .if1 .left))) (sym (reached h) ∙ f .if2 .left) (next s) (got s .goes) _ _
+    (left-on (mode k) (place k) (a .cells .now) (a .marks .now) (it k) (fits (e .before) true (not-false _ (e .if1 .left))) (sym (reached h) ∙ f .if2 .left) (next s) (got s .goes) _ _
     (l .list .ensures ∙ ap (λ (t : List ℕ). sets (a .cells .now) (positionOn t) (map suc (listedOn t))) (is s))
     (m .mark .ensures ∙ ap (λ (r : Record). markedBy r (a .marks .now)) (got s .is)))
 
@@ -123,7 +129,7 @@ pub read-on-spec : {M : Type 1} → statement M
 read-on-spec =
     tie.close
     (tie.spec (λ c κs. search needs) (λ c. search needs) returns
-    (λ c. let k = before c in after-0 (text k) (place k) (start k .pre) (rec c) (next c) (got c)) begins begins stops
+    (λ c. let k = before c in after-0 (mode k) (text k) (place k) (start k .pre) (rec c) (next c) (got c)) begins begins stops
     (λ c κs. given (c .before .before)) (λ c. search needs) returns-2
     (λ c. begins (known (c .before))) (λ c. begins (known (c .before))) (λ c. stops (known (c .before)))
     (λ c κs. given (known (c .before .before))) (λ c. search needs) returns-3

@@ -10,10 +10,10 @@ use Rattle.sweep.proofs.sweep.sweep_once.Statement.{statement}
 use Rattle.sweep.proofs.sweep.sweep_once.Tie as tie
 
 abbrev Inv-loop : tie.InvT-loop
-Inv-loop image marks₀ n taken₀ p₀ marks taken p = Passing (tracerOf image) marks₀ marks p taken
+Inv-loop mode image marks₀ n taken₀ p₀ marks taken p = Passing (tracerOf mode image) marks₀ marks p taken
 
 abbrev μ-loop : tie.MeasureT-loop
-μ-loop image marks₀ n taken₀ p₀ marks taken p = length image - p
+μ-loop mode image marks₀ n taken₀ p₀ marks taken p = length image - p
 
 abbrev start : tie.At-loop Inv-loop μ-loop → tie.Start Inv-loop μ-loop
 start c = c .before .before .before
@@ -36,7 +36,7 @@ add-taken : tie.Need-add-taken Inv-loop μ-loop
 add-taken c =
     let l = turn c .before in
     let a = start l .args in
-    omega (arith, small l, l .loop .inv .few, l .loop .inv .inside, c .before .before .meet .ensures .0, one-at-most (canTake (tracerOf (a .image .now)) (l .loop .marks) (l .loop .p)))
+    omega (arith, small l, l .loop .inv .few, l .loop .inv .inside, c .before .before .meet .ensures .0, one-at-most (canTake (tracerOf (a .mode) (a .image .now)) (l .loop .marks) (l .loop .p)))
 
 add-p : tie.Need-add-p Inv-loop μ-loop
 add-p c = let l = turn c .before in omega (arith, small l, l .loop .inv .inside)
@@ -52,13 +52,13 @@ loop-again c =
     let i = turn c in
     let l = i .before in
     let a = start l .args in
-    passing-next (tracerOf (a .image .now)) (a .marks .now) (l .loop .marks) (l .loop .p) (l .loop .taken) (l .loop .inv) (i .loop-test .taken) _ _ (c .before .before .meet .ensures)
+    passing-next (tracerOf (a .mode) (a .image .now)) (a .marks .now) (l .loop .marks) (l .loop .p) (l .loop .taken) (l .loop .inv) (i .loop-test .taken) _ _ (c .before .before .meet .ensures)
 
 returns : tie.Need-returns Inv-loop μ-loop
 returns c =
     let l = c .before in
     let a = start l .args in
-    passing-done (tracerOf (a .image .now)) (a .marks .now) (l .loop .marks) (l .loop .p) (l .loop .taken) (l .loop .inv) (c .loop-test .left)
+    passing-done (tracerOf (a .mode) (a .image .now)) (a .marks .now) (l .loop .marks) (l .loop .p) (l .loop .taken) (l .loop .inv) (c .loop-test .left)
 
 pub sweep-once-spec : {M : Type 1} → statement M
 sweep-once-spec =
@@ -67,7 +67,7 @@ sweep-once-spec =
     Inv-loop
     μ-loop
     (λ c. record { fits = let h : length (c .before .before .args .image .now) ≤ 65536 = c .before .before .pre .0 in omega arith })
-    (λ c. passing-start (tracerOf (c .before .before .args .image .now)) (c .before .before .args .marks .now))
+    (λ c. passing-start (tracerOf (c .before .before .args .mode) (c .before .before .args .image .now)) (c .before .before .args .marks .now))
     meet-requires
     add-taken
     add-p

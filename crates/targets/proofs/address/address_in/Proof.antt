@@ -7,11 +7,15 @@ use Rattle.instruction.specs.Kinds.{kindAt, isGiven}
 use Rattle.instruction.specs.declared.kind.Kind.{Kind}
 use Rattle.instruction.specs.Encode.{formIn}
 use Rattle.instruction.specs.declared.instr.Instr.{Instr}
+use Rattle.instruction.specs.declared.mode.Mode.{Mode}
 use Rattle.targets.proofs.InRange.{fits-all}
 use Rattle.targets.proofs.LastOperand.{first, second, third}
 use Rattle.targets.proofs.ReadBack.{Read}
 use Rattle.targets.proofs.address.address_in.Statement.{statement}
 use Rattle.targets.proofs.address.address_in.Tie as tie
+
+abbrev mode : tie.After-kinds → Mode
+mode k = k .before .before .args .mode
 
 abbrev self : tie.After-kinds → Instr
 self k = k .before .before .args .instr
@@ -45,7 +49,7 @@ returns c =
     let k = g .before in
     let f : Read (c .address-of .result) = search needs in
     f ∙ (rw (read-c k, k .kinds .ensures, k .before .apart .ensures) at (c .address-of .ensures))
-    ∙ third (next k) (self k) (given-c g ∙ c .before .before .if1 .taken)
+    ∙ third (mode k) (next k) (self k) (given-c g ∙ c .before .before .if1 .taken)
 
 returns-2 : tie.Need-returns-2
 returns-2 c =
@@ -53,7 +57,7 @@ returns-2 c =
     let k = h .before .before .before in
     let f : Read (c .address-of2 .result) = search needs in
     f ∙ (rw (read-b k, k .kinds .ensures, k .before .apart .ensures) at (c .address-of2 .ensures))
-    ∙ second (next k) (self k) (given-c (h .before .before) ∙ h .before .if1 .left) (given-b h ∙ c .before .before .if2 .taken)
+    ∙ second (mode k) (next k) (self k) (given-c (h .before .before) ∙ h .before .if1 .left) (given-b h ∙ c .before .before .if2 .taken)
 
 returns-3 : tie.Need-returns-3
 returns-3 c =
@@ -61,7 +65,7 @@ returns-3 c =
     let k = h .before .before .before in
     let f : Read (c .address-of3 .result) = search needs in
     f ∙ (rw (read-a k, k .kinds .ensures, k .before .apart .ensures) at (c .address-of3 .ensures))
-    ∙ first (next k) (self k) (given-c (h .before .before) ∙ h .before .if1 .left) (given-b h ∙ c .before .before .if2 .left)
+    ∙ first (mode k) (next k) (self k) (given-c (h .before .before) ∙ h .before .if1 .left) (given-b h ∙ c .before .before .if2 .left)
 
 -- what is asked of an operand
 address-of-requires : tie.Need-address-of-requires

@@ -47,7 +47,7 @@ returns c =
     let i = d .before .before in
     let a = i .before .before in
     let f : toZ w32 (ofZ w32 (d .address-in .result)) ≡ d .address-in .result = search needs in
-    c .place .ensures ∙ ap placeOf (f ∙ d .address-in .ensures) ∙ ap placeOf (ap₂ addressIn (start a .pre .1 .1) (here-is i))
+    c .place .ensures ∙ ap placeOf (f ∙ d .address-in .ensures) ∙ ap placeOf (ap₂ (addressIn (start a .args .mode)) (start a .pre .1 .1) (here-is i))
 
 returns-2 : tie.Need-returns-2
 returns-2 c =

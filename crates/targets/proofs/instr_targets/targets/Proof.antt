@@ -10,12 +10,16 @@ use Rattle.instruction.specs.Answer.{accepted, refused}
 use Rattle.instruction.specs.Encode.{fitAnswer, fitOf}
 use Rattle.instruction.specs.Parts.{partsOf}
 use Rattle.instruction.specs.declared.instr.Instr.{Instr}
+use Rattle.instruction.specs.declared.mode.Mode.{Mode}
 use Rattle.instruction.proofs.Known.{known}
 use Rattle.instruction.proofs.Shapes.{size-range}
 use Rattle.targets.specs.Targets.{nextOf, targetsIn}
 use Rattle.targets.proofs.AskedAlone.{past-end, unfitting, found}
 use Rattle.targets.proofs.instr_targets.targets.Statement.{statement}
 use Rattle.targets.proofs.instr_targets.targets.Tie as tie
+
+abbrev mode : tie.After-size → Mode
+mode c = c .before .args .mode
 
 abbrev self : tie.After-size → Instr
 self c = c .before .args .instr
@@ -42,13 +46,13 @@ add-next c = omega (arith, size-small c .1)
 returns : tie.Need-returns
 returns c =
     let s = c .before in
-    ap (λ (n : ℕ). refused 14 (pos n ∷ [])) (next s) ∙ past-end (position s) (self s) (rw (next s) at (c .if1 .taken))
+    ap (λ (n : ℕ). refused 14 (pos n ∷ [])) (next s) ∙ past-end (mode s) (position s) (self s) (rw (next s) at (c .if1 .taken))
 
 returns-2 : tie.Need-returns-2
 returns-2 c =
     let f = c .before .before .before in
     let s = f .before .before in
-    unfitting (position s) (self s) (near (f .before)) 7 _ (ap fitOf (sym (c .before .m .given .1)) ∙ f .fit .ensures)
+    unfitting (mode s) (position s) (self s) (near (f .before)) 7 _ (ap fitOf (sym (c .before .m .given .1)) ∙ f .fit .ensures)
 
 ways-requires : tie.Need-ways-requires
 ways-requires c κs =
@@ -59,7 +63,7 @@ returns-3 : tie.Need-returns-3
 returns-3 c =
     let e = c .before .before .before .before in
     let s = e .before in
-    c .ways .ensures ∙ ap (λ (n : ℕ). accepted (targetsIn n (self s))) (next s) ∙ found (position s) (self s) (near e) (fitted (c .before))
+    c .ways .ensures ∙ ap (λ (n : ℕ). accepted (targetsIn (mode s) n (self s))) (next s) ∙ found (mode s) (position s) (self s) (near e) (fitted (c .before))
 
 pub targets-spec : {M : Type 1} → statement M
 targets-spec =

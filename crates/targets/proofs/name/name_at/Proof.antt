@@ -4,10 +4,14 @@ use mathlib.Core.Path.{sym, _∙_}
 use mathlib.Core.List.{List}
 use Prim.Native.Nat.{ℕ}
 use borrow.Author.Needs.{needs}
+use Rattle.instruction.specs.declared.mode.Mode.{Mode}
 use Rattle.targets.proofs.Naming.{whole-name, no-name}
 use Rattle.targets.proofs.Openings.{IsWhole, whole-says, cut-says, outside-says}
 use Rattle.targets.proofs.name.name_at.Statement.{statement}
 use Rattle.targets.proofs.name.name_at.Tie as tie
+
+abbrev mode : tie.After-opening-at → Mode
+mode c = c .before .before .args .mode
 
 abbrev image : tie.After-opening-at → List ℕ
 image c = c .before .before .args .image .now
@@ -26,17 +30,17 @@ returns c =
     let n = c .before .before in
     let a = n .before .before in
     let w = says n in
-    c .name-by .ensures ∙ whole-name (image a) (p a) (w .inside) (w .small) (w .fits)
+    c .name-by .ensures ∙ whole-name (mode a) (image a) (p a) (w .inside) (w .small) (w .fits)
 
 returns-2 : tie.Need-returns-2
 returns-2 c =
     let a = c .before .before in
-    no-name (image a) (p a) (cut-says (image a) (p a) (c .enum-told .given .0 .0) (sym (c .enum-told .given .1) ∙ a .opening-at .ensures) .1)
+    no-name (mode a) (image a) (p a) (cut-says (mode a) (image a) (p a) (c .enum-told .given .0 .0) (sym (c .enum-told .given .1) ∙ a .opening-at .ensures) .1)
 
 returns-3 : tie.Need-returns-3
 returns-3 c =
     let a = c .before .before in
-    no-name (image a) (p a) (outside-says (image a) (p a) (sym (c .enum-told2 .given .1) ∙ a .opening-at .ensures) .1)
+    no-name (mode a) (image a) (p a) (outside-says (mode a) (image a) (p a) (sym (c .enum-told2 .given .1) ∙ a .opening-at .ensures) .1)
 
 pub name-at-spec : {M : Type 1} → statement M
 name-at-spec =

@@ -5,11 +5,15 @@ use mathlib.Core.List.{List}
 use Prim.Native.Nat.{ℕ, _+_}
 use borrow.Author.Needs.{needs}
 use Rattle.instruction.specs.declared.flow.Flow.{Flow}
+use Rattle.instruction.specs.declared.mode.Mode.{Mode}
 use Rattle.targets.specs.At.{sizeHere, instrHere, nameHere, namedBy, placeOf}
 use Rattle.targets.specs.Targets.{addressIn}
 use Rattle.targets.proofs.Openings.{names}
 use Rattle.targets.proofs.name.name_by.Statement.{statement}
 use Rattle.targets.proofs.name.name_by.Tie as tie
+
+abbrev mode : tie.After-shared-slice-known → Mode
+mode c = c .before .args .mode
 
 abbrev image : tie.After-shared-slice-known → List ℕ
 image c = c .before .args .image .now
@@ -18,8 +22,8 @@ abbrev p : tie.After-shared-slice-known → ℕ
 p c = c .before .args .p
 
 -- what is told of the flow says what is named
-by-flow : (c : tie.After-shared-slice-known) (f : Flow) → c .before .args .flow ≡ f → namedBy f (placeOf (addressIn (p c + sizeHere (image c) (p c)) (instrHere (image c) (p c)))) ≡ nameHere (image c) (p c)
-by-flow c f e = names (image c) (p c) (λ n. c .shared-slice-known .given n .fits) f (sym e ∙ c .before .pre .1 .2)
+by-flow : (c : tie.After-shared-slice-known) (f : Flow) → c .before .args .flow ≡ f → namedBy f (placeOf (addressIn (mode c) (p c + sizeHere (image c) (p c)) (instrHere (image c) (p c)))) ≡ nameHere (mode c) (image c) (p c)
+by-flow c f e = names (mode c) (image c) (p c) (λ n. c .shared-slice-known .given n .fits) f (sym e ∙ c .before .pre .1 .2)
 
 pub name-by-spec : {M : Type 1} → statement M
 name-by-spec =

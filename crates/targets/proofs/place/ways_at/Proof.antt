@@ -4,10 +4,14 @@ use mathlib.Core.Path.{sym, _∙_}
 use mathlib.Core.List.{List}
 use Prim.Native.Nat.{ℕ}
 use borrow.Author.Needs.{needs}
+use Rattle.instruction.specs.declared.mode.Mode.{Mode}
 use Rattle.targets.proofs.Openings.{IsWhole, whole-says, cut-says, outside-says}
 use Rattle.targets.proofs.WaysAre.{whole-goes}
 use Rattle.targets.proofs.place.ways_at.Statement.{statement}
 use Rattle.targets.proofs.place.ways_at.Tie as tie
+
+abbrev mode : tie.After-opening-at → Mode
+mode c = c .before .before .args .mode
 
 abbrev image : tie.After-opening-at → List ℕ
 image c = c .before .before .args .image .now
@@ -27,17 +31,17 @@ returns c =
     let n = c .before .before in
     let a = n .before .before in
     let w = says n in
-    whole-goes (image a) (p a) (w .inside) (w .small) (w .fits) (c .places-by .result) (c .places-by .ensures)
+    whole-goes (mode a) (image a) (p a) (w .inside) (w .small) (w .fits) (c .places-by .result) (c .places-by .ensures)
 
 returns-2 : tie.Need-returns-2
 returns-2 c =
     let k = c .before in
     let a = k .before .before in
-    cut-says (image a) (p a) (k .c .given .0 .0) (sym (k .c .given .1) ∙ a .opening-at .ensures) .0
+    cut-says (mode a) (image a) (p a) (k .c .given .0 .0) (sym (k .c .given .1) ∙ a .opening-at .ensures) .0
 
 returns-3 : tie.Need-returns-3
 returns-3 c =
-    let a = c .before .before in outside-says (image a) (p a) (sym (c .enum-told .given .1) ∙ a .opening-at .ensures) .0
+    let a = c .before .before in outside-says (mode a) (image a) (p a) (sym (c .enum-told .given .1) ∙ a .opening-at .ensures) .0
 
 pub ways-at-spec : {M : Type 1} → statement M
 ways-at-spec =

@@ -1,6 +1,6 @@
 -- `damage::find_damage` meets its contract: at p - 2, under the exception, or at the targets.
 -- Assumes nothing.
-use mathlib.Core.Path.{_≡_, sym, ap, _∙_}
+use mathlib.Core.Path.{_≡_, sym, _∙_}
 use mathlib.Core.Bool.{true}
 use mathlib.Core.List.{List}
 use mathlib.Core.Logic.{inl, inr, ⊎-elim}
@@ -10,7 +10,8 @@ use borrow.Author.Needs.{needs}
 use borrow.Author.Tests.{lt-ltb, le-ltb}
 use lib.ListN.{length}
 use Rattle.targets.specs.At.{flashHere}
-use Rattle.trace.proofs.Damages.{before-damaged, exempted, by-ways, judged}
+use Rattle.targets.specs.Ways.{placesIn}
+use Rattle.trace.proofs.Damages.{before-damaged, exempted, by-ways}
 use Rattle.marks.proofs.Jmpf.{two-before}
 use Rattle.trace.proofs.damage.find_damage.Statement.{statement}
 use Rattle.trace.proofs.damage.find_damage.Tie as tie
@@ -23,6 +24,9 @@ image c = start c .args .image .now
 
 abbrev marks : tie.After-is-flash → List ℕ
 marks c = start c .args .marks .now
+
+abbrev ways : tie.After-is-flash → List ℕ
+ways c = placesIn (start c .args .to)
 
 abbrev p : tie.After-is-flash → ℕ
 p c = start c .args .p
@@ -45,7 +49,7 @@ returns : tie.Need-returns
 returns c =
     let t = c .before .before in
     let f = t .before in
-    before-damaged (image f) (marks f) (p f) (flash t) (lt-ltb 3 _ (c .if2 .taken))
+    before-damaged (image f) (marks f) (ways f) (p f) (flash t) (lt-ltb 3 _ (c .if2 .taken))
 
 returns-2 : tie.Need-returns-2
 returns-2 c =
@@ -53,14 +57,14 @@ returns-2 c =
     let e = r .before in
     let t = e .before .before in
     let f = t .before in
-    exempted (image f) (marks f) (p f) (flash t) (le-ltb 3 _ (e .if2 .left)) (sym (r .is-traced .ensures) ∙ c .if3 .taken)
+    exempted (image f) (marks f) (ways f) (p f) (flash t) (le-ltb 3 _ (e .if2 .left)) (sym (r .is-traced .ensures) ∙ c .if3 .taken)
 
 returns-3 : tie.Need-returns-3
 returns-3 c =
     let j = c .before in
     let f = j .before in
     let e = f .is-flash .ensures in
-    c .damage-all .ensures ∙ ap (judged (length (image f)) (marks f)) (start f .pre .2) ∙ by-ways (image f) (marks f) (p f)
+    c .damage-all .ensures ∙ by-ways (image f) (marks f) (ways f) (p f)
     (⊎-elim (λ w. inr (sym e ∙ w .0 .taken, le-ltb 3 _ (w .2 .left), sym (w .3 .ensures) ∙ w .4 .left)) (λ w. inl (sym e ∙ w .left)) (j .if1 .came))
 
 pub find-damage-spec : {M : Type 1} → statement M

@@ -6,6 +6,7 @@ use mathlib.Core.List.{List}
 use Prim.Native.Nat.{ℕ}
 use borrow.Author.Needs.{needs}
 use lib.ListN.{length}
+use Rattle.instruction.specs.declared.mode.Mode.{Mode}
 use Rattle.targets.specs.Ways.{placesIn}
 use Rattle.targets.specs.At.{fitsHere, waysHere}
 use Rattle.marks.specs.Tracer.{tracerOf}
@@ -20,24 +21,27 @@ use Rattle.trace.proofs.run.take_next.Tie as tie
 abbrev start : tie.After-ways-at → tie.Start
 start c = c .before .before .before .before
 
+abbrev mode : tie.After-ways-at → Mode
+mode c = start c .args .mode
+
 abbrev image : tie.After-ways-at → List ℕ
 image c = start c .args .image .now
 
 abbrev p : tie.After-ways-at → ℕ
 p c = start c .args .p
 
-whole : (c : tie.After-to) → (fitsHere (image (c .before .before)) (p (c .before .before)) ≡ true) × (placesIn (c .to .given .0 .0) ≡ waysHere (image (c .before .before)) (p (c .before .before)))
+whole : (c : tie.After-to) → (fitsHere (image (c .before .before)) (p (c .before .before)) ≡ true) × (placesIn (c .to .given .0 .0) ≡ waysHere (mode (c .before .before)) (image (c .before .before)) (p (c .before .before)))
 whole c =
     let a = c .before .before in
-    goes-whole (image a) (p a) (start a .pre .0 .0) (start a .pre .0 .1) (c .to .given .0 .0) (sym (c .to .given .1) ∙ a .ways-at .ensures)
+    goes-whole (mode a) (image a) (p a) (start a .pre .0 .0) (start a .pre .0 .1) (c .to .given .0 .0) (sym (c .to .given .1) ∙ a .ways-at .ensures)
 
 abbrev at : tie.After-take-up → tie.After-to
 at c = c .before .before .before
 
-taken : (c : tie.After-take-up) → let s = start (at c .before .before) in TakenUp (tracerOf (s .args .image .now)) (s .args .marks .now) (s .args .p) (c .take-up .result) (c .take-up .last .1 .0)
+taken : (c : tie.After-take-up) → let s = start (at c .before .before) in TakenUp (tracerOf (s .args .mode) (s .args .image .now)) (s .args .marks .now) (s .args .p) (c .take-up .result) (c .take-up .last .1 .0)
 taken c =
     let s = start (at c .before .before) in
-    by-ways (s .args .image .now) _ (s .args .marks .now) (s .args .p) _ _ (whole (at c) .1) (c .take-up .ensures)
+    by-ways (s .args .mode) (s .args .image .now) _ (s .args .marks .now) (s .args .p) _ _ (whole (at c) .1) (c .take-up .ensures)
 
 put-requires : tie.Need-put-requires
 put-requires c κs =
@@ -52,22 +56,22 @@ returns c =
     let i = t .before .before .before in
     let a = i .before .before in
     let s = start a in
-    turned-on (image a) (s .args .marks .now) (s .args .order .now) (p a) (s .args .tail) (q .put .result) _ _ (whole i .0)
-    (taken-put (image a) (s .args .marks .now) (p a) (t .take-up .result) _ (s .args .order .now) (s .args .tail) _ (q .put .result) (taken t) (q .put .ensures))
+    turned-on (mode a) (image a) (s .args .marks .now) (s .args .order .now) (p a) (s .args .tail) (q .put .result) _ _ (whole i .0)
+    (taken-put (mode a) (image a) (s .args .marks .now) (p a) (t .take-up .result) _ (s .args .order .now) (s .args .tail) _ (q .put .result) (taken t) (q .put .ensures))
 
 returns-2 : tie.Need-returns-2
 returns-2 c =
     let k = c .before in
     let a = k .before .before in
     let s = start a in
-    turned-off (image a) (s .args .marks .now) (s .args .order .now) (p a) (s .args .tail) (k .c .given .0 .0)
-    (goes-cut (image a) (p a) (s .pre .0 .0) (s .pre .0 .1) (k .c .given .0 .0) (sym (k .c .given .1) ∙ a .ways-at .ensures))
+    turned-off (mode a) (image a) (s .args .marks .now) (s .args .order .now) (p a) (s .args .tail) (k .c .given .0 .0)
+    (goes-cut (mode a) (image a) (p a) (s .pre .0 .0) (s .pre .0 .1) (k .c .given .0 .0) (sym (k .c .given .1) ∙ a .ways-at .ensures))
 
 returns-3 : tie.Need-returns-3
 returns-3 c =
     let a = c .before .before in
     let s = start a in
-    absurd (never-outside (image a) (p a) (s .pre .0 .0) (s .pre .0 .1) (sym (c .enum-told .given .1) ∙ a .ways-at .ensures))
+    absurd (never-outside (mode a) (image a) (p a) (s .pre .0 .0) (s .pre .0 .1) (sym (c .enum-told .given .1) ∙ a .ways-at .ensures))
 
 pub take-next-spec : {M : Type 1} → statement M
 take-next-spec =

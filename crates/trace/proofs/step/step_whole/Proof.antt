@@ -2,7 +2,9 @@
 -- Assumes nothing.
 use mathlib.Core.Path.{sym, ap, _∙_}
 use borrow.Author.Needs.{needs}
-use Rattle.marks.proofs.TakeUp.{by-ways}
+use Rattle.reach.specs.Tracer.{Tracer}
+use Rattle.marks.specs.Taken.{goingTo}
+use Rattle.targets.specs.Ways.{placesIn}
 use Rattle.trace.specs.Step.{damageOf}
 use Rattle.trace.proofs.Stepping.{damaged-said, took-said}
 use Rattle.trace.proofs.step.step_whole.Statement.{statement}
@@ -11,12 +13,16 @@ use Rattle.trace.proofs.step.step_whole.Tie as tie
 abbrev start : tie.After-find-damage → tie.Start
 start c = c .before .before .before .before
 
+-- the tracer that has these targets
+abbrev going : tie.After-find-damage → Tracer
+going c = goingTo (start c .args .image .now) (placesIn (start c .args .to))
+
 returns : tie.Need-returns
 returns c =
     let w = c .before in
     let f = w .before .before in
     let a = start f .args in
-    damaged-said (a .image .now) (a .marks .now) (a .p) _ (sym (ap damageOf (w .q .given .1)) ∙ f .find-damage .ensures)
+    damaged-said (going f) (a .image .now) (a .marks .now) (a .p) _ (sym (ap damageOf (w .q .given .1)) ∙ f .find-damage .ensures)
 
 returns-2 : tie.Need-returns-2
 returns-2 c =
@@ -25,7 +31,7 @@ returns-2 c =
     let w = t .before .before in
     let f = w .before .before in
     let a = start f .args in
-    took-said (a .image .now) (a .marks .now) (a .p) (sym (ap damageOf (w .enum-told .given .1)) ∙ f .find-damage .ensures) (t .take-up .result) _ (by-ways (a .image .now) _ (a .marks .now) (a .p) _ _ (start f .pre .2) (t .take-up .ensures)) (k .count .result) (k .count .ensures) (c .new .result) (c .new .ensures)
+    took-said (going f) (a .image .now) (a .marks .now) (a .p) (sym (ap damageOf (w .enum-told .given .1)) ∙ f .find-damage .ensures) (t .take-up .result) _ (t .take-up .ensures) (k .count .result) (k .count .ensures) (c .new .result) (c .new .ensures)
 
 pub step-whole-spec : {M : Type 1} → statement M
 step-whole-spec =

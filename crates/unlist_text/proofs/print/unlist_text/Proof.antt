@@ -21,8 +21,8 @@ image-is r = ap length (r .before .before .before .before .bytes .ensures) ∙ l
 marks-are : (r : tie.After-read-back) → length (r .before .before .before .bytes2 .result) ≡ 65536
 marks-are r = ap length (r .before .before .before .bytes2 .ensures) ∙ length-replicate {A = ℕ} 65536 0
 
-image-long : (r : tie.After-read-back) → length (r .read-back .last .1 .1 .0) ≡ 65536
-image-long r = r .read-back .kept .1 .1 .0 ∙ image-is r
+image-long : (r : tie.After-read-back) → length (r .read-back .last .1 .1 .1 .0) ≡ 65536
+image-long r = r .read-back .kept .1 .1 .1 .0 ∙ image-is r
 
 abbrev read : tie.After-first → tie.After-read-back
 read c = c .before .before .before .before .before .before
@@ -31,7 +31,7 @@ put-image-requires : tie.Need-put-image-requires
 put-image-requires c κs =
     let f = c .before in
     let r = read f in
-    omega (arith, image-long r, first-few (start r .args .length) (r .read-back .last .1 .1 .0) _ (f .first .ensures))
+    omega (arith, image-long r, first-few (start r .args .length) (r .read-back .last .1 .1 .1 .0) _ (f .first .ensures))
 
 returns : tie.Need-returns
 returns c =
@@ -40,7 +40,7 @@ returns c =
     let r = read f in
     let a = start r .args in
     let t = f .before .before in
-    said _ _ (accepted-print (a .text .now) (a .length) _ _ (image-is r) (marks-are r) _ (ap restoredOf (sym (t .enum-told .given .1)) ∙ r .read-back .ensures .0) (r .read-back .last .1 .1 .0) _ (r .read-back .ensures .1 .0) (f .first .ensures)) _ _ (a .room .now) (w .put-image .ensures)
+    said _ _ (accepted-print (a .text .now) (a .length) _ _ (image-is r) (marks-are r) _ (ap restoredOf (sym (t .enum-told .given .1)) ∙ r .read-back .ensures .0) (r .read-back .last .1 .1 .1 .0) _ (r .read-back .ensures .1 .0) (f .first .ensures)) _ _ (a .room .now) (w .put-image .ensures)
 
 returns-2 : tie.Need-returns-2
 returns-2 c =

@@ -14,7 +14,7 @@ returns : tie.Need-returns
 returns c =
     let t = c .before in
     let a = start t .args in
-    from-untraced (a .image .now) (a .marks .now) (a .p) (sym (t .is-traced .ensures) ∙ not-true _ (c .if1 .taken))
+    from-untraced (a .mode) (a .image .now) (a .marks .now) (a .p) (sym (t .is-traced .ensures) ∙ not-true _ (c .if1 .taken))
 
 returns-2 : tie.Need-returns-2
 returns-2 c =
@@ -22,7 +22,7 @@ returns-2 c =
     let e = x .before in
     let t = e .before in
     let a = start t .args in
-    from-exempt (a .image .now) (a .marks .now) (a .p) (sym (t .is-traced .ensures) ∙ not-false _ (e .if1 .left)) (sym (x .is-exempt .ensures) ∙ c .if2 .taken)
+    from-exempt (a .mode) (a .image .now) (a .marks .now) (a .p) (sym (t .is-traced .ensures) ∙ not-false _ (e .if1 .left)) (sym (x .is-exempt .ensures) ∙ c .if2 .taken)
 
 returns-3 : tie.Need-returns-3
 returns-3 c =
@@ -31,7 +31,7 @@ returns-3 c =
     let e = x .before in
     let t = e .before in
     let a = start t .args in
-    c .name-at .ensures ∙ from-name (a .image .now) (a .marks .now) (a .p) (sym (t .is-traced .ensures) ∙ not-false _ (e .if1 .left)) (sym (x .is-exempt .ensures) ∙ f .if2 .left)
+    c .name-at .ensures ∙ from-name (a .mode) (a .image .now) (a .marks .now) (a .p) (sym (t .is-traced .ensures) ∙ not-false _ (e .if1 .left)) (sym (x .is-exempt .ensures) ∙ f .if2 .left)
 
 pub named-from-spec : {M : Type 1} → statement M
 named-from-spec =

@@ -6,6 +6,7 @@ use Prim.Native.Nat.{ℕ}
 use borrow.Author.Needs.{needs}
 use borrow.Author.Tests.{not-true, not-false}
 use lib.ListN.{length}
+use Rattle.instruction.specs.declared.mode.Mode.{Mode}
 use Rattle.views.specs.View.{Sound}
 use Rattle.views.proofs.Viewing.{is-sound, small, covered, refused-all, no-room-for, shown-as}
 use Rattle.views.specs.Labels.{labelsOf}
@@ -15,6 +16,9 @@ use Rattle.views.proofs.labels.target_marks.Tie as tie
 
 abbrev start : tie.After-is-written → tie.Start
 start c = c .before .before .before .before .before
+
+abbrev mode : tie.After-is-written → Mode
+mode c = start c .args .mode
 
 abbrev image : tie.After-is-written → List ℕ
 image c = start c .args .image .now
@@ -28,7 +32,7 @@ room c = start c .args .room .now
 returns : tie.Need-returns
 returns c =
     let w = c .before in
-    refused-all (image w) (marks w) (labelsOf (image w) (marks w)) (room w) (w .before .check .result) (w .before .check .ensures) (sym (w .is-written .ensures) ∙ not-true _ (c .if1 .taken))
+    refused-all (image w) (marks w) (labelsOf (mode w) (image w) (marks w)) (room w) (w .before .check .result) (w .before .check .ensures) (sym (w .is-written .ensures) ∙ not-true _ (c .if1 .taken))
 
 sound : (c : tie.Else1) → Sound (image (c .before)) (marks (c .before))
 sound c =
@@ -39,7 +43,7 @@ returns-2 : tie.Need-returns-2
 returns-2 c =
     let e = c .before in
     let w = e .before in
-    no-room-for (image w) (marks w) (labelsOf (image w) (marks w)) (room w) (sound e) (length (image w)) (labels-length (image w) (marks w)) (c .if2 .taken)
+    no-room-for (image w) (marks w) (labelsOf (mode w) (image w) (marks w)) (room w) (sound e) (length (image w)) (labels-length (mode w) (image w) (marks w)) (c .if2 .taken)
 
 write-labels-requires : tie.Need-write-labels-requires
 write-labels-requires c κs =
@@ -54,7 +58,7 @@ returns-3 c =
     let k = p .before .before in
     let e = k .before in
     let w = e .before in
-    shown-as (image w) (marks w) (labelsOf (image w) (marks w)) (room w) (sound e) (length (image w)) (labels-length (image w) (marks w)) (k .if2 .left) _ (p .write-labels .ensures)
+    shown-as (image w) (marks w) (labelsOf (mode w) (image w) (marks w)) (room w) (sound e) (length (image w)) (labels-length (mode w) (image w) (marks w)) (k .if2 .left) _ (p .write-labels .ensures)
 
 pub target-marks-spec : {M : Type 1} → statement M
 target-marks-spec =

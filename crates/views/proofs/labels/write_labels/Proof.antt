@@ -12,10 +12,10 @@ use Rattle.views.proofs.labels.write_labels.Statement.{statement}
 use Rattle.views.proofs.labels.write_labels.Tie as tie
 
 abbrev Inv-loop : tie.InvT-loop
-Inv-loop image marks base n p₀ room p = (p ≤ n) × Labels image marks base p room
+Inv-loop mode image marks base n p₀ room p = (p ≤ n) × Labels mode image marks base p room
 
 abbrev μ-loop : tie.MeasureT-loop
-μ-loop image marks base n p₀ room p = n - p
+μ-loop mode image marks base n p₀ room p = n - p
 
 abbrev wiped-room : tie.After-slice-known2 Inv-loop μ-loop → tie.After-clear Inv-loop μ-loop
 wiped-room c = c .before .before
@@ -28,7 +28,7 @@ loop-holds c =
     let w = wiped-room c in
     let s = start w in (
       omega arith,
-      labels-start (s .args .image .now) (s .args .marks .now) (w .clear .last .0) (clear-at (length (s .args .image .now)) (s .args .room .now) (w .clear .last .0) (s .pre .2) (w .clear .ensures .1)),
+      labels-start (s .args .mode) (s .args .image .now) (s .args .marks .now) (w .clear .last .0) (clear-at (length (s .args .image .now)) (s .args .room .now) (w .clear .last .0) (s .pre .2) (w .clear .ensures .1)),
     )
 
 room-for : (c : tie.At-loop Inv-loop μ-loop) → length (start (wiped-room (c .before)) .args .image .now) ≤ length (wiped-room (c .before) .clear .last .0)
@@ -51,7 +51,7 @@ loop-again c =
     let w = wiped-room (l .before) in
     let s = start w in (
       omega arith,
-      labels-next (s .args .image .now) (s .args .marks .now) (w .clear .last .0) (room-for l) (l .loop .p) (l .loop .room) (l .loop .inv .1) (f .named-from .result) (f .named-from .ensures) (b .label .last .0) (b .label .ensures) (b .label .kept .0),
+      labels-next (s .args .mode) (s .args .image .now) (s .args .marks .now) (w .clear .last .0) (room-for l) (l .loop .p) (l .loop .room) (l .loop .inv .1) (f .named-from .result) (f .named-from .ensures) (b .label .last .0) (b .label .ensures) (b .label .kept .0),
     )
 
 returns : tie.Need-returns Inv-loop μ-loop
@@ -59,8 +59,8 @@ returns c =
     let l = c .before in
     let w = wiped-room (l .before) in
     let s = start w in
-    labels-end (s .args .image .now) (s .args .marks .now) (w .clear .last .0) (room-for l) (l .loop .p) (l .loop .inv .0) (c .loop-test .left) (l .loop .room) (l .loop .inv .1)
-    ∙ ap (λ (r : List ℕ). labelsOf (s .args .image .now) (s .args .marks .now) ++ r)
+    labels-end (s .args .mode) (s .args .image .now) (s .args .marks .now) (w .clear .last .0) (room-for l) (l .loop .p) (l .loop .inv .0) (c .loop-test .left) (l .loop .room) (l .loop .inv .1)
+    ∙ ap (λ (r : List ℕ). labelsOf (s .args .mode) (s .args .image .now) (s .args .marks .now) ++ r)
     (clear-rest (length (s .args .image .now)) (s .args .room .now) (w .clear .last .0) (s .pre .2) (w .clear .ensures .1))
 
 pub write-labels-spec : {M : Type 1} → statement M
