@@ -18,6 +18,7 @@ pub mod EncodeDecoded
 pub mod OwnForm
 pub mod DecodeEncoded
 pub mod ResolvedFits
+pub mod Modes
 pub mod Missing
 pub mod Undone
 pub mod ResolvedApart

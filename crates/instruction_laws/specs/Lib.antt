@@ -4,4 +4,5 @@ pub mod PartsMade
 pub mod RoundTrips
 pub mod Missing
 pub mod Resolving
+pub mod Modes
 pub mod Apart

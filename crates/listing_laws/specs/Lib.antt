@@ -1,3 +1,4 @@
 pub mod ClaimsLines
 pub mod ClaimsShown
 pub mod ClaimsRoom
+pub mod ClaimsModesListing

@@ -45,6 +45,8 @@ pub mod SweepEnough
 pub mod SweepEach
 pub mod SweepTakes
 pub mod SweepRun
+pub mod Alike
+pub mod AlikeSweep
 pub mod Sets
 pub mod Noted
 pub mod NotedMore

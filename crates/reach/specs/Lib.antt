@@ -16,3 +16,4 @@ pub mod ClaimsCut
 pub mod ClaimsSweep
 pub mod ClaimsJoin
 pub mod ClaimsPins
+pub mod ClaimsAlike

@@ -2,6 +2,8 @@ pub mod ClaimsTargetsApart
 pub mod AddressBack
 pub mod ResolvedAddress
 pub mod ClaimsTargetsUndo
+pub mod ClaimsModesInside
+pub mod ClaimsModesTargets
 pub mod ClaimsStepsApart
 pub mod Accepted
 pub mod Unflashed
@@ -10,3 +12,6 @@ pub mod ClaimsImagesEnd
 pub mod ClaimsMissingFew
 pub mod Finished
 pub mod ClaimsSweepsImages
+pub mod Unwritten
+pub mod SameHere
+pub mod ClaimsModesAlike

@@ -5,3 +5,4 @@ pub mod ClaimsCodeBytes
 pub mod Edges
 pub mod ClaimsSoundRun
 pub mod ClaimsSoundSteps
+pub mod ClaimsModesViews

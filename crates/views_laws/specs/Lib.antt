@@ -2,3 +2,4 @@ pub mod ClaimsCode
 pub mod ClaimsViews
 pub mod Edges
 pub mod ClaimsSound
+pub mod ClaimsModesViews
