@@ -6,6 +6,8 @@
 #include "pottagewing.h"
 
 #define LENGTH 8
+/* What is traced in one mode is listed in the same: this one is the listing program's. */
+#define MODE PW_UNWRAPPED
 
 static const uint8_t image[LENGTH] = {0x01, 0x02, 0x00, 0x41, 0x64, 0x80, 0xF9, 0xA0};
 static const uint32_t entries[] = {0x0000};
@@ -37,18 +39,18 @@ int main(void)
     uint32_t number;
 
     /* No position is taken up twice, so that the image's length is limit enough for every run to finish. */
-    number = pw_run(image, LENGTH, marks, LENGTH, order, LENGTH, entries, sizeof entries / sizeof entries[0], LENGTH, answer);
+    number = pw_run(MODE, image, LENGTH, marks, LENGTH, order, LENGTH, entries, sizeof entries / sizeof entries[0], LENGTH, answer);
     check("pw_run", number, answer);
 
     /* A room of 0 bytes asks how many the listing has. It is lent a pointer all the same, since none may be null. The stack of `main` is
      * large enough for the call; that of a thread has to have 1 MiB. */
     size_t size = 0;
     uint8_t *room = grown(NULL, 1);
-    number = pw_listing(image, LENGTH, marks, LENGTH, PW_ARRIVALS_DECLINED, room, size, answer);
+    number = pw_listing(MODE, image, LENGTH, marks, LENGTH, PW_ARRIVALS_DECLINED, room, size, answer);
     if (number == PW_NO_ROOM) {
         size = (size_t)answer[0];
         room = grown(room, size);
-        number = pw_listing(image, LENGTH, marks, LENGTH, PW_ARRIVALS_DECLINED, room, size, answer);
+        number = pw_listing(MODE, image, LENGTH, marks, LENGTH, PW_ARRIVALS_DECLINED, room, size, answer);
     }
     check("pw_listing", number, answer);
 

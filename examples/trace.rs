@@ -15,10 +15,13 @@ mod pottagewing {
     const NO_ROOM: u32 = 11;
     const ARRIVALS_DECLINED: u32 = 0;
     const ARRIVALS_CHOSEN: u32 = 1;
+    const UNWRAPPED: u32 = 0;
+    const WRAPPING: u32 = 1;
 
     #[link(name = "pottagewing", kind = "static")]
     unsafe extern "C" {
         fn pw_run(
+            mode: u32,
             image: *const u8,
             image_length: usize,
             marks: *mut u8,
@@ -31,6 +34,7 @@ mod pottagewing {
             answer: *mut [i64; 5],
         ) -> u32;
         fn pw_listing(
+            mode: u32,
             image: *const u8,
             image_length: usize,
             marks: *const u8,
@@ -40,6 +44,23 @@ mod pottagewing {
             room_length: usize,
             answer: *mut [i64; 5],
         ) -> u32;
+    }
+
+    /// What becomes of a short branch at the ends of memory. What is traced in one mode is to be listed in the same.
+    #[derive(Clone, Copy)]
+    #[allow(dead_code)]
+    pub enum Mode {
+        Unwrapped,
+        Wrapping,
+    }
+
+    impl Mode {
+        fn number(self) -> u32 {
+            match self {
+                Mode::Unwrapped => UNWRAPPED,
+                Mode::Wrapping => WRAPPING,
+            }
+        }
     }
 
     /// The number of a refusal, and the values that go with it, three at most.
@@ -67,6 +88,7 @@ mod pottagewing {
 
     /// Accepted: 1 if it finished, the steps, the positions noted.
     pub fn run(
+        mode: Mode,
         image: &[u8],
         marks: &mut [u8],
         order: &mut [u32],
@@ -76,6 +98,7 @@ mod pottagewing {
         let mut answer = [0; 5];
         let number = unsafe {
             pw_run(
+                mode.number(),
                 image.as_ptr(),
                 image.len(),
                 marks.as_mut_ptr(),
@@ -93,6 +116,7 @@ mod pottagewing {
 
     /// Accepted: the number of bytes written.
     pub fn listing_into(
+        mode: Mode,
         image: &[u8],
         marks: &[u8],
         arrivals: bool,
@@ -105,6 +129,7 @@ mod pottagewing {
         };
         let number = unsafe {
             pw_listing(
+                mode.number(),
                 image.as_ptr(),
                 image.len(),
                 marks.as_ptr(),
@@ -120,18 +145,25 @@ mod pottagewing {
 
     /// The whole listing: an empty room asks how many bytes it has, which refusal 11 answers. A thread that calls this needs a stack of
     /// 1 MiB, which is less than `std::thread` gives it.
-    pub fn listing(image: &[u8], marks: &[u8], arrivals: bool) -> Result<Vec<u8>, Refusal> {
+    pub fn listing(
+        mode: Mode,
+        image: &[u8],
+        marks: &[u8],
+        arrivals: bool,
+    ) -> Result<Vec<u8>, Refusal> {
         let mut room = Vec::new();
-        match listing_into(image, marks, arrivals, &mut room) {
+        match listing_into(mode, image, marks, arrivals, &mut room) {
             Err(Refusal {
                 number: NO_ROOM,
                 values,
             }) => room.resize(values[0] as usize, 0),
             answer => return answer.map(|_| room),
         }
-        listing_into(image, marks, arrivals, &mut room).map(|_| room)
+        listing_into(mode, image, marks, arrivals, &mut room).map(|_| room)
     }
 }
+
+use pottagewing::Mode;
 
 const IMAGE: [u8; 8] = [0x01, 0x02, 0x00, 0x41, 0x64, 0x80, 0xF9, 0xA0];
 const ENTRIES: [u32; 1] = [0x0000];
@@ -141,8 +173,9 @@ fn print() -> Result<(), Box<dyn Error>> {
     let mut order = [0; IMAGE.len()];
     // No position is taken up twice, so that the image's length is limit enough for every run to finish.
     let limit = IMAGE.len() as u32;
-    pottagewing::run(&IMAGE, &mut marks, &mut order, &ENTRIES, limit)?;
-    let text = pottagewing::listing(&IMAGE, &marks, false)?;
+    let mode = Mode::Unwrapped;
+    pottagewing::run(mode, &IMAGE, &mut marks, &mut order, &ENTRIES, limit)?;
+    let text = pottagewing::listing(mode, &IMAGE, &marks, false)?;
     io::stdout().write_all(&text)?;
     Ok(())
 }

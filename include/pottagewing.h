@@ -18,6 +18,18 @@
  * a, b, c in the order in which they are shown, immediate first in `mov`.
  * Operands that the form does not have are ignored.
  *
+ * Calls that use a target are told a mode, as their first argument: 0 is
+ * unwrapped, any other number wrapping. Memory has the positions 0 to 65,535.
+ * Unwrapped, a short branch may lead below 0 or above 65,535, and control goes
+ * on from the last position to 65,536; none of these is inside an image.
+ * Wrapping, the address of a short branch and the position after an instruction
+ * are taken modulo 65,536 as targets, as a program counter of 16 bits does: 01
+ * 80 at 0 leads to 65,410, and a `nop` at 65,535 goes on to 0. What `brf`,
+ * `callr`, `jmp`, `call`, `jmpf` and `callf` name is the same in both modes.
+ * Where no target leaves 0 to 65,535 the two modes answer and leave the same.
+ * Marks do not say in which mode they were made: what looks at them is to be
+ * told the same one.
+ *
  * Tracing goes over an image, its bytes, and marks, one byte for each position
  * of it: 0 untouched, 1 waiting, 2 traced, 3 a traced `jmpf` whose target is
  * not followed. That is one with the bytes B8 0D right before it, where the
@@ -55,7 +67,7 @@
 
 /* The version of what is declared here: it changes when a call does. What is
  * linked answers its own by pw_version. */
-#define PW_VERSION 1
+#define PW_VERSION 2
 
 /* The number that a call answers: 0, or that of a refusal, here with its values
  * in answer[0] to answer[2]. 13 is answered by none: pw_list_text prints it. */
@@ -77,7 +89,8 @@
 #define PW_UNFIT 7
 /* not an address, 0 to 65,535: the number */
 #define PW_NO_ADDRESS 8
-/* a short offset is not -128 to 127: the offset */
+/* a short offset is not -128 to 127: the offset, in wrapping mode the wrapped
+ * one, -32,768 to 32,767 */
 #define PW_TOO_FAR 9
 /* the top four bits differ: the base's, the address's */
 #define PW_OTHER_PAGE 10
@@ -98,6 +111,10 @@
  * round, or an update at a position that is not traced: the position, or the
  * stretch's start */
 #define PW_OUTSIDE 17
+
+/* The mode of calls that use a target. */
+#define PW_UNWRAPPED 0
+#define PW_WRAPPING 1
 
 /* Marks. */
 #define PW_UNTOUCHED 0
@@ -164,22 +181,29 @@ uint32_t pw_encode(uint8_t first, int32_t a, int32_t b, int32_t c,
                    uint8_t *out, size_t n, int64_t answer[5]);
 
 /* The fields of an instruction whose operands are plain numbers: addresses for
- * jumps, calls and branches. base is the address after the instruction.
- * 0: form, size in bytes, and the three fields, as pw_encode takes them.
- * 14 first, then the operands in the order shown: 7, 8, 9, 10.
+ * jumps, calls and branches. base is the address after the instruction. The
+ * offset of a short branch is the address less base; in wrapping mode that is
+ * brought to -32,768 to 32,767 modulo 65,536 before it is judged: a `br` to 5
+ * at base 65,534 has the offset 7.
+ * 0: form, size in bytes, and the three fields, as pw_encode takes them. What
+ *    is taken unwrapped is answered alike in wrapping mode.
+ * 14 first, for base as it is given, then the operands in the order shown: 7,
+ * 8, 9, 10. An address is wrapped in neither mode.
  */
-uint32_t pw_resolve(uint8_t first, int32_t a, int32_t b, int32_t c,
-                    uint32_t base, int64_t answer[5]);
+uint32_t pw_resolve(uint32_t mode, uint8_t first, int32_t a, int32_t b,
+                    int32_t c, uint32_t base, int64_t answer[5]);
 
 /* The positions to which control may go from an instruction at a position.
  * Operands are fields, as pw_encode takes them.
  * 0: how many (0 to 2), then the targets, 0 where there is none: where a jump,
  *    branch or call leads, then the position after the instruction, if control
- *    can go there. A short branch may lead below 0 or above 65,535.
- * 14 with the position after the instruction, then 7.
+ *    can go there. Unwrapped, a short branch may lead below 0 or above 65,535,
+ *    and the position after the instruction may be 65,536. Wrapping, each of
+ *    them is 0 to 65,535.
+ * 14 with the position after the instruction, unwrapped in both modes; then 7.
  */
-uint32_t pw_targets(uint32_t position, uint8_t first, int32_t a, int32_t b,
-                    int32_t c, int64_t answer[5]);
+uint32_t pw_targets(uint32_t mode, uint32_t position, uint8_t first, int32_t a,
+                    int32_t b, int32_t c, int64_t answer[5]);
 
 /* Clears the marks of the image and sets 1 at the entries inside it. Repeated
  * entries count once.
@@ -198,7 +222,7 @@ uint32_t pw_start(const uint8_t *image, size_t image_length,
  * `jmpf` after B8 0D), 6 at the targets in their order: the marks stay as they
  * were.
  */
-uint32_t pw_step(const uint8_t *image, size_t image_length,
+uint32_t pw_step(uint32_t mode, const uint8_t *image, size_t image_length,
                  uint8_t *marks, size_t marks_length,
                  uint32_t position, int64_t answer[5]);
 
@@ -211,7 +235,7 @@ uint32_t pw_step(const uint8_t *image, size_t image_length,
  * 1, 2, 3: marks and order list stay as they were. 5: what was written before
  * the cut-off instruction was met remains.
  */
-uint32_t pw_run(const uint8_t *image, size_t image_length,
+uint32_t pw_run(uint32_t mode, const uint8_t *image, size_t image_length,
                 uint8_t *marks, size_t marks_length,
                 uint32_t *order, size_t order_length,
                 const uint32_t *entries, size_t entries_length,
@@ -225,14 +249,15 @@ uint32_t pw_run(const uint8_t *image, size_t image_length,
  * 0: the number of sweeps, that last one counted, and the number of steps (as
  *    many positions have the mark 2 or 3). A position left waiting is cut off.
  *    In an image without B8 0D 21 in succession the marks are those of pw_run
- *    where that finishes, and a position is left waiting exactly where pw_run
- *    with a limit of at least the image's length answers 5. In other images the
- *    marks may be others than a run's, since the order is another.
+ *    in the same mode where that finishes, and a position is left waiting
+ *    exactly where pw_run with a limit of at least the image's length answers
+ *    5. In other images the marks may be others than a run's, since the order
+ *    is another.
  * 1, then 2: the marks stay as they were.
  * There is at most one sweep more than the image has bytes. Each goes through
  * the whole image: where many branches lead backwards, this takes long.
  */
-uint32_t pw_sweep(const uint8_t *image, size_t image_length,
+uint32_t pw_sweep(uint32_t mode, const uint8_t *image, size_t image_length,
                   uint8_t *marks, size_t marks_length,
                   const uint32_t *entries, size_t entries_length,
                   int64_t answer[5]);
@@ -251,7 +276,8 @@ uint32_t pw_mask(const uint8_t *image, size_t image_length,
  * 0: the number of bytes written, which is the image's length.
  * 1, 2, 6, 11.
  */
-uint32_t pw_target_marks(const uint8_t *image, size_t image_length,
+uint32_t pw_target_marks(uint32_t mode,
+                         const uint8_t *image, size_t image_length,
                          const uint8_t *marks, size_t marks_length,
                          uint8_t *room, size_t room_length,
                          int64_t answer[5]);
@@ -268,12 +294,12 @@ uint32_t pw_overlaps(const uint8_t *image, size_t image_length,
                      int64_t answer[5]);
 
 /* Arrivals at a position, upward: the traced positions that had it among their
- * targets when they were taken up, of which those with the mark 3 had none.
- * None at a position outside the image.
+ * targets in this mode when they were taken up, of which those with the mark 3
+ * had none. None at a position outside the image.
  * 0: the number of positions written.
  * 1, 2, 6, 11.
  */
-uint32_t pw_arrivals(const uint8_t *image, size_t image_length,
+uint32_t pw_arrivals(uint32_t mode, const uint8_t *image, size_t image_length,
                      const uint8_t *marks, size_t marks_length,
                      uint32_t position, uint32_t *room, size_t room_length,
                      int64_t answer[5]);
@@ -290,8 +316,9 @@ uint32_t pw_data_run(const uint8_t *image, size_t image_length,
 /* The listing, as text: upward by position, fields parted by tabs, each line
  * ended by byte 10. At a traced position: `L` if a traced jump, branch or call
  * names it, `O` with its overlaps, `A` with its arrivals, then `I` with its
- * bytes, mnemonic and operands. Bytes that no traced instruction has stand in
- * `D` lines of up to 16, left out where all are 0.
+ * bytes, mnemonic and operands, a `?` for a target that is not 0 to 65,535,
+ * which no target is in wrapping mode. Bytes that no traced instruction has
+ * stand in `D` lines of up to 16, left out where all are 0.
  * arrivals: 0 leaves the `A` lines out, any other number shows them. (The
  * library's own call that takes no choice shows them; here one is always made.)
  * A room of 60 bytes for each byte of the image holds every listing without
@@ -300,7 +327,7 @@ uint32_t pw_data_run(const uint8_t *image, size_t image_length,
  * 0: the number of bytes written. No byte 0 follows them.
  * 1, 2, 6, 11. A room of 0 bytes serves to ask how many are needed.
  */
-uint32_t pw_listing(const uint8_t *image, size_t image_length,
+uint32_t pw_listing(uint32_t mode, const uint8_t *image, size_t image_length,
                     const uint8_t *marks, size_t marks_length,
                     uint32_t arrivals, uint8_t *room, size_t room_length,
                     int64_t answer[5]);
@@ -309,9 +336,10 @@ uint32_t pw_listing(const uint8_t *image, size_t image_length,
  * 256 entries, four hex digits each, parted by tabs; each further line has 1 to
  * 32 bytes of the image, two hex digits each, and all of them up to 16,384.
  * Digits are upper case. Each line ends with byte 10, which the last may lack.
- * Printed is the listing with arrivals declined; or one line of `R`, a tab and
- * 13 where the text is not of this kind, or 5 where an instruction is cut off,
- * and then a tab and how many of its bytes are missing, 1 or 2.
+ * Printed is the listing in unwrapped mode with arrivals declined; or one line
+ * of `R`, a tab and 13 where the text is not of this kind, or 5 where an
+ * instruction is cut off, and then a tab and how many of its bytes are missing,
+ * 1 or 2.
  * 0: the number of bytes written, also where they are an `R` line.
  * 11, and no other.
  */
@@ -321,20 +349,20 @@ uint32_t pw_list_text(const uint8_t *text, size_t text_length,
 /* Reads a listing back: puts the bytes of an image of `length` to the beginning
  * of image, and their marks to the beginning of marks. Where nothing is listed
  * the byte is 0; the mark is 2 where an `I` line stands and 0 elsewhere. The
- * rest of both stays as it was. What pw_listing wrote, with or without `A`
- * lines, gives the same image back, and the same marks but for 1, which becomes
- * 0, and 3, which becomes 2.
+ * rest of both stays as it was. What pw_listing wrote in the same mode, with or
+ * without `A` lines, gives the same image back, and the same marks but for 1,
+ * which becomes 0, and 3, which becomes 2.
  * Positions may not fall. At one position stand `L`, `O`, `A`, `I` in this
  * order, each at most once, or one `D` of 1 to 16 bytes alone. An `I` line is
- * the one that pw_listing writes for its bytes at its position; of `L`, `O` and
- * `A` only the form counts. Bytes that contradict an earlier line make theirs
- * malformed. The last line may lack its byte 10.
+ * the one that pw_listing writes in this mode for its bytes at its position; of
+ * `L`, `O` and `A` only the form counts. Bytes that contradict an earlier line
+ * make theirs malformed. The last line may lack its byte 10.
  * 0: the number of lines read.
  * 1 with `length`, 2, 11 with `length`; then the first bad line, 15 before 16.
  * On any of these image and marks stay as they were.
  */
-uint32_t pw_read_back(const uint8_t *text, size_t text_length, uint32_t length,
-                      uint8_t *image, size_t image_length,
+uint32_t pw_read_back(uint32_t mode, const uint8_t *text, size_t text_length,
+                      uint32_t length, uint8_t *image, size_t image_length,
                       uint8_t *marks, size_t marks_length, int64_t answer[5]);
 
 /* The packed map, built from the marks into the beginning of words. Bits past

@@ -8,10 +8,10 @@ use crate::plain::listing::Lister;
 use crate::plain::sweep::Sweeper;
 use crate::plain::trace::{Ended, TRACED, Tracer, is_traced};
 use crate::plain::{maps, views};
-use crate::rows::LONGEST_LISTING;
+use crate::rows::{LONGEST_LISTING, MODE};
 use compare::answer::Answer;
 use compare::original::{self, listed, viewed};
-use compare::paper::map;
+use compare::paper::{Mode, listing as paper, map, tracer};
 use waterbear::disasm::probe;
 
 /// What a byte of a listing is changed to.
@@ -30,6 +30,7 @@ pub fn check(cases: &[Case]) -> Result<(), &'static str> {
         listing(case, true)?;
         reading_back(case)?;
         mapping(case)?;
+        wrapping(case)?;
     }
     Ok(())
 }
@@ -67,7 +68,8 @@ pub fn running(case: &Case) -> Result<(), &'static str> {
     let length = case.image.len();
     let (mut marks, mut order) = (vec![9; length], vec![9; length]);
     let entries = &case.entries;
-    let answer = ours::run(&case.image, &mut marks, &mut order, entries, u32::MAX);
+    let image = &case.image;
+    let answer = ours::run(MODE, image, &mut marks, &mut order, entries, u32::MAX);
     let noted = case.order.len();
     let finished = Answer::new(Answer::DONE, &[1, noted as i64, noted as i64]);
     same(answer == finished, "the answer of run")?;
@@ -103,7 +105,7 @@ fn running_into_the_end(case: &Case) -> Result<(), &'static str> {
 /// Ours and the plain side: the answer, the marks, and the positions noted.
 fn running_from(image: &[u8], entries: &[u32]) -> Result<(), &'static str> {
     let (mut marks, mut order) = (vec![9; image.len()], vec![9; image.len()]);
-    let answer = ours::run(image, &mut marks, &mut order, entries, u32::MAX);
+    let answer = ours::run(MODE, image, &mut marks, &mut order, entries, u32::MAX);
     let mut tracer = Tracer::default();
     let ended = tracer.run(image, entries, image.len());
     order.truncate(tracer.order.len());
@@ -128,7 +130,7 @@ pub fn sweeping_alone(image: &[u8]) -> Result<usize, &'static str> {
 /// Ours and the plain side: the answer and the marks.
 fn sweeping_from(image: &[u8], entries: &[u32]) -> Result<usize, &'static str> {
     let mut marks = vec![9; image.len()];
-    let answer = ours::sweep(image, &mut marks, entries);
+    let answer = ours::sweep(MODE, image, &mut marks, entries);
     let mut sweeper = Sweeper::default();
     let sweeps = sweeper.sweep(image, entries);
     let plain = Answer::new(Answer::DONE, &[sweeps as i64, sweeper.steps as i64]);
@@ -161,7 +163,7 @@ fn viewing(case: &Case) -> Result<(), &'static str> {
     views::mask(image, marks, &mut plain);
     let theirs = viewed::mask(&case.graph, image);
     same(room == theirs && plain == theirs, "mask")?;
-    ours::target_marks(image, marks, &mut room);
+    ours::target_marks(MODE, image, marks, &mut room);
     views::target_marks(image, marks, &mut plain);
     let theirs = viewed::target_marks(&case.graph, image);
     same(room == theirs && plain == theirs, "target marks")
@@ -245,7 +247,7 @@ type Back = (Answer, Vec<u8>, Vec<u8>);
 
 fn ours_back(text: &[u8], length: usize) -> Back {
     let (mut image, mut marks) = (vec![9; length], vec![9; length]);
-    let answer = ours::read_back(text, length as u32, &mut image, &mut marks);
+    let answer = ours::read_back(MODE, text, length as u32, &mut image, &mut marks);
     (answer, image, marks)
 }
 
@@ -263,11 +265,34 @@ fn plain_back(text: &[u8], length: usize) -> Back {
 fn listing(case: &Case, arrivals: bool) -> Result<(), &'static str> {
     let mut room = vec![9; LONGEST_LISTING];
     let choice = u32::from(arrivals);
-    let answer = ours::listing(&case.image, &case.marks, choice, &mut room);
+    let answer = ours::listing(MODE, &case.image, &case.marks, choice, &mut room);
     let ours = &room[..answer.values[0] as usize];
     let mut plain = Lister::default();
     plain.list(&case.image, &case.marks, arrivals);
     let theirs = listed::text(&case.entries, &case.image, arrivals);
     same(plain.text == theirs.as_bytes(), "the plain listing")?;
     same(ours == theirs.as_bytes(), "listing")
+}
+
+/// In wrapping mode, which neither of the other sides has: by the plain side of the comparison.
+fn wrapping(case: &Case) -> Result<(), &'static str> {
+    let (mode, image, entries) = (Mode::Wrapping, &case.image, &case.entries);
+    let (mut marks, mut order) = (vec![9; image.len()], vec![9; image.len()]);
+    let (mut plain_marks, mut plain_order) = (marks.clone(), order.clone());
+    let answer = ours::run(mode, image, &mut marks, &mut order, entries, u32::MAX);
+    let plain = tracer::run(
+        mode,
+        image,
+        &mut plain_marks,
+        &mut plain_order,
+        entries,
+        u32::MAX,
+    );
+    let ran = (answer, marks, order) == (plain, plain_marks, plain_order);
+    same(ran, "run, wrapping")?;
+    let mut room = vec![9; LONGEST_LISTING];
+    let answer = ours::listing(mode, image, &case.marks, 0, &mut room);
+    let plain = paper::listing(mode, image, &case.marks, paper::Arrivals::Declined);
+    let ours = &room[..answer.values[0] as usize];
+    same(ours == plain.as_bytes(), "listing, wrapping")
 }

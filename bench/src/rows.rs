@@ -9,10 +9,15 @@ use crate::plain::listing::Lister;
 use crate::plain::sweep::Sweeper;
 use crate::plain::trace::Tracer;
 use crate::plain::{maps, views};
+use compare::answer::Answer;
+use compare::paper::Mode;
 use std::hint::black_box;
 use std::io::Write;
 use waterbear::disasm::{self, probe};
 use waterbear::instruction::Instr;
+
+/// The original's mode: all rows are in it that do not say otherwise.
+pub const MODE: Mode = Mode::Unwrapped;
 
 /// More than the longest listing of an image of 65,536 bytes.
 pub const LONGEST_LISTING: usize = 1 << 23;
@@ -39,9 +44,12 @@ pub enum Row {
     MapCount,
     /// The first data byte from 0 on, in the same way, of images whose data comes late.
     MapFirstData,
+    /// The same as above in wrapping mode, which ours alone has.
+    RunWrapping,
+    ListingWrapping,
 }
 
-pub const ROWS: [(Row, &str); 14] = [
+pub const ROWS: [(Row, &str); 16] = [
     (Row::Decode, "decode at every position"),
     (Row::Run, "run"),
     (Row::Sweep, "sweep"),
@@ -56,6 +64,8 @@ pub const ROWS: [(Row, &str); 14] = [
     (Row::MapBuild, "map build"),
     (Row::MapCount, "map count"),
     (Row::MapFirstData, "map first data"),
+    (Row::RunWrapping, "run, wrapping"),
+    (Row::ListingWrapping, "listing, wrapping"),
 ];
 
 /// The times for each group of cases.
@@ -79,6 +89,8 @@ pub fn sides(row: Row) -> Sides<'static, Case> {
         Row::MapBuild => mapping(),
         Row::MapCount => counting(),
         Row::MapFirstData => finding_data(),
+        Row::RunWrapping => running_wrapping(),
+        Row::ListingWrapping => listing_wrapping(),
     }
 }
 
@@ -107,7 +119,7 @@ pub fn running() -> Sides<'static, Case> {
     let mut tracer = Tracer::default();
     [
         Some(Box::new(move |case| {
-            black_box(run(case, &mut marks, &mut order));
+            black_box(run(MODE, case, &mut marks, &mut order));
         })),
         Some(Box::new(|case| {
             let graph = probe::trace_without_limit(&case.wide_entries(), &case.image);
@@ -125,7 +137,8 @@ pub fn running_alone() -> Sides<'static, Vec<u8>> {
     let mut tracer = Tracer::default();
     [
         Some(Box::new(move |image| {
-            black_box(ours::run(image, &mut marks, &mut order, &[0], u32::MAX));
+            let ran = ours::run(MODE, image, &mut marks, &mut order, &[0], u32::MAX);
+            black_box(ran);
         })),
         None,
         Some(Box::new(move |image| {
@@ -140,7 +153,7 @@ fn sweeping() -> Sides<'static, Case> {
     let mut sweeper = Sweeper::default();
     [
         Some(Box::new(move |case| {
-            black_box(ours::sweep(&case.image, &mut marks, &case.entries));
+            black_box(ours::sweep(MODE, &case.image, &mut marks, &case.entries));
         })),
         None,
         Some(Box::new(move |case| {
@@ -155,7 +168,7 @@ pub fn sweeping_alone() -> Sides<'static, Vec<u8>> {
     let mut sweeper = Sweeper::default();
     [
         Some(Box::new(move |image| {
-            black_box(ours::sweep(image, &mut marks, &[0]));
+            black_box(ours::sweep(MODE, image, &mut marks, &[0]));
         })),
         None,
         Some(Box::new(move |image| {
@@ -164,9 +177,27 @@ pub fn sweeping_alone() -> Sides<'static, Vec<u8>> {
     ]
 }
 
-fn run(case: &Case, marks: &mut [u8], order: &mut [u32]) -> compare::answer::Answer {
+fn run(mode: Mode, case: &Case, marks: &mut [u8], order: &mut [u32]) -> Answer {
     let (image, entries) = (&case.image, &case.entries);
-    ours::run(image, marks, order, entries, image.len() as u32)
+    ours::run(mode, image, marks, order, entries, image.len() as u32)
+}
+
+fn running_wrapping() -> Sides<'static, Case> {
+    let (mut marks, mut order) = (vec![0; 65_536], vec![0; 65_536]);
+    let ours = move |case: &Case| {
+        black_box(run(Mode::Wrapping, case, &mut marks, &mut order));
+    };
+    [Some(Box::new(ours)), None, None]
+}
+
+/// Of the same marks as the other listings.
+fn listing_wrapping() -> Sides<'static, Case> {
+    let mut room = vec![0; LONGEST_LISTING];
+    let ours = move |case: &Case| {
+        let (image, marks) = (&case.image, &case.marks);
+        black_box(ours::listing(Mode::Wrapping, image, marks, 0, &mut room));
+    };
+    [Some(Box::new(ours)), None, None]
 }
 
 fn masking() -> Sides<'static, Case> {
@@ -191,7 +222,8 @@ fn marking() -> Sides<'static, Case> {
     let mut labels = vec![];
     [
         Some(Box::new(move |case| {
-            black_box(ours::target_marks(&case.image, &case.marks, &mut room));
+            let answer = ours::target_marks(MODE, &case.image, &case.marks, &mut room);
+            black_box(answer);
         })),
         Some(Box::new(|case| {
             black_box(case.graph.count_labels());
@@ -251,7 +283,8 @@ fn listing(arrivals: bool) -> Sides<'static, Case> {
     let choice = u32::from(arrivals);
     [
         Some(Box::new(move |case| {
-            black_box(ours::listing(&case.image, &case.marks, choice, &mut room));
+            let answer = ours::listing(MODE, &case.image, &case.marks, choice, &mut room);
+            black_box(answer);
         })),
         None,
         Some(Box::new(move |case| {
@@ -268,8 +301,8 @@ fn whole() -> Sides<'static, Case> {
     let mut text = vec![];
     [
         Some(Box::new(move |case| {
-            run(case, &mut marks, &mut order);
-            black_box(ours::listing(&case.image, &marks, 0, &mut room));
+            run(MODE, case, &mut marks, &mut order);
+            black_box(ours::listing(MODE, &case.image, &marks, 0, &mut room));
         })),
         Some(Box::new(move |case| {
             text.clear();
@@ -292,7 +325,8 @@ fn reading_back() -> Sides<'static, Case> {
     [
         Some(Box::new(move |case| {
             let length = case.image.len() as u32;
-            let answer = ours::read_back(&case.listing, length, &mut image, &mut marks);
+            let text = &case.listing;
+            let answer = ours::read_back(MODE, text, length, &mut image, &mut marks);
             black_box((answer, &image, &marks));
         })),
         None,

@@ -1,7 +1,7 @@
 //! Listings changed by chance, as a hand or a bad copy would: most are bad then, some are still good.
 
 use crate::edits;
-use compare::paper::{flow, listing};
+use compare::paper::{Mode, flow, listing};
 use compare::random::Random;
 
 /// Bytes that matter in a listing, right ones and wrong ones.
@@ -9,8 +9,8 @@ const TELLING: &[u8] = b"0123456789ABCDEFLOAID#@R?acdefilo\t\t\n\n\r \0\0\x7F\xF
 /// The highest position.
 const HIGHEST: usize = 65_535;
 
-/// The text with a change, seldom with two or three.
-pub fn text(random: &mut Random, image: &[u8], text: &[u8]) -> Vec<u8> {
+/// The text with a change, seldom with two or three. What is put in is listed in this mode.
+pub fn text(mode: Mode, random: &mut Random, image: &[u8], text: &[u8]) -> Vec<u8> {
     let mut text = text.to_vec();
     for _ in 0..random.pick(&[1, 1, 1, 1, 2, 3]) {
         match random.below(16) {
@@ -25,7 +25,7 @@ pub fn text(random: &mut Random, image: &[u8], text: &[u8]) -> Vec<u8> {
                 text.pop();
             }
             10..14 => edits::lines(random, &mut text),
-            _ => put_in(random, image, &mut text),
+            _ => put_in(mode, random, image, &mut text),
         }
     }
     text
@@ -40,8 +40,8 @@ fn letter(random: &mut Random, text: &mut [u8]) {
 }
 
 /// A line more, in its order or anywhere.
-fn put_in(random: &mut Random, image: &[u8], text: &mut Vec<u8>) {
-    let (at, line) = made(random, image);
+fn put_in(mode: Mode, random: &mut Random, image: &[u8], text: &mut Vec<u8>) {
+    let (at, line) = made(mode, random, image);
     let mut lines = edits::split(text);
     let before = |known: &&[u8]| position(known).is_some_and(|known| known < at);
     let index = match random.below(8) {
@@ -63,7 +63,7 @@ fn position(line: &[u8]) -> Option<usize> {
 }
 
 /// A line of any letter and its position, which may lie at the image's end, at memory's or past them.
-fn made(random: &mut Random, image: &[u8]) -> (usize, Vec<u8>) {
+fn made(mode: Mode, random: &mut Random, image: &[u8]) -> (usize, Vec<u8>) {
     let length = image.len();
     let at = match random.below(8) {
         0..5 => random.below(length as u64 + 1) as usize,
@@ -90,7 +90,7 @@ fn made(random: &mut Random, image: &[u8]) -> (usize, Vec<u8>) {
         _ => {
             let bytes = bytes(random, image, at, 3);
             let whole = &bytes[..flow::size(bytes[0])];
-            listing::instruction_line(&[&vec![0; at], whole].concat(), at)
+            listing::instruction_line(mode, whole, at)
         }
     };
     (at, line.into_bytes())

@@ -1,5 +1,6 @@
 //! The listing. Where the original traced an image to its end, it is held byte for byte against what the
-//! original lists, put into document 01's words. On marks of any content document 01 judges alone.
+//! original lists, put into document 01's words. On marks of any content document 01 judges alone, and in
+//! wrapping mode document 02.
 
 use crate::back;
 use crate::lent::Lent;
@@ -10,10 +11,12 @@ use crate::views::{self, Outcome};
 use compare::answer::Answer;
 use compare::original::listed;
 use compare::paper::listing::{self as paper, Arrivals};
+use compare::paper::{Mode, views as plain};
 use compare::random::Random;
 
 /// What a listing is asked for.
 struct Given<'a> {
+    mode: Mode,
     image: &'a [u8],
     marks: &'a [u8],
     arrivals: Arrivals,
@@ -38,6 +41,7 @@ pub fn of_trace(
     ];
     for (arrivals, told) in both {
         let given = Given {
+            mode: Mode::Unwrapped,
             image,
             marks,
             arrivals,
@@ -46,8 +50,22 @@ pub fn of_trace(
     }
 }
 
-pub fn of_marks(tally: &mut Tally, random: &mut Random, image: &[u8], marks: &[u8]) {
+/// In wrapping mode, of a whole trace: without arrivals and with them.
+pub fn wrapping(tally: &mut Tally, random: &mut Random, image: &[u8], marks: &[u8]) {
+    for arrivals in [Arrivals::Declined, Arrivals::Chosen] {
+        let given = Given {
+            mode: Mode::Wrapping,
+            image,
+            marks,
+            arrivals,
+        };
+        given.listing(tally, random, None);
+    }
+}
+
+pub fn of_marks(mode: Mode, tally: &mut Tally, random: &mut Random, image: &[u8], marks: &[u8]) {
     let given = Given {
+        mode,
         image,
         marks,
         arrivals: random.pick(&[Arrivals::Declined, Arrivals::Chosen]),
@@ -65,8 +83,7 @@ impl Given<'_> {
             Arrivals::Chosen => random.pick(&[1, 2, 256, u32::MAX]),
             Arrivals::Declined => 0,
         };
-        let (image, marks) = (self.image, self.marks);
-        let ours = views::outcome(&room, |room| ours::listing(image, marks, choice, room));
+        let ours = self.ours(self.mode, choice, &room);
         let told = told.map(|text| views::shows(&room, text.as_bytes()));
         let judge = match &told {
             Some(told) if expected.0.done() => {
@@ -76,7 +93,10 @@ impl Given<'_> {
                 count(tally, &expected);
                 Judge::Original
             }
-            _ => Judge::Document,
+            _ => match self.mode {
+                Mode::Unwrapped => Judge::Document,
+                Mode::Wrapping => self.against_unwrapped(tally, choice, &room, &ours),
+            },
         };
         let number = expected.0.number;
         let what = (Call::Listing, judge);
@@ -84,12 +104,37 @@ impl Given<'_> {
         tally.judge(what, None, (number, &expected), &ours, input);
         if expected.0.done() {
             let text = &expected.1.part()[..expected.0.values[0] as usize];
-            back::of_listing(tally, random, image, marks, text);
+            back::of_listing(self.mode, tally, random, self.image, self.marks, text);
         }
     }
 
+    /// Where nothing that is traced leaves memory both modes list the same, and where the marks are refused.
+    fn against_unwrapped(
+        &self,
+        tally: &mut Tally,
+        choice: u32,
+        room: &Lent<u8>,
+        ours: &Outcome<u8>,
+    ) -> Judge {
+        let unwrapped = self.ours(Mode::Unwrapped, choice, room);
+        let number = unwrapped.0.number;
+        let listed = unwrapped.0.done() || number == Answer::NO_ROOM;
+        if !listed || plain::stays(self.image, self.marks) {
+            let what = (Call::ModesAlike, Judge::Wrapping);
+            let input = || self.differ(&unwrapped, ours);
+            tally.judge(what, None, (number, &unwrapped), ours, input);
+        }
+        tally.wrapping.listings += u64::from(unwrapped != *ours);
+        Judge::Wrapping
+    }
+
+    fn ours(&self, mode: Mode, choice: u32, room: &Lent<u8>) -> Outcome<u8> {
+        let (image, marks) = (self.image, self.marks);
+        views::outcome(room, |room| ours::listing(mode, image, marks, choice, room))
+    }
+
     fn paper(&self, room: &mut [u8]) -> Answer {
-        paper::shown(self.image, self.marks, self.arrivals, room)
+        paper::shown(self.mode, self.image, self.marks, self.arrivals, room)
     }
 
     /// The bytes of the listing, 0 if there is none.
@@ -122,8 +167,8 @@ impl Given<'_> {
             Arrivals::Chosen => "with arrivals",
             Arrivals::Declined => "without arrivals",
         };
-        let image = shown(self.image);
-        format!("listing {arrivals} of {image} marks {marks:?}: {one:?}, not {other:?}")
+        let (mode, image) = (self.mode, shown(self.image));
+        format!("{mode:?} listing {arrivals} of {image} marks {marks:?}: {one:?}, not {other:?}")
     }
 }
 

@@ -13,6 +13,7 @@ mod maps;
 mod ours;
 mod program;
 mod resolve;
+mod rings;
 mod room;
 mod run;
 mod steps;
@@ -22,6 +23,7 @@ mod targets;
 mod texts;
 mod traces;
 mod views;
+mod wrapping;
 
 use compare::paper;
 use compare::random::Random;
@@ -52,6 +54,7 @@ fn main() -> ExitCode {
     maps::compare(&mut tally, &mut random);
     list_text::compare(&mut tally, &mut random);
     sweeps::compare(&mut tally, &mut random);
+    wrapping::compare(&mut tally, &mut random);
     match tally.report() {
         true => ExitCode::SUCCESS,
         false => ExitCode::FAILURE,

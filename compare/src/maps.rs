@@ -12,7 +12,7 @@ use crate::views::{self, Outcome};
 use compare::images::{self, KINDS};
 use compare::original::{traced, viewed};
 use compare::paper::map::{self as paper, Query};
-use compare::paper::{tracer, views as mask};
+use compare::paper::{Mode, tracer, views as mask};
 use compare::random::Random;
 
 /// The lengths of images around a word's border and around each limit, and how many there are of one.
@@ -30,6 +30,8 @@ const WALKS: u64 = 1_200;
 const UPDATES: u64 = 4;
 /// Visits after which the original is given up in a walk.
 const ENOUGH: u64 = 4_000;
+/// The marks are made in the original's mode. A map uses no target.
+const MODE: Mode = Mode::Unwrapped;
 /// A Ret, and a Nop, which goes on.
 const RET: u8 = 0xA0;
 const NOP: u8 = 0x00;
@@ -73,7 +75,7 @@ struct Given<'a> {
 
 fn marks_after(image: &[u8], entries: &[u32], limit: u32) -> (Vec<u8>, Vec<u32>) {
     let (mut marks, mut order) = (vec![0; image.len()], vec![0; image.len()]);
-    tracer::run(image, &mut marks, &mut order, entries, limit);
+    tracer::run(MODE, image, &mut marks, &mut order, entries, limit);
     (marks, order)
 }
 
@@ -122,7 +124,7 @@ fn of_step(tally: &mut Tally, random: &mut Random, image: &[u8]) {
         .find(|at| marks.get(*at as usize) == Some(&1));
     let Some(position) = waiting else { return };
     let words = built(random, image, &marks);
-    if tracer::step(image, &mut marks, position).done() {
+    if tracer::step(MODE, image, &mut marks, position).done() {
         kept_up(tally, image, &marks, &words, position);
     }
 }
@@ -288,7 +290,7 @@ fn walk(tally: &mut Tally, random: &mut Random) {
             told: None,
         };
         given.update(tally, &words, position);
-        tracer::step(&image, &mut marks, position);
+        tracer::step(MODE, &image, &mut marks, position);
         words = kept_up(tally, &image, &marks, &words, position);
         ours::map_update(&image, &marks, ours.lend(), position);
     }

@@ -1,6 +1,8 @@
 //! Our calls, as the archive's C face has them.
 
 use compare::answer::Answer;
+use compare::paper::Mode;
+use std::sync::atomic::{AtomicUsize, Ordering};
 
 #[link(name = "pottagewing", kind = "static")]
 unsafe extern "C" {
@@ -14,8 +16,24 @@ unsafe extern "C" {
         n: usize,
         answer: *mut [i64; 5],
     ) -> u32;
-    fn pw_resolve(first: u8, a: i32, b: i32, c: i32, base: u32, answer: *mut [i64; 5]) -> u32;
-    fn pw_targets(position: u32, first: u8, a: i32, b: i32, c: i32, answer: *mut [i64; 5]) -> u32;
+    fn pw_resolve(
+        mode: u32,
+        first: u8,
+        a: i32,
+        b: i32,
+        c: i32,
+        base: u32,
+        answer: *mut [i64; 5],
+    ) -> u32;
+    fn pw_targets(
+        mode: u32,
+        position: u32,
+        first: u8,
+        a: i32,
+        b: i32,
+        c: i32,
+        answer: *mut [i64; 5],
+    ) -> u32;
     fn pw_start(
         image: *const u8,
         image_length: usize,
@@ -26,6 +44,7 @@ unsafe extern "C" {
         answer: *mut [i64; 5],
     ) -> u32;
     fn pw_step(
+        mode: u32,
         image: *const u8,
         image_length: usize,
         marks: *mut u8,
@@ -34,6 +53,7 @@ unsafe extern "C" {
         answer: *mut [i64; 5],
     ) -> u32;
     fn pw_run(
+        mode: u32,
         image: *const u8,
         image_length: usize,
         marks: *mut u8,
@@ -46,6 +66,7 @@ unsafe extern "C" {
         answer: *mut [i64; 5],
     ) -> u32;
     fn pw_sweep(
+        mode: u32,
         image: *const u8,
         image_length: usize,
         marks: *mut u8,
@@ -64,6 +85,7 @@ unsafe extern "C" {
         answer: *mut [i64; 5],
     ) -> u32;
     fn pw_target_marks(
+        mode: u32,
         image: *const u8,
         image_length: usize,
         marks: *const u8,
@@ -83,6 +105,7 @@ unsafe extern "C" {
         answer: *mut [i64; 5],
     ) -> u32;
     fn pw_arrivals(
+        mode: u32,
         image: *const u8,
         image_length: usize,
         marks: *const u8,
@@ -101,6 +124,7 @@ unsafe extern "C" {
         answer: *mut [i64; 5],
     ) -> u32;
     fn pw_listing(
+        mode: u32,
         image: *const u8,
         image_length: usize,
         marks: *const u8,
@@ -118,6 +142,7 @@ unsafe extern "C" {
         answer: *mut [i64; 5],
     ) -> u32;
     fn pw_read_back(
+        mode: u32,
         text: *const u8,
         text_length: usize,
         length: u32,
@@ -179,14 +204,14 @@ pub fn encode(first: u8, fields: [i32; 3], room: &mut [u8]) -> Answer {
     answered(|values| unsafe { pw_encode(first, a, b, c, room.as_mut_ptr(), room.len(), values) })
 }
 
-pub fn resolve(first: u8, operands: [i32; 3], base: u32) -> Answer {
-    let [a, b, c] = operands;
-    answered(|values| unsafe { pw_resolve(first, a, b, c, base, values) })
+pub fn resolve(mode: Mode, first: u8, operands: [i32; 3], base: u32) -> Answer {
+    let (mode, [a, b, c]) = (number(mode), operands);
+    answered(|values| unsafe { pw_resolve(mode, first, a, b, c, base, values) })
 }
 
-pub fn targets(first: u8, fields: [i32; 3], position: u32) -> Answer {
-    let [a, b, c] = fields;
-    answered(|values| unsafe { pw_targets(position, first, a, b, c, values) })
+pub fn targets(mode: Mode, first: u8, fields: [i32; 3], position: u32) -> Answer {
+    let (mode, [a, b, c]) = (number(mode), fields);
+    answered(|values| unsafe { pw_targets(mode, position, first, a, b, c, values) })
 }
 
 pub fn start(image: &[u8], marks: &mut [u8], entries: &[u32]) -> Answer {
@@ -195,12 +220,15 @@ pub fn start(image: &[u8], marks: &mut [u8], entries: &[u32]) -> Answer {
     answered(|values| unsafe { pw_start(image.as_ptr(), image.len(), at, n, list, count, values) })
 }
 
-pub fn step(image: &[u8], marks: &mut [u8], position: u32) -> Answer {
-    let (at, n) = (marks.as_mut_ptr(), marks.len());
-    answered(|values| unsafe { pw_step(image.as_ptr(), image.len(), at, n, position, values) })
+pub fn step(mode: Mode, image: &[u8], marks: &mut [u8], position: u32) -> Answer {
+    let (mode, (at, n)) = (number(mode), (marks.as_mut_ptr(), marks.len()));
+    answered(|values| unsafe {
+        pw_step(mode, image.as_ptr(), image.len(), at, n, position, values)
+    })
 }
 
 pub fn run(
+    mode: Mode,
     image: &[u8],
     marks: &mut [u8],
     order: &mut [u32],
@@ -209,6 +237,7 @@ pub fn run(
 ) -> Answer {
     answered(|values| unsafe {
         pw_run(
+            number(mode),
             image.as_ptr(),
             image.len(),
             marks.as_mut_ptr(),
@@ -223,10 +252,21 @@ pub fn run(
     })
 }
 
-pub fn sweep(image: &[u8], marks: &mut [u8], entries: &[u32]) -> Answer {
-    let (at, n) = (marks.as_mut_ptr(), marks.len());
+pub fn sweep(mode: Mode, image: &[u8], marks: &mut [u8], entries: &[u32]) -> Answer {
+    let (mode, (at, n)) = (number(mode), (marks.as_mut_ptr(), marks.len()));
     let (list, count) = (entries.as_ptr(), entries.len());
-    answered(|values| unsafe { pw_sweep(image.as_ptr(), image.len(), at, n, list, count, values) })
+    answered(|values| unsafe {
+        pw_sweep(
+            mode,
+            image.as_ptr(),
+            image.len(),
+            at,
+            n,
+            list,
+            count,
+            values,
+        )
+    })
 }
 
 pub fn mask(image: &[u8], marks: &[u8], room: &mut [u8]) -> Answer {
@@ -235,11 +275,20 @@ pub fn mask(image: &[u8], marks: &[u8], room: &mut [u8]) -> Answer {
     answered(|values| unsafe { pw_mask(image.as_ptr(), image.len(), table, count, at, n, values) })
 }
 
-pub fn target_marks(image: &[u8], marks: &[u8], room: &mut [u8]) -> Answer {
-    let (at, n) = (room.as_mut_ptr(), room.len());
+pub fn target_marks(mode: Mode, image: &[u8], marks: &[u8], room: &mut [u8]) -> Answer {
+    let (mode, (at, n)) = (number(mode), (room.as_mut_ptr(), room.len()));
     let (table, count) = (marks.as_ptr(), marks.len());
     answered(|values| unsafe {
-        pw_target_marks(image.as_ptr(), image.len(), table, count, at, n, values)
+        pw_target_marks(
+            mode,
+            image.as_ptr(),
+            image.len(),
+            table,
+            count,
+            at,
+            n,
+            values,
+        )
     })
 }
 
@@ -260,11 +309,12 @@ pub fn overlaps(image: &[u8], marks: &[u8], position: u32, room: &mut [u32]) -> 
     })
 }
 
-pub fn arrivals(image: &[u8], marks: &[u8], position: u32, room: &mut [u32]) -> Answer {
+pub fn arrivals(mode: Mode, image: &[u8], marks: &[u8], position: u32, room: &mut [u32]) -> Answer {
     let (at, n) = (room.as_mut_ptr(), room.len());
     let (table, count) = (marks.as_ptr(), marks.len());
     answered(|values| unsafe {
         pw_arrivals(
+            number(mode),
             image.as_ptr(),
             image.len(),
             table,
@@ -283,11 +333,12 @@ pub fn data_run(image: &[u8], mask: &[u8], position: u32) -> Answer {
 }
 
 /// `arrivals` is 0 where they are declined.
-pub fn listing(image: &[u8], marks: &[u8], arrivals: u32, room: &mut [u8]) -> Answer {
+pub fn listing(mode: Mode, image: &[u8], marks: &[u8], arrivals: u32, room: &mut [u8]) -> Answer {
     let (at, n) = (room.as_mut_ptr(), room.len());
     let (table, count) = (marks.as_ptr(), marks.len());
     answered(|values| unsafe {
         pw_listing(
+            number(mode),
             image.as_ptr(),
             image.len(),
             table,
@@ -305,11 +356,18 @@ pub fn list_text(text: &[u8], room: &mut [u8]) -> Answer {
     answered(|values| unsafe { pw_list_text(text.as_ptr(), text.len(), at, n, values) })
 }
 
-pub fn read_back(text: &[u8], length: u32, image: &mut [u8], marks: &mut [u8]) -> Answer {
+pub fn read_back(
+    mode: Mode,
+    text: &[u8],
+    length: u32,
+    image: &mut [u8],
+    marks: &mut [u8],
+) -> Answer {
     let (at, n) = (image.as_mut_ptr(), image.len());
     let (table, count) = (marks.as_mut_ptr(), marks.len());
     answered(|values| unsafe {
         pw_read_back(
+            number(mode),
             text.as_ptr(),
             text.len(),
             length,
@@ -361,6 +419,16 @@ pub fn map_update(image: &[u8], marks: &[u8], words: &mut [u64], position: u32) 
             values,
         )
     })
+}
+
+/// The mode's number. Wrapping is any but 0: some of these take turns.
+fn number(mode: Mode) -> u32 {
+    const WRAPPING: [u32; 4] = [1, 2, 65_536, u32::MAX];
+    static TURN: AtomicUsize = AtomicUsize::new(0);
+    match mode {
+        Mode::Unwrapped => 0,
+        Mode::Wrapping => WRAPPING[TURN.fetch_add(1, Ordering::Relaxed) % WRAPPING.len()],
+    }
 }
 
 /// The values begin as numbers that no answer has, so that one left unwritten is seen.

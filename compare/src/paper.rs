@@ -1,6 +1,6 @@
-//! Document 01's ranges, written out a second time and independently of our proved code. They judge
-//! the calls that have no counterpart in the original, and are themselves held against the original
-//! where there is one.
+//! Document 01's ranges, and document 02's two modes, written out a second time and independently of our
+//! proved code. They judge the calls that have no counterpart in the original, and are themselves held
+//! against the original where there is one.
 
 pub mod back;
 pub mod fields;
@@ -8,12 +8,14 @@ pub mod flow;
 pub mod input;
 pub mod listing;
 pub mod map;
+mod mode;
 pub mod sweep;
 pub mod tracer;
 pub mod views;
 
 use crate::answer::Answer;
 use crate::original;
+pub use mode::Mode;
 use std::ops::RangeInclusive;
 use std::sync::LazyLock;
 
@@ -103,7 +105,17 @@ impl Kind {
         }
     }
 
-    fn refusal(self, index: usize, value: i32, base: i64) -> Option<Answer> {
+    /// The field of an operand that is resolved at a base.
+    fn resolved(self, mode: Mode, number: i64, base: i64) -> i64 {
+        match self {
+            Short => mode.difference(number - base),
+            Wrapping => (number - base + 1).rem_euclid(65_536),
+            Page => number % 4_096,
+            _ => number,
+        }
+    }
+
+    fn refusal(self, mode: Mode, index: usize, value: i32, base: i64) -> Option<Answer> {
         let number = i64::from(value);
         if !self.operands().contains(&value) {
             return Some(match self {
@@ -112,10 +124,11 @@ impl Kind {
             });
         }
         let (base_page, page) = (base / 4_096 % 16, number / 4_096);
+        let offset = self.resolved(mode, number, base);
         match self {
             Page if page != base_page => Some(Answer::new(Answer::OTHER_PAGE, &[base_page, page])),
-            Short if !(-128..=127).contains(&(number - base)) => {
-                Some(Answer::new(Answer::FAR_OFFSET, &[number - base]))
+            Short if !(-128..=127).contains(&offset) => {
+                Some(Answer::new(Answer::FAR_OFFSET, &[offset]))
             }
             _ => None,
         }
@@ -140,12 +153,26 @@ pub fn encode_refusal(form: usize, fields: [i32; 3]) -> Option<Answer> {
     })
 }
 
-pub fn resolve_refusal(form: usize, operands: [i32; 3], base: u32) -> Option<Answer> {
+fn resolve_refusal(mode: Mode, form: usize, operands: [i32; 3], base: u32) -> Option<Answer> {
     if base > HIGHEST_BASE {
         return Some(Answer::new(Answer::BASE_OUTSIDE, &[i64::from(base)]));
     }
     let mut operands = kinds(form).iter().zip(operands).enumerate();
-    operands.find_map(|(index, (kind, value))| kind.refusal(index, value, i64::from(base)))
+    operands.find_map(|(index, (kind, value))| kind.refusal(mode, index, value, i64::from(base)))
+}
+
+/// The answer of resolving.
+pub fn resolve(mode: Mode, first: u8, operands: [i32; 3], base: u32) -> Answer {
+    let form = original::form(first);
+    if let Some(refusal) = resolve_refusal(mode, form, operands, base) {
+        return refusal;
+    }
+    let mut fields = [0; 3];
+    for (index, kind) in kinds(form).iter().enumerate() {
+        let operand = i64::from(operands[index]);
+        fields[index] = kind.resolved(mode, operand, i64::from(base)) as i32;
+    }
+    Answer::instruction(form, flow::size(first), fields)
 }
 
 /// Whether the original can be asked: it has registers 0 to 3 only, and no limit on the base.

@@ -1,14 +1,16 @@
 //! One run, with lent memory of some lengths and some limit. Document 01's run, as this harness has it,
-//! says all that is to be answered and left; what of it can be seen in the original must be as it is there.
+//! says all that is to be answered and left; what of it can be seen in the original must be as it is there. In
+//! wrapping mode, which the original does not have, the plain run judges alone.
 
 use crate::lent::Lent;
 use crate::ours;
 use crate::sweeps;
 use crate::tally::{Call, Judge, Tally};
 use crate::views;
+use crate::wrapping;
 use compare::answer::Answer;
-use compare::original::traced::{self, Told};
-use compare::paper::tracer;
+use compare::original::traced;
+use compare::paper::{Mode, tracer, views as plain};
 use compare::random::Random;
 use compare::seen::Seen;
 
@@ -31,26 +33,22 @@ struct Outcome {
 }
 
 /// A function that runs, ours or document 01's.
-type Run = fn(&[u8], &mut [u8], &mut [u32], &[u32], u32) -> Answer;
+type Run = fn(Mode, &[u8], &mut [u8], &mut [u32], &[u32], u32) -> Answer;
 
 pub fn one(tally: &mut Tally, random: &mut Random, image: &[u8], entries: &[u32]) {
-    let mut given = Given {
-        image,
-        marks: Lent::filled(lent(random, image), random, |mixed| mixed as u8),
-        order: Lent::filled(lent(random, image), random, |mixed| mixed as u32),
-        entries,
-        limit: 0,
-    };
+    let mut given = Given::new(random, image, entries);
     let refused = given.is_refused();
     let told = match refused {
         true => None,
         false => traced::trace(entries, image, visits(image)),
     };
     tally.traces.capped += u64::from(!refused && told.is_none());
-    given.limit = limit(random, image, told.as_ref());
+    let taken = told.as_ref().map_or(0, |told| told.taken.len());
+    given.limit = limit(random, image, taken);
     let known = told.as_ref().map(|told| told.unfollowed.is_some());
-    let mut expected = given.run(tracer::run, known);
-    let ours = given.run(ours::run, known);
+    let mode = Mode::Unwrapped;
+    let mut expected = given.run(tracer::run, mode, known);
+    let ours = given.run(ours::run, mode, known);
     let seen = told.as_ref().map(|told| told.under(given.limit));
     if seen != expected.seen {
         let paper = &expected.seen;
@@ -58,18 +56,42 @@ pub fn one(tally: &mut Tally, random: &mut Random, image: &[u8], entries: &[u32]
     }
     expected.seen = seen;
     count(tally, image, &expected);
-    judge(tally, &given, &expected, &ours);
+    let judge = match expected.seen {
+        Some(_) => Judge::Original,
+        None => Judge::Document,
+    };
+    judge_as(judge, tally, &given, &expected, &ours);
     sweeps::of_trace(tally, random, image, entries, told.as_ref());
+    wrapping::of_trace(tally, random, image, entries);
     if let Some(graph) = told.and_then(|told| told.graph) {
         views::of_trace(tally, random, image, entries, &graph);
     }
 }
 
-fn judge(tally: &mut Tally, given: &Given, expected: &Outcome, ours: &Outcome) {
-    let judge = match expected.seen {
-        Some(_) => Judge::Original,
-        None => Judge::Document,
-    };
+/// In wrapping mode, with a limit around the steps that there are then.
+pub fn wrapping(tally: &mut Tally, random: &mut Random, image: &[u8], entries: &[u32]) {
+    let mut given = Given::new(random, image, entries);
+    given.limit = u32::MAX;
+    let whole = given.run(tracer::run, Mode::Wrapping, None);
+    given.limit = limit(random, image, given.taken(&whole));
+    let expected = given.run(tracer::run, Mode::Wrapping, None);
+    let ours = given.run(ours::run, Mode::Wrapping, None);
+    judge_as(Judge::Wrapping, tally, &given, &expected, &ours);
+    let unwrapped = given.run(ours::run, Mode::Unwrapped, None);
+    if given.is_refused() || plain::stays(image, unwrapped.marks.part()) {
+        judge_alike(tally, &given, &unwrapped, &ours);
+    }
+    tally.wrapping.runs += u64::from(unwrapped.marks != ours.marks);
+}
+
+/// Where nothing that is taken up leaves memory, both modes answer and leave the same.
+fn judge_alike(tally: &mut Tally, given: &Given, unwrapped: &Outcome, ours: &Outcome) {
+    let number = unwrapped.answer.number;
+    let what = (Call::ModesAlike, Judge::Wrapping);
+    tally.judge(what, None, (number, unwrapped), ours, || given.shown());
+}
+
+fn judge_as(judge: Judge, tally: &mut Tally, given: &Given, expected: &Outcome, ours: &Outcome) {
     let number = expected.answer.number;
     let what = (Call::Run, judge);
     tally.judge(what, None, (number, expected), ours, || given.shown());
@@ -90,8 +112,8 @@ pub fn visits(image: &[u8]) -> u64 {
 }
 
 /// Half of the runs have no limit that they meet, the others one around the steps that there are.
-fn limit(random: &mut Random, image: &[u8], told: Option<&Told>) -> u32 {
-    let taken = told.map_or(0, |told| told.taken.len()) as u32;
+fn limit(random: &mut Random, image: &[u8], taken: usize) -> u32 {
+    let taken = taken as u32;
     match random.below(16) {
         0..4 => u32::MAX,
         4..8 => image.len() as u32,
@@ -123,7 +145,26 @@ fn count(tally: &mut Tally, image: &[u8], expected: &Outcome) {
     tally.taken(taken);
 }
 
-impl Given<'_> {
+impl<'a> Given<'a> {
+    /// The limit is left to be set.
+    fn new(random: &mut Random, image: &'a [u8], entries: &'a [u32]) -> Given<'a> {
+        Given {
+            image,
+            marks: Lent::filled(lent(random, image), random, |mixed| mixed as u8),
+            order: Lent::filled(lent(random, image), random, |mixed| mixed as u32),
+            entries,
+            limit: 0,
+        }
+    }
+
+    /// How many positions were taken up, where it was not refused.
+    fn taken(&self, outcome: &Outcome) -> usize {
+        match self.is_refused() {
+            true => 0,
+            false => tracer::traced(self.image, outcome.marks.part()),
+        }
+    }
+
     /// Whether the original has no part in it.
     fn is_refused(&self) -> bool {
         let shortest = self.marks.part().len().min(self.order.part().len());
@@ -132,10 +173,11 @@ impl Given<'_> {
 
     /// Runs over a copy of the lent memory. Where the original tells something of the trace, that is
     /// read off.
-    fn run(&self, run: Run, known: Option<bool>) -> Outcome {
+    fn run(&self, run: Run, mode: Mode, known: Option<bool>) -> Outcome {
         let (mut marks, mut order) = (self.marks.clone(), self.order.clone());
         let (image, entries) = (self.image, self.entries);
-        let answer = run(image, marks.lend(), order.lend(), entries, self.limit);
+        let limit = self.limit;
+        let answer = run(mode, image, marks.lend(), order.lend(), entries, limit);
         let seen = known.map(|known| {
             let marks = &marks.part()[..image.len()];
             Seen::of(&answer, marks, order.part(), known)

@@ -1,17 +1,28 @@
 //! Start and single steps. The original has neither: over marks of any content document 01 judges alone.
-//! Taken together they trace: steps in some order must end in what the original traced.
+//! Taken together they trace: steps in some order must end in what the original traced; in wrapping mode,
+//! which it does not have, in what the plain run does.
 
 use crate::lent::Lent;
 use crate::ours;
+use crate::rings;
 use crate::tally::{Call, Judge, Tally};
 use compare::answer::Answer;
 use compare::images::{self, FLASH, KINDS, TELLING};
 use compare::original::traced;
-use compare::paper::tracer;
+use compare::paper::{Mode, flow, tracer};
 use compare::random::Random;
 
 const CALLS: u64 = 1_000_000;
 const WALKS: u64 = 100_000;
+/// In wrapping mode: calls on short images, and on images that lead over the end of memory; and walks over these.
+const WRAPPING_CALLS: u64 = 200_000;
+const RINGS: u64 = 4_000;
+const RING_WALKS: u64 = 300;
+/// From so many positions at each end a short branch can leave memory.
+const END: u32 = 128;
+const WAITING: u8 = 1;
+/// A longer walk round takes too long.
+const MOST_STEPS: i64 = 600;
 /// The first byte of a Jmpf.
 const JMPF: u8 = 0x21;
 /// Visits after which the original is given up.
@@ -22,12 +33,27 @@ pub fn compare(tally: &mut Tally, random: &mut Random) {
         let image = short(random);
         match turn % 4 {
             0 => start(tally, random, &image),
-            _ => step(tally, random, &image),
+            _ => step(Mode::Unwrapped, tally, random, &image),
         }
     }
     long(tally, random);
     for _ in 0..WALKS {
         walk(tally, random);
+    }
+}
+
+pub fn compare_wrapping(tally: &mut Tally, random: &mut Random) {
+    for _ in 0..WRAPPING_CALLS {
+        let image = short(random);
+        step(Mode::Wrapping, tally, random, &image);
+    }
+    for _ in 0..RINGS {
+        let (image, _) = rings::image(random);
+        step(Mode::Wrapping, tally, random, &image);
+        leave(tally, random, &image);
+    }
+    for _ in 0..RING_WALKS {
+        walk_round(tally, random);
     }
 }
 
@@ -54,7 +80,7 @@ fn long(tally: &mut Tally, random: &mut Random) {
             let image = images::image(kind, length, random);
             for _ in 0..8 {
                 start(tally, random, &image);
-                step(tally, random, &image);
+                step(Mode::Unwrapped, tally, random, &image);
             }
         }
     }
@@ -101,27 +127,95 @@ fn start(tally: &mut Tally, random: &mut Random, image: &[u8]) {
     );
 }
 
-fn step(tally: &mut Tally, random: &mut Random, image: &[u8]) {
-    let position = match random.below(16) {
-        0 => random.pick(&[image.len() as u32, image.len() as u32 + 1, 65_536, u32::MAX]),
-        1..4 => image.iter().position(|byte| *byte == JMPF).unwrap_or(0) as u32,
+/// A function that steps, ours or document 01's.
+type Step = fn(Mode, &[u8], &mut [u8], u32) -> Answer;
+
+/// What a step is given.
+struct Given<'a> {
+    image: &'a [u8],
+    marks: Lent<u8>,
+    position: u32,
+}
+
+impl Given<'_> {
+    fn compare(&self, mode: Mode, tally: &mut Tally) {
+        let expected = self.step(tracer::step, mode);
+        let ours = self.step(ours::step, mode);
+        let judge = match mode {
+            Mode::Unwrapped => Judge::Document,
+            Mode::Wrapping => against_unwrapped(tally, self, &ours),
+        };
+        let first = self.image.get(self.position as usize).copied();
+        let number = expected.0.number;
+        let what = (Call::Step, judge);
+        tally.judge(what, first, (number, &expected), &ours, || {
+            format!("{mode:?} {}", self.shown())
+        });
+    }
+
+    /// Over a copy of the marks.
+    fn step(&self, step: Step, mode: Mode) -> Outcome {
+        let mut marks = self.marks.clone();
+        Outcome(step(mode, self.image, marks.lend(), self.position), marks)
+    }
+
+    fn shown(&self) -> String {
+        let (image, position, marks) = (shown(self.image), self.position, &self.marks);
+        format!("step of {image} at {position}, marks {marks:?}")
+    }
+}
+
+fn step(mode: Mode, tally: &mut Tally, random: &mut Random, image: &[u8]) {
+    let position = match (mode, random.below(16)) {
+        (_, 0) => random.pick(&[image.len() as u32, image.len() as u32 + 1, 65_536, u32::MAX]),
+        (_, 1..4) => image.iter().position(|byte| *byte == JMPF).unwrap_or(0) as u32,
+        (Mode::Wrapping, 4..14) => rings::position(random, image.len()),
         _ => random.below(image.len().max(1) as u64) as u32,
     };
-    let mut ours = marks(random, image);
-    let before = ours.clone();
-    let mut expected = ours.clone();
-    let answer = tracer::step(image, expected.lend(), position);
-    let expected = Outcome(answer, expected);
-    let answer = ours::step(image, ours.lend(), position);
-    let first = image.get(position as usize).copied();
-    let what = (Call::Step, Judge::Document);
-    tally.judge(
-        what,
-        first,
-        (expected.0.number, &expected),
-        &Outcome(answer, ours),
-        || format!("step of {} at {position}, marks {before:?}", shown(image)),
-    );
+    let given = Given {
+        image,
+        marks: marks(random, image),
+        position,
+    };
+    given.compare(mode, tally);
+}
+
+/// A step that is to lead over an end of memory, in wrapping mode.
+fn leave(tally: &mut Tally, random: &mut Random, image: &[u8]) {
+    let length = image.len() as u32;
+    let ends = (0..END).chain(length - END..length);
+    let leaving = rings::leaving(image, ends);
+    if leaving.is_empty() {
+        return;
+    }
+    let position = random.pick(&leaving);
+    let mut marks = marks(random, image);
+    if let Some(mark) = marks.lend().get_mut(position as usize) {
+        *mark = WAITING;
+    }
+    let given = Given {
+        image,
+        marks,
+        position,
+    };
+    given.compare(Mode::Wrapping, tally);
+}
+/// Where no target leaves memory both modes answer and leave the same, and where the step is refused before any
+/// target is looked at.
+fn against_unwrapped(tally: &mut Tally, given: &Given, ours: &Outcome) -> Judge {
+    let unwrapped = given.step(ours::step, Mode::Unwrapped);
+    let at = given.position as usize;
+    let bytes = given.image.get(at..).unwrap_or(&[]);
+    let whole = bytes
+        .first()
+        .is_some_and(|first| flow::size(*first) <= bytes.len());
+    if !whole || flow::stays(given.image, at) {
+        let what = (Call::ModesAlike, Judge::Wrapping);
+        let number = unwrapped.0.number;
+        tally.judge(what, None, (number, &unwrapped), ours, || given.shown());
+    }
+    tally.wrapping.steps += u64::from(unwrapped != *ours);
+    Judge::Wrapping
 }
 
 /// A start and steps until there is nothing waiting. Without B8 0D 21 the order does not matter and is
@@ -140,11 +234,11 @@ fn walk(tally: &mut Tally, random: &mut Random) {
     ours::start(&image, &mut marks, &entries);
     if !images::has_flash(&image) {
         while let Some(position) = any_waiting(&marks, random) {
-            ours::step(&image, &mut marks, position);
+            ours::step(Mode::Unwrapped, &image, &mut marks, position);
         }
     } else {
         for position in &told.taken {
-            ours::step(&image, &mut marks, *position);
+            ours::step(Mode::Unwrapped, &image, &mut marks, *position);
         }
     }
     let mut expected = vec![0; length];
@@ -158,6 +252,31 @@ fn walk(tally: &mut Tally, random: &mut Random) {
         &marks,
         || format!("steps of {} entries {entries:?}", shown(&image)),
     );
+}
+
+/// In wrapping mode, over the end of memory: a start and steps in any order until there is nothing waiting. Where the
+/// plain run is not cut off, it leaves the same marks.
+fn walk_round(tally: &mut Tally, random: &mut Random) {
+    let (image, entries) = rings::image(random);
+    let length = image.len();
+    let (mut expected, mut order) = (vec![0; length], vec![0; length]);
+    let mode = Mode::Wrapping;
+    let ran = tracer::run(mode, &image, &mut expected, &mut order, &entries, u32::MAX);
+    if images::has_flash(&image) || !ran.done() || ran.values[1] > MOST_STEPS {
+        return;
+    }
+    let mut marks = vec![0xFF; length];
+    ours::start(&image, &mut marks, &entries);
+    for _ in 0..length {
+        let Some(position) = any_waiting(&marks, random) else {
+            break;
+        };
+        ours::step(mode, &image, &mut marks, position);
+    }
+    let what = (Call::Step, Judge::Wrapping);
+    tally.judge(what, None, (0, &expected), &marks, || {
+        format!("Wrapping steps of {} entries {entries:?}", shown(&image))
+    });
 }
 
 /// Nothing once each position could have been taken up: a step that changes nothing is found by its marks.

@@ -1,6 +1,6 @@
 //! The engine that sweeps. The original has none: a plain one by document 02 judges. Where no B8 0D 21 stands in the
 //! image, so do what the original traced and what our own run leaves: the marks of a trace that finishes are the same,
-//! and a position is left waiting exactly where it is cut off.
+//! and a position is left waiting exactly where it is cut off. In wrapping mode the plain engine and our run judge alone.
 
 mod planned;
 
@@ -12,7 +12,7 @@ use crate::tally::{Call, Judge, Tally};
 use compare::answer::Answer;
 use compare::images::{self, Kind};
 use compare::original::traced::Told;
-use compare::paper::sweep as paper;
+use compare::paper::{Mode, sweep as paper, views};
 use compare::random::Random;
 
 /// Numbers of their own, so that the other comparisons are the same with this one and without.
@@ -52,6 +52,7 @@ const EDGE_ENTRIES: [&[u32]; 9] = [
 
 /// What an engine is given.
 struct Given<'a> {
+    mode: Mode,
     image: &'a [u8],
     entries: &'a [u32],
     marks: Lent<u8>,
@@ -69,7 +70,7 @@ struct AsRun {
 }
 
 /// A function that sweeps, ours or the plain one.
-type Sweep = fn(&[u8], &mut [u8], &[u32]) -> Answer;
+type Sweep = fn(Mode, &[u8], &mut [u8], &[u32]) -> Answer;
 
 /// An image whose run is compared too.
 pub fn of_trace(
@@ -84,6 +85,15 @@ pub fn of_trace(
     let (_, of) = *of_length.expect("an image that was traced");
     if random.below(of) == 0 {
         Given::new(&mut random, image, entries).compare(tally, told);
+    }
+}
+
+/// In wrapping mode.
+pub fn wrapping(tally: &mut Tally, random: &mut Random, image: &[u8], entries: &[u32]) {
+    let mut given = Given::new(random, image, entries);
+    given.mode = Mode::Wrapping;
+    if given.compare(tally, None).done() {
+        given.compare_modes(tally);
     }
 }
 
@@ -116,6 +126,7 @@ fn lengths(tally: &mut Tally, random: &mut Random) {
             let entries = &images::entries(length, random);
             let marks = Lent::filled(lent, random, |mixed| mixed as u8);
             let given = Given {
+                mode: Mode::Unwrapped,
                 image,
                 entries,
                 marks,
@@ -155,6 +166,7 @@ impl<'a> Given<'a> {
     fn new(random: &mut Random, image: &'a [u8], entries: &'a [u32]) -> Given<'a> {
         let marks = Lent::filled(run::lent(random, image), random, |mixed| mixed as u8);
         Given {
+            mode: Mode::Unwrapped,
             image,
             entries,
             marks,
@@ -164,7 +176,9 @@ impl<'a> Given<'a> {
     /// Ours with the plain engine, with what the original traced, if it was asked, and with our run: what is to be
     /// answered.
     fn compare(&self, tally: &mut Tally, told: Option<&Told>) -> Answer {
-        let (expected, ours) = (self.swept(paper::sweep), self.swept(ours::sweep));
+        let mode = self.mode;
+        let expected = self.swept(paper::sweep, mode);
+        let ours = self.swept(ours::sweep, mode);
         let answer = expected.0;
         let told = told.filter(|_| answer.done() && !images::has_flash(self.image));
         if told.is_some_and(|told| !agrees(told, self.marks_of(&expected))) {
@@ -172,7 +186,7 @@ impl<'a> Given<'a> {
         }
         let judge = match told.map(|told| told.cut_off) {
             Some(None) => Judge::Original,
-            _ => Judge::Document,
+            _ => self.judge(),
         };
         let what = (Call::Sweep, judge);
         tally.judge(what, None, (answer.number, &expected), &ours, || {
@@ -185,9 +199,29 @@ impl<'a> Given<'a> {
         answer
     }
 
-    fn swept(&self, sweep: Sweep) -> Outcome {
+    /// Who judges where the original does not.
+    fn judge(&self) -> Judge {
+        match self.mode {
+            Mode::Unwrapped => Judge::Document,
+            Mode::Wrapping => Judge::Wrapping,
+        }
+    }
+
+    /// Where nothing that is taken up leaves memory, both modes answer and leave the same.
+    fn compare_modes(&self, tally: &mut Tally) {
+        let unwrapped = self.swept(ours::sweep, Mode::Unwrapped);
+        let ours = self.swept(ours::sweep, Mode::Wrapping);
+        if views::stays(self.image, self.marks_of(&unwrapped)) {
+            let what = (Call::ModesAlike, Judge::Wrapping);
+            tally.judge(what, None, (0, &unwrapped), &ours, || self.shown());
+        }
+        tally.wrapping.sweeps += u64::from(unwrapped.1 != ours.1);
+    }
+
+    fn swept(&self, sweep: Sweep, mode: Mode) -> Outcome {
         let mut marks = self.marks.clone();
-        Outcome(sweep(self.image, marks.lend(), self.entries), marks)
+        let answer = sweep(mode, self.image, marks.lend(), self.entries);
+        Outcome(answer, marks)
     }
 
     /// The marks of the image's own positions.
@@ -199,7 +233,11 @@ impl<'a> Given<'a> {
         self.marks_of(outcome).contains(&WAITING)
     }
 
+    /// What they came to, unwrapped.
     fn count(&self, tally: &mut Tally, expected: &Outcome) {
+        if self.mode == Mode::Wrapping {
+            return;
+        }
         let sweeps = expected.0.values[0];
         let counts = &mut tally.sweeps;
         match sweeps {
@@ -214,12 +252,14 @@ impl<'a> Given<'a> {
     /// Our run from the same entries over the same lent marks. Where B8 0D 21 stands, it may leave others.
     fn compare_with_run(&self, tally: &mut Tally, swept: &Outcome) {
         let (mut marks, mut order) = (self.marks.clone(), vec![0; self.image.len()]);
-        let limit = self.image.len() as u32;
-        let answer = ours::run(self.image, marks.lend(), &mut order, self.entries, limit);
+        let (image, entries, limit) = (self.image, self.entries, self.image.len() as u32);
+        let answer = ours::run(self.mode, image, marks.lend(), &mut order, entries, limit);
         let finished = answer.done();
-        if images::has_flash(self.image) {
-            tally.sweeps.flashing += 1;
-            tally.sweeps.other += u64::from(finished && marks != swept.1);
+        if images::has_flash(image) {
+            if self.mode == Mode::Unwrapped {
+                tally.sweeps.flashing += 1;
+                tally.sweeps.other += u64::from(finished && marks != swept.1);
+            }
             return;
         }
         let expected = AsRun {
@@ -230,18 +270,15 @@ impl<'a> Given<'a> {
             waiting: self.is_waiting(swept),
             finished: finished.then(|| (swept.0.values[1], swept.1.clone())),
         };
-        let what = (Call::SweepAsRun, Judge::Document);
+        let what = (Call::SweepAsRun, self.judge());
         tally.judge(what, None, (answer.number, &expected), &ours, || {
             self.shown()
         });
     }
 
     fn shown(&self) -> String {
-        format!(
-            "sweeps of {} entries {:?}",
-            steps::shown(self.image),
-            self.entries
-        )
+        let (mode, image, entries) = (self.mode, steps::shown(self.image), self.entries);
+        format!("{mode:?} sweeps of {image} entries {entries:?}")
     }
 }
 

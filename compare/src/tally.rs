@@ -30,9 +30,11 @@ pub enum Call {
     MapCount,
     MapFirstData,
     MapUpdate,
+    /// What our unwrapped mode says of our wrapping one, where nothing leaves memory.
+    ModesAlike,
 }
 
-const CALLS: [(Call, &str); 23] = [
+const CALLS: [(Call, &str); 24] = [
     (Call::Decode, "decode"),
     (Call::Encode, "encode"),
     (Call::Resolve, "resolve"),
@@ -56,6 +58,7 @@ const CALLS: [(Call, &str); 23] = [
     (Call::MapCount, "map count"),
     (Call::MapFirstData, "map first data"),
     (Call::MapUpdate, "map update"),
+    (Call::ModesAlike, "modes alike"),
 ];
 
 impl Call {
@@ -64,7 +67,7 @@ impl Call {
         match self {
             Call::Sweep | Call::SweepAsRun => "document 02",
             Call::ReadBack | Call::MapBuild | Call::MapTest | Call::MapCount => "document 02",
-            Call::MapFirstData | Call::MapUpdate => "document 02",
+            Call::MapFirstData | Call::MapUpdate | Call::ModesAlike => "document 02",
             _ => "document 01",
         }
     }
@@ -76,15 +79,20 @@ pub enum Judge {
     Original,
     /// Document 01 or 02, where the original has no such call: counted apart.
     Document,
+    /// Document 02, of a call in wrapping mode, which the original does not have: counted apart too.
+    Wrapping,
 }
 
-/// Counts of what was compared with the original, of what was ours alone, and of what differed.
+/// Counts of what was compared with the original, of what was ours alone, of that in wrapping mode, and of what
+/// differed.
 #[derive(Clone, Copy, Default)]
 struct Counts {
     compared: u64,
     alone: u64,
+    wrapping: u64,
     differ: u64,
     alone_differ: u64,
+    wrapping_differ: u64,
 }
 
 /// The documents' refusal numbers end at 22; any other number is counted in the last place.
@@ -123,6 +131,24 @@ pub struct Sweeps {
     pub other: u64,
 }
 
+/// What the calls in wrapping mode came to, where the two modes are not alike.
+#[derive(Default)]
+pub struct Wrapping {
+    /// Targets that are others than unwrapped, and addresses that only this mode takes.
+    pub targets: u64,
+    pub addresses: u64,
+    /// Steps, runs and sweeps that left other marks.
+    pub steps: u64,
+    pub runs: u64,
+    pub sweeps: u64,
+    /// Target marks, arrivals and listings that are others.
+    pub target_marks: u64,
+    pub arrivals: u64,
+    pub listings: u64,
+    /// Listings that are malformed if they are read back unwrapped.
+    pub malformed: u64,
+}
+
 /// The lines of the listings, by their letters.
 #[derive(Default)]
 struct Listings {
@@ -156,6 +182,7 @@ pub struct Tally {
     by_form: [[Counts; CALLS.len()]; FORMS],
     pub traces: Traces,
     pub sweeps: Sweeps,
+    pub wrapping: Wrapping,
     taken: [u64; FORMS],
     listed: [u64; FORMS],
     listings: Listings,
@@ -171,6 +198,7 @@ impl Tally {
             by_form: [[Counts::default(); CALLS.len()]; FORMS],
             traces: Traces::default(),
             sweeps: Sweeps::default(),
+            wrapping: Wrapping::default(),
             taken: [0; FORMS],
             listed: [0; FORMS],
             listings: Listings::default(),
@@ -211,6 +239,7 @@ impl Tally {
             let who = match judge {
                 Judge::Original => "the original",
                 Judge::Document => call.document(),
+                Judge::Wrapping => "document 02, wrapping",
             };
             self.show(|| format!("{}\n  {who}: {expected:?}\n  ours: {ours:?}", input()));
         }
@@ -261,10 +290,15 @@ impl Tally {
         self.listings.report();
         self.backs.report();
         self.texts.report();
+        self.wrapping.report();
         let all = &self.all;
         let (alone, alone_differ) = (all.alone, all.alone_differ);
+        let (wrapping, wrapping_differ) = (all.wrapping, all.wrapping_differ);
         println!(
             "ours alone (documents 01 and 02 judge): {alone}, differ {alone_differ}, counted below too"
+        );
+        println!(
+            "in wrapping mode (document 02 judges): {wrapping}, differ {wrapping_differ}, counted below too"
         );
         println!("compared {}, differ {}", all.compared, all.differ);
         all.differ == 0
@@ -272,13 +306,13 @@ impl Tally {
 
     fn report_forms(&self) {
         println!(
-            "calls with the original, and ours alone; 'taken' are instructions taken up in runs, 'listed' those in listings"
+            "calls with the original, ours alone, and in wrapping mode; 'taken' are instructions taken up in runs, 'listed' those in listings"
         );
         println!(
             "form      decode    encode   resolve   targets      step     taken    listed  differ"
         );
         for (form, calls) in self.by_form.iter().enumerate() {
-            let counts = calls.map(|counts| counts.compared + counts.alone);
+            let counts = calls.map(|counts| counts.all());
             let [decode, encode, resolve, targets, _, step, ..] = counts;
             let differ: u64 = calls.iter().map(|counts| counts.differ).sum();
             let name = original::name(form);
@@ -290,13 +324,20 @@ impl Tally {
     }
 
     fn report_numbers(&self) {
-        println!("call           number    compared  ours alone  differ");
+        println!("call           number    compared  ours alone    wrapping  differ");
         for (call, name) in CALLS {
             for (number, counts) in self.by_number[call as usize].iter().enumerate() {
-                let (compared, alone) = (counts.compared, counts.alone);
-                if compared + alone > 0 {
-                    let differ = counts.differ;
-                    println!("{name:<14} {number:>6}  {compared:>10}  {alone:>10}  {differ:>6}");
+                let Counts {
+                    compared,
+                    alone,
+                    wrapping,
+                    differ,
+                    ..
+                } = counts;
+                if counts.all() > 0 {
+                    println!(
+                        "{name:<14} {number:>6}  {compared:>10}  {alone:>10}  {wrapping:>10}  {differ:>6}"
+                    );
                 }
             }
         }
@@ -334,6 +375,22 @@ impl Sweeps {
             "sweeps: that took nothing {none}, all at once {one}, in several {more}, the most for one image {most}; with a position left waiting {waiting}"
         );
         println!("sweeps with B8 0D 21: {flashing}, with other marks than a run {other}");
+    }
+}
+
+impl Wrapping {
+    fn report(&self) {
+        let (targets, addresses) = (self.targets, self.addresses);
+        println!(
+            "wrapping: targets other than unwrapped {targets}, addresses that only it takes {addresses}"
+        );
+        let (steps, runs, sweeps) = (self.steps, self.runs, self.sweeps);
+        println!("wrapping: other marks by steps {steps}, by runs {runs}, by sweeps {sweeps}");
+        let (target_marks, arrivals) = (self.target_marks, self.arrivals);
+        let (listings, malformed) = (self.listings, self.malformed);
+        println!(
+            "wrapping: other target marks {target_marks}, arrivals {arrivals}, listings {listings}; malformed if read back unwrapped {malformed}"
+        );
     }
 }
 
@@ -381,6 +438,10 @@ impl Texts {
 }
 
 impl Counts {
+    fn all(&self) -> u64 {
+        self.compared + self.alone + self.wrapping
+    }
+
     fn add(&mut self, judge: Judge, differ: bool) {
         let differ = u64::from(differ);
         self.differ += differ;
@@ -389,6 +450,10 @@ impl Counts {
             Judge::Document => {
                 self.alone += 1;
                 self.alone_differ += differ;
+            }
+            Judge::Wrapping => {
+                self.wrapping += 1;
+                self.wrapping_differ += differ;
             }
         }
     }

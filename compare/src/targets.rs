@@ -1,15 +1,17 @@
 //! Targets asked for alone: fields around every limit at positions around every limit, every position at
-//! some fields, and random ones.
+//! some fields, and random ones; in wrapping mode too, where document 02 judges alone.
 
 use crate::ours;
 use crate::tally::{Call, Judge, Tally};
 use compare::answer::Answer;
 use compare::original;
-use compare::paper::{self, Kind, flow};
+use compare::paper::{self, Kind, Mode, flow};
 use compare::random::Random;
 use compare::values;
+use std::ops::RangeInclusive;
 
 const RANDOM_CALLS: u64 = 2_000_000;
+const WRAPPING_CALLS: u64 = 1_000_000;
 
 /// At the ends of memory, around the pages' borders and past what is taken.
 const POSITIONS: [u32; 22] = [
@@ -37,36 +39,65 @@ const POSITIONS: [u32; 22] = [
     0xFFFF_FFFF,
 ];
 
+/// At both ends of memory.
+const ENDS: [RangeInclusive<u32>; 2] = [0..=200, 65_300..=65_540];
+
 pub fn compare(tally: &mut Tally, random: &mut Random) {
-    for form in 0..original::FORMS {
-        limits(tally, random, form);
-        every_position(tally, form);
+    in_mode(Mode::Unwrapped, tally, random, RANDOM_CALLS);
+}
+
+pub fn compare_wrapping(tally: &mut Tally, random: &mut Random) {
+    in_mode(Mode::Wrapping, tally, random, WRAPPING_CALLS);
+    let is_short = |form: &usize| paper::kinds(*form).ends_with(&[Kind::Short]);
+    for form in (0..original::FORMS).filter(is_short) {
+        every_offset(tally, form);
     }
-    for _ in 0..RANDOM_CALLS {
+}
+
+fn in_mode(mode: Mode, tally: &mut Tally, random: &mut Random, calls: u64) {
+    for form in 0..original::FORMS {
+        limits(mode, tally, random, form);
+        every_position(mode, tally, form);
+    }
+    for _ in 0..calls {
         let first = random.any() as u8;
         let kinds = paper::kinds(original::form(first));
         let fields = random.numbers(kinds, |kind| kind.fields());
-        one(tally, first, fields, random.base());
+        one(mode, tally, first, fields, random.base());
     }
 }
 
 /// Each list of fields at each of the positions, under any first byte of the form.
-fn limits(tally: &mut Tally, random: &mut Random, form: usize) {
+fn limits(mode: Mode, tally: &mut Tally, random: &mut Random, form: usize) {
     let firsts = original::firsts(form);
     let kinds = paper::kinds(form).iter();
     let lists: Vec<Vec<i32>> = kinds.map(|kind| values::fields(*kind)).collect();
     values::products(&lists, &mut |fields| {
         for position in POSITIONS {
-            one(tally, random.pick(firsts), fields, position);
+            one(mode, tally, random.pick(firsts), fields, position);
         }
     });
 }
 
-fn every_position(tally: &mut Tally, form: usize) {
+fn every_position(mode: Mode, tally: &mut Tally, form: usize) {
     let first = original::firsts(form)[0];
     for position in 0..=65_540 {
         for end in [low, high] {
-            one(tally, first, paper::numbers(form, end), position);
+            one(mode, tally, first, paper::numbers(form, end), position);
+        }
+    }
+}
+
+/// A short branch at the ends of memory.
+fn every_offset(tally: &mut Tally, form: usize) {
+    let first = original::firsts(form)[0];
+    for position in ENDS.into_iter().flatten() {
+        for offset in -128..=127 {
+            let fields = paper::numbers(form, |kind| match kind {
+                Kind::Short => offset,
+                _ => low(kind),
+            });
+            one(Mode::Wrapping, tally, first, fields, position);
         }
     }
 }
@@ -79,12 +110,13 @@ fn high(kind: Kind) -> i32 {
     *kind.fields().end()
 }
 
-fn one(tally: &mut Tally, first: u8, fields: [i32; 3], position: u32) {
-    let ours = ours::targets(first, fields, position);
-    let expected = flow::targets(first, fields, position);
-    let input = || format!("targets of first {first:02X} fields {fields:?} at {position}");
-    let judge = match expected.number {
-        Answer::DONE => against_original(tally, first, fields, position, expected),
+fn one(mode: Mode, tally: &mut Tally, first: u8, fields: [i32; 3], position: u32) {
+    let ours = ours::targets(mode, first, fields, position);
+    let expected = flow::targets(mode, first, fields, position);
+    let input = || format!("{mode:?} targets of first {first:02X} fields {fields:?} at {position}");
+    let judge = match (mode, expected.number) {
+        (Mode::Wrapping, _) => against_unwrapped(tally, first, fields, position, ours),
+        (_, Answer::DONE) => against_original(tally, first, fields, position, expected),
         _ => Judge::Document,
     };
     let number = expected.number;
@@ -112,4 +144,26 @@ fn against_original(
         });
     }
     Judge::Original
+}
+
+/// Where no target leaves memory both modes answer alike, and where it is refused.
+fn against_unwrapped(
+    tally: &mut Tally,
+    first: u8,
+    fields: [i32; 3],
+    position: u32,
+    ours: Answer,
+) -> Judge {
+    let unwrapped = ours::targets(Mode::Unwrapped, first, fields, position);
+    let [_, targets @ ..] = unwrapped.values;
+    let stays = targets.iter().all(|target| (0..=65_535).contains(target));
+    if stays || !unwrapped.done() {
+        let what = (Call::ModesAlike, Judge::Wrapping);
+        let number = unwrapped.number;
+        tally.judge(what, Some(first), (number, &unwrapped), &ours, || {
+            format!("targets of first {first:02X} fields {fields:?} at {position}")
+        });
+    }
+    tally.wrapping.targets += u64::from(unwrapped != ours);
+    Judge::Wrapping
 }

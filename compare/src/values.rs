@@ -55,6 +55,19 @@ pub fn addresses(base: u32) -> Vec<i32> {
     tidy([&short[..], &borders, &[-1, 0, 1, 65_535, 65_536]].concat())
 }
 
+/// Addresses that are a short offset from the base modulo 65,536, or nearly, the ends of memory, and where the
+/// difference turns from the highest to the lowest.
+pub fn wrapping_addresses(base: u32) -> Vec<i32> {
+    let base = base as i32;
+    let around = |middle: i32, away: i32| (-away..=away).map(move |by| middle.wrapping_add(by));
+    let turns = [0, -65_536, 65_536].map(|turn| base.wrapping_add(turn));
+    let halves = [-32_768, 32_768].map(|half| base.wrapping_add(half));
+    let short = turns.into_iter().flat_map(|middle| around(middle, 130));
+    let others = [&halves[..], &[0, 65_535]].concat().into_iter();
+    let others = others.flat_map(|middle| around(middle, 3));
+    tidy(short.chain(others).collect())
+}
+
 fn tidy(mut list: Vec<i32>) -> Vec<i32> {
     list.sort_unstable();
     list.dedup();

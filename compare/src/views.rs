@@ -1,22 +1,26 @@
 //! The views. On what the original traced to its end they are held against its own mask, labels, overlaps,
 //! `jump_from` sets and data, as far as these lie inside the image. On marks of any content document 01
-//! judges alone.
+//! judges alone, and in wrapping mode document 02.
 
 use crate::lent::Lent;
 use crate::listing;
 use crate::ours;
+use crate::rings;
 use crate::steps::{self, shown};
 use crate::tally::{Call, Judge, Tally};
 use compare::answer::Answer;
 use compare::images::{self, KINDS};
 use compare::original::viewed;
-use compare::paper::{flow, views as paper};
+use compare::paper::{Mode, flow, views as paper};
 use compare::random::Random;
 use std::fmt::{Debug, UpperHex};
 use waterbear::disasm::probe::Graph;
 
 const CALLS: u64 = 1_000_000;
 const RUNS: u64 = 300_000;
+/// In wrapping mode, on short images, and on images that lead over the end of memory.
+const WRAPPING_CALLS: u64 = 200_000;
+const RINGS: u64 = 800;
 /// Images up to this length are looked at in every position, longer ones in so many.
 const SHORT: usize = 16;
 const SOME: usize = 8;
@@ -27,6 +31,7 @@ const JMPF: u8 = 0x21;
 struct Views<'a> {
     tally: &'a mut Tally,
     random: &'a mut Random,
+    mode: Mode,
     image: &'a [u8],
     marks: &'a [u8],
     graph: Option<&'a Graph>,
@@ -44,20 +49,13 @@ pub fn of_trace(
     entries: &[u32],
     graph: &Graph,
 ) {
-    let (mut marks, mut order) = (vec![0; image.len()], vec![0; image.len()]);
-    let ran = ours::run(image, &mut marks, &mut order, entries, u32::MAX);
-    order.truncate(ran.values[2] as usize);
-    let positions: Vec<u32> = match image.len() {
-        length if length <= SHORT => (0..=length as u32).collect(),
-        length => {
-            let mut some = || position(random, length, &order);
-            (0..SOME).map(|_| some()).collect()
-        }
-    };
+    let (marks, order) = ran(Mode::Unwrapped, image, entries).1;
+    let positions = positions(random, image, &order);
     let mask = viewed::mask(graph, image);
     let mut views = Views {
         tally,
         random,
+        mode: Mode::Unwrapped,
         image,
         marks: &marks,
         graph: Some(graph),
@@ -70,6 +68,57 @@ pub fn of_trace(
         data_run(views.tally, image, &mask, position);
     }
     listing::of_trace(tally, random, image, &marks, entries);
+}
+
+/// In wrapping mode, over the marks of our own run, where it is not cut off.
+pub fn wrapping(tally: &mut Tally, random: &mut Random, image: &[u8], entries: &[u32]) {
+    let (answer, (marks, order)) = ran(Mode::Wrapping, image, entries);
+    if !answer.done() {
+        return;
+    }
+    let mut positions = positions(random, image, &order);
+    positions.extend(arrived(random, image, &order));
+    let mut views = Views {
+        tally,
+        random,
+        mode: Mode::Wrapping,
+        image,
+        marks: &marks,
+        graph: None,
+    };
+    views.target_marks();
+    for position in positions {
+        views.arrivals(position);
+    }
+    listing::wrapping(tally, random, image, &marks);
+}
+
+/// Our run without a limit: its answer, the marks, and the positions noted.
+fn ran(mode: Mode, image: &[u8], entries: &[u32]) -> (Answer, (Vec<u8>, Vec<u32>)) {
+    let (mut marks, mut order) = (vec![0; image.len()], vec![0; image.len()]);
+    let answer = ours::run(mode, image, &mut marks, &mut order, entries, u32::MAX);
+    order.truncate(answer.values[2] as usize);
+    (answer, (marks, order))
+}
+
+/// Some positions at which those arrive that leave memory, of the positions noted.
+fn arrived(random: &mut Random, image: &[u8], noted: &[u32]) -> Vec<u32> {
+    let leaving = rings::leaving(image, noted.iter().copied());
+    let count = SOME.min(leaving.len());
+    let mut target = || {
+        let from = random.pick(&leaving) as usize;
+        let targets = flow::targets_at(Mode::Wrapping, image, from);
+        random.pick(&targets) as u32
+    };
+    (0..count).map(|_| target()).collect()
+}
+
+/// All positions of a short image and the one past its end; of a longer one some.
+fn positions(random: &mut Random, image: &[u8], noted: &[u32]) -> Vec<u32> {
+    match image.len() {
+        length if length <= SHORT => (0..=length as u32).collect(),
+        length => (0..SOME).map(|_| position(random, length, noted)).collect(),
+    }
 }
 
 /// A position that was noted, one beside it, any inside, or one outside.
@@ -85,14 +134,15 @@ fn position(random: &mut Random, length: usize, noted: &[u32]) -> u32 {
 }
 
 pub fn compare(tally: &mut Tally, random: &mut Random) {
+    let mode = Mode::Unwrapped;
     for _ in 0..CALLS {
         let image = steps::short(random);
-        any_marks(tally, random, &image);
+        any_marks(mode, tally, random, &image);
     }
     for length in 65_530..=65_540 {
         for kind in KINDS {
             let image = images::image(kind, length, random);
-            (0..8).for_each(|_| any_marks(tally, random, &image));
+            (0..8).for_each(|_| any_marks(mode, tally, random, &image));
         }
     }
     for _ in 0..RUNS {
@@ -100,17 +150,36 @@ pub fn compare(tally: &mut Tally, random: &mut Random) {
     }
 }
 
-/// One view over marks of any content.
-fn any_marks(tally: &mut Tally, random: &mut Random, image: &[u8]) {
+/// Over marks of any content.
+pub fn compare_wrapping(tally: &mut Tally, random: &mut Random) {
+    for _ in 0..WRAPPING_CALLS {
+        let image = steps::short(random);
+        any_marks(Mode::Wrapping, tally, random, &image);
+    }
+    for _ in 0..RINGS {
+        let (image, _) = rings::image(random);
+        any_marks(Mode::Wrapping, tally, random, &image);
+    }
+}
+
+/// One view over marks of any content. In wrapping mode it is one that uses targets.
+fn any_marks(mode: Mode, tally: &mut Tally, random: &mut Random, image: &[u8]) {
     let marks = marks(random, image);
-    let position = position(random, image.len(), &[]);
-    let view = random.below(8);
+    let position = match mode {
+        Mode::Unwrapped => position(random, image.len(), &[]),
+        Mode::Wrapping => rings::position(random, image.len()),
+    };
+    let view = match mode {
+        Mode::Unwrapped => random.below(8),
+        Mode::Wrapping => random.pick(&[1, 4, 5, 6]),
+    };
     if view >= 6 {
-        return listing::of_marks(tally, random, image, &marks);
+        return listing::of_marks(mode, tally, random, image, &marks);
     }
     let mut views = Views {
         tally,
         random,
+        mode,
         image,
         marks: &marks,
         graph: None,
@@ -149,14 +218,16 @@ pub fn marks(random: &mut Random, image: &[u8]) -> Vec<u8> {
     marks
 }
 
-/// A view, ours or document 01's.
-type OfBytes = fn(&[u8], &[u8], &mut [u8]) -> Answer;
-type OfPlaces = fn(&[u8], &[u8], u32, &mut [u32]) -> Answer;
+/// A view, ours or document 01's. What uses no target is not told the mode.
+type OfBytes = fn(Mode, &[u8], &[u8], &mut [u8]) -> Answer;
+type OfPlaces = fn(Mode, &[u8], &[u8], u32, &mut [u32]) -> Answer;
 
 impl Views<'_> {
     fn mask(&mut self) {
         let told = self.graph.map(|graph| viewed::mask(graph, self.image));
-        self.bytes(Call::Mask, told, [paper::mask, ours::mask]);
+        let paper: OfBytes = |_, image, marks, room| paper::mask(image, marks, room);
+        let ours: OfBytes = |_, image, marks, room| ours::mask(image, marks, room);
+        self.bytes(Call::Mask, told, [paper, ours]);
     }
 
     fn target_marks(&mut self) {
@@ -172,12 +243,9 @@ impl Views<'_> {
 
     fn overlaps(&mut self, position: u32) {
         let told = self.graph.map(|graph| viewed::overlaps(graph, position));
-        self.places(
-            Call::Overlaps,
-            position,
-            told,
-            [paper::overlaps, ours::overlaps],
-        );
+        let paper: OfPlaces = |_, image, marks, at, room| paper::overlaps(image, marks, at, room);
+        let ours: OfPlaces = |_, image, marks, at, room| ours::overlaps(image, marks, at, room);
+        self.places(Call::Overlaps, position, told, [paper, ours]);
     }
 
     fn arrivals(&mut self, position: u32) {
@@ -195,7 +263,11 @@ impl Views<'_> {
         let (image, marks) = (self.image, self.marks);
         let length = room(self.random, image.len());
         let room = Lent::filled(length, self.random, |mixed| mixed as u8);
-        let [paper, ours] = views.map(|view| outcome(&room, |room| view(image, marks, room)));
+        let view = |view: OfBytes, mode| outcome(&room, |room| view(mode, image, marks, room));
+        let [paper, ours] = views.map(|side| view(side, self.mode));
+        if self.mode == Mode::Wrapping {
+            self.judge_alike(call, 0, &view(views[1], Mode::Unwrapped), &ours);
+        }
         self.judge(call, 0, told.map(|list| shows(&room, &list)), paper, ours);
     }
 
@@ -204,10 +276,38 @@ impl Views<'_> {
         let some = self.random.below(4) as usize;
         let length = room(self.random, told.as_ref().map_or(some, Vec::len));
         let room = Lent::filled(length, self.random, |mixed| mixed as u32);
-        let view = |view: OfPlaces| outcome(&room, |room| view(image, marks, position, room));
-        let [paper, ours] = views.map(view);
+        let view =
+            |view: OfPlaces, mode| outcome(&room, |room| view(mode, image, marks, position, room));
+        let [paper, ours] = views.map(|side| view(side, self.mode));
+        if self.mode == Mode::Wrapping {
+            self.judge_alike(call, position, &view(views[1], Mode::Unwrapped), &ours);
+        }
         let told = told.map(|list| shows(&room, &list));
         self.judge(call, position, told, paper, ours);
+    }
+
+    /// Where nothing that is traced leaves memory both modes show the same, and where the marks are refused.
+    fn judge_alike<T: Copy + PartialEq + Debug + UpperHex>(
+        &mut self,
+        call: Call,
+        position: u32,
+        unwrapped: &Outcome<T>,
+        ours: &Outcome<T>,
+    ) {
+        let number = unwrapped.0.number;
+        let refused = !unwrapped.0.done() && number != Answer::NO_ROOM;
+        if refused || paper::stays(self.image, self.marks) {
+            let what = (Call::ModesAlike, Judge::Wrapping);
+            let image = self.image;
+            self.tally.judge(what, None, (number, unwrapped), ours, || {
+                format!("{call:?} of {} at {position}", shown(image))
+            });
+        }
+        let others = match call {
+            Call::Arrivals => &mut self.tally.wrapping.arrivals,
+            _ => &mut self.tally.wrapping.target_marks,
+        };
+        *others += u64::from(unwrapped != ours);
     }
 
     /// The original has no refusals: where document 01 has one, it judges alone.
@@ -220,7 +320,11 @@ impl Views<'_> {
         ours: Outcome<T>,
     ) {
         let (image, marks) = (self.image, &self.marks[..self.marks.len().min(48)]);
-        let input = || format!("{call:?} of {} marks {marks:?} at {position}", shown(image));
+        let mode = self.mode;
+        let input = || {
+            let image = shown(image);
+            format!("{mode:?} {call:?} of {image} marks {marks:?} at {position}")
+        };
         let (judge, expected) = match told {
             Some(told) if paper.0.done() => {
                 if told != paper {
@@ -229,6 +333,7 @@ impl Views<'_> {
                 }
                 (Judge::Original, told)
             }
+            _ if mode == Mode::Wrapping => (Judge::Wrapping, paper),
             _ => (Judge::Document, paper),
         };
         let number = expected.0.number;

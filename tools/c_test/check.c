@@ -12,6 +12,8 @@
 
 int64_t answer[5] = {UNWRITTEN, UNWRITTEN, UNWRITTEN, UNWRITTEN, UNWRITTEN};
 
+uint32_t mode = PW_UNWRAPPED;
+
 static unsigned passed, failed;
 static void *all_lent[MOST_LENT];
 static size_t count_lent;
@@ -25,11 +27,11 @@ static void say(uint32_t number, const int64_t values[5])
 
 void answers(const char *file, int line, const char *call, uint32_t number, uint32_t expected, const int64_t values[5])
 {
-    int is_known = note(call, number);
+    int is_known = note(call, mode, number);
     if (is_known && number == expected && memcmp(answer, values, sizeof answer) == 0) {
         passed++;
     } else {
-        printf("%s:%d: %s\n  is to answer ", file, line, call);
+        printf("%s:%d: mode %" PRIu32 ": %s\n  is to answer ", file, line, mode, call);
         say(expected, values);
         printf("\n  answers      ");
         say(number, answer);
@@ -45,7 +47,7 @@ void holds(const char *file, int line, const char *what, int is_so)
     if (is_so) {
         passed++;
     } else {
-        printf("%s:%d: does not hold: %s\n", file, line, what);
+        printf("%s:%d: mode %" PRIu32 ": does not hold: %s\n", file, line, mode, what);
         failed++;
     }
 }

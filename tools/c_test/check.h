@@ -7,6 +7,12 @@
 /* The room for every answer. Before each call it has numbers that none answers, so that a value left unwritten is seen. */
 extern int64_t answer[5];
 
+/* The mode that the calls are told now: all checks are made in each mode, wrapping by several numbers. */
+extern uint32_t mode;
+
+/* What is expected unwrapped, and what wrapping. */
+#define BY_MODE(unwrapped, wrapping) (mode == PW_UNWRAPPED ? (unwrapped) : (wrapping))
+
 /* The call answers this number and these values; those that are not given are 0. */
 #define ANSWERS(number, call, ...) answers(__FILE__, __LINE__, #call, call, number, (const int64_t[5]){__VA_ARGS__})
 
@@ -29,7 +35,7 @@ void give_back(void);
 
 int same(const void *one, const void *other, size_t size);
 
-/* Prints how many checks passed, and answers whether all did and each call was seen to answer each of its numbers. */
+/* Prints how many checks passed, and answers whether all did and each call was seen to answer each of its numbers, in each mode. */
 int report(void);
 
 #endif

@@ -3,7 +3,7 @@
 #include "parts.h"
 
 /* Forms by their place in the enum, and the first bytes that name them. */
-enum { MOV_D9 = 35, JMP = 42, JMPF = 43, BR = 44, BRF = 45, BP = 48, CALL = 59, NOT1 = 66, NOP = 67 };
+enum { MOV_D9 = 35, JMP = 42, JMPF = 43, BR = 44, BRF = 45, BZ = 46, BP = 48, CALL = 59, NOT1 = 66, NOP = 67 };
 enum { FIRST_NOP = 0x00, FIRST_BR = 0x01, FIRST_BRF = 0x11, FIRST_JMPF = 0x21, FIRST_MOV_RJ = 0x24, FIRST_JMP = 0x28, FIRST_BP = 0x68,
        FIRST_BZ = 0x80, FIRST_RET = 0xA0 };
 
@@ -40,31 +40,49 @@ static void encoding(void)
 
 static void resolving(void)
 {
-    ANSWERS(PW_DONE, pw_resolve(FIRST_BRF, 0, 0, 0, 3, answer), BRF, 3, 0xFFFE);
-    ANSWERS(PW_DONE, pw_resolve(FIRST_BR, 129, 0, 0, 2, answer), BR, 2, 127);
-    ANSWERS(PW_DONE, pw_resolve(FIRST_JMP, 0x0FFF, 0, 0, 2, answer), JMP, 2, 0xFFF);
-    ANSWERS(PW_DONE, pw_resolve(FIRST_JMP, 0x0FFF, 0, 0, PW_HIGHEST_BASE, answer), JMP, 2, 0xFFF);
-    ANSWERS(PW_UNFIT, pw_resolve(FIRST_JMP, 65536, 0, 0, 2, answer), 1, 65536);
-    ANSWERS(PW_UNFIT, pw_resolve(FIRST_BP, 0, 8, -1, 2, answer), 2, 8);
-    ANSWERS(PW_NO_ADDRESS, pw_resolve(FIRST_BR, 65536, 0, 0, 2, answer), 65536);
-    ANSWERS(PW_NO_ADDRESS, pw_resolve(FIRST_BRF, -1, 0, 0, 2, answer), -1);
-    ANSWERS(PW_TOO_FAR, pw_resolve(FIRST_BR, 130, 0, 0, 2, answer), 128);
-    ANSWERS(PW_TOO_FAR, pw_resolve(FIRST_BR, 0, 0, 0, 129, answer), -129);
-    ANSWERS(PW_OTHER_PAGE, pw_resolve(FIRST_JMP, 0x1000, 0, 0, 2, answer), 0, 1);
-    ANSWERS(PW_PAST_MEMORY, pw_resolve(FIRST_JMP, 65536, 0, 0, PW_HIGHEST_BASE + 1, answer), 65537);
-    ANSWERS(PW_PAST_MEMORY, pw_resolve(FIRST_NOP, 0, 0, 0, UINT32_MAX, answer), UINT32_MAX);
+    ANSWERS(PW_DONE, pw_resolve(mode, FIRST_BRF, 0, 0, 0, 3, answer), BRF, 3, 0xFFFE);
+    ANSWERS(PW_DONE, pw_resolve(mode, FIRST_BR, 129, 0, 0, 2, answer), BR, 2, 127);
+    ANSWERS(PW_DONE, pw_resolve(mode, FIRST_JMP, 0x0FFF, 0, 0, 2, answer), JMP, 2, 0xFFF);
+    ANSWERS(PW_DONE, pw_resolve(mode, FIRST_JMP, 0x0FFF, 0, 0, PW_HIGHEST_BASE, answer), JMP, 2, 0xFFF);
+    ANSWERS(PW_UNFIT, pw_resolve(mode, FIRST_JMP, 65536, 0, 0, 2, answer), 1, 65536);
+    ANSWERS(PW_UNFIT, pw_resolve(mode, FIRST_BP, 0, 8, -1, 2, answer), 2, 8);
+    ANSWERS(PW_NO_ADDRESS, pw_resolve(mode, FIRST_BR, 65536, 0, 0, 2, answer), 65536);
+    ANSWERS(PW_NO_ADDRESS, pw_resolve(mode, FIRST_BRF, -1, 0, 0, 2, answer), -1);
+    ANSWERS(PW_TOO_FAR, pw_resolve(mode, FIRST_BR, 130, 0, 0, 2, answer), 128);
+    ANSWERS(PW_TOO_FAR, pw_resolve(mode, FIRST_BR, 0, 0, 0, 129, answer), -129);
+    ANSWERS(PW_TOO_FAR, pw_resolve(mode, FIRST_BR, 0, 0, 0, 40000, answer), BY_MODE(-40000, 25536));
+    ANSWERS(PW_TOO_FAR, pw_resolve(mode, FIRST_BR, 32768, 0, 0, 0, answer), BY_MODE(32768, -32768));
+    ANSWERS(PW_TOO_FAR, pw_resolve(mode, FIRST_BR, 128, 0, 0, PW_HIGHEST_BASE, answer), BY_MODE(-65408, 128));
+    ANSWERS(PW_OTHER_PAGE, pw_resolve(mode, FIRST_JMP, 0x1000, 0, 0, 2, answer), 0, 1);
+    ANSWERS(PW_PAST_MEMORY, pw_resolve(mode, FIRST_JMP, 65536, 0, 0, PW_HIGHEST_BASE + 1, answer), 65537);
+    ANSWERS(PW_PAST_MEMORY, pw_resolve(mode, FIRST_NOP, 0, 0, 0, UINT32_MAX, answer), UINT32_MAX);
+}
+
+/* Over either end of memory, by the offset that is in wrapping mode 7, -128 and -1. */
+static void resolving_over_an_end(void)
+{
+    if (mode == PW_UNWRAPPED) {
+        ANSWERS(PW_TOO_FAR, pw_resolve(mode, FIRST_BR, 5, 0, 0, 65534, answer), -65529);
+        ANSWERS(PW_TOO_FAR, pw_resolve(mode, FIRST_BZ, 65410, 0, 0, 2, answer), 65408);
+        ANSWERS(PW_TOO_FAR, pw_resolve(mode, FIRST_BP, 0x121, 7, 65535, 0, answer), 65535);
+    } else {
+        ANSWERS(PW_DONE, pw_resolve(mode, FIRST_BR, 5, 0, 0, 65534, answer), BR, 2, 7);
+        ANSWERS(PW_DONE, pw_resolve(mode, FIRST_BZ, 65410, 0, 0, 2, answer), BZ, 2, -128);
+        ANSWERS(PW_DONE, pw_resolve(mode, FIRST_BP, 0x121, 7, 65535, 0, answer), BP, 3, 0x121, 7, -1);
+    }
 }
 
 static void targeting(void)
 {
-    ANSWERS(PW_DONE, pw_targets(0, FIRST_BRF, 0x8000, 0, 0, answer), 1, 0x8002);
-    ANSWERS(PW_DONE, pw_targets(0, FIRST_BR, -128, 0, 0, answer), 1, -126);
-    ANSWERS(PW_DONE, pw_targets(65534, FIRST_BZ, 127, 0, 0, answer), 2, 65663, 65536);
-    ANSWERS(PW_DONE, pw_targets(65535, FIRST_RET, 0, 0, 0, answer), 0);
-    ANSWERS(PW_DONE, pw_targets(0x0FFE, FIRST_JMP, 0x001, 0, 0, answer), 1, 0x1001);
-    ANSWERS(PW_UNFIT, pw_targets(0, FIRST_BR, 128, 0, 0, answer), 1, 128);
-    ANSWERS(PW_PAST_MEMORY, pw_targets(65535, FIRST_BR, 128, 0, 0, answer), 65537);
-    ANSWERS(PW_PAST_MEMORY, pw_targets(UINT32_MAX, FIRST_JMPF, 0, 0, 0, answer), INT64_C(4294967298));
+    ANSWERS(PW_DONE, pw_targets(mode, 0, FIRST_BRF, 0x8000, 0, 0, answer), 1, 0x8002);
+    ANSWERS(PW_DONE, pw_targets(mode, 0, FIRST_BR, -128, 0, 0, answer), 1, BY_MODE(-126, 65410));
+    ANSWERS(PW_DONE, pw_targets(mode, 65534, FIRST_BZ, 127, 0, 0, answer), 2, BY_MODE(65663, 127), BY_MODE(65536, 0));
+    ANSWERS(PW_DONE, pw_targets(mode, 65535, FIRST_NOP, 0, 0, 0, answer), 1, BY_MODE(65536, 0));
+    ANSWERS(PW_DONE, pw_targets(mode, 65535, FIRST_RET, 0, 0, 0, answer), 0);
+    ANSWERS(PW_DONE, pw_targets(mode, 0x0FFE, FIRST_JMP, 0x001, 0, 0, answer), 1, 0x1001);
+    ANSWERS(PW_UNFIT, pw_targets(mode, 0, FIRST_BR, 128, 0, 0, answer), 1, 128);
+    ANSWERS(PW_PAST_MEMORY, pw_targets(mode, 65535, FIRST_BR, 128, 0, 0, answer), 65537);
+    ANSWERS(PW_PAST_MEMORY, pw_targets(mode, UINT32_MAX, FIRST_JMPF, 0, 0, 0, answer), INT64_C(4294967298));
 }
 
 void codec(void)
@@ -72,5 +90,6 @@ void codec(void)
     decoding();
     encoding();
     resolving();
+    resolving_over_an_end();
     targeting();
 }

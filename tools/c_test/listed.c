@@ -33,17 +33,17 @@ static void listing(void)
     uint8_t *room = room_for_text();
     uint8_t *other = room_for_text();
 
-    ANSWERS(PW_DONE, pw_listing(SAMPLE, 8, SAMPLE_MARKS, 8, PW_ARRIVALS_DECLINED, room, 400, answer), LENGTH(DECLINED));
+    ANSWERS(PW_DONE, pw_listing(mode, SAMPLE, 8, SAMPLE_MARKS, 8, PW_ARRIVALS_DECLINED, room, 400, answer), LENGTH(DECLINED));
     HOLDS(begins(room, DECLINED));
-    ANSWERS(PW_DONE, pw_listing(SAMPLE, 8, SAMPLE_MARKS, 8, PW_ARRIVALS_CHOSEN, other, LENGTH(CHOSEN), answer), LENGTH(CHOSEN));
+    ANSWERS(PW_DONE, pw_listing(mode, SAMPLE, 8, SAMPLE_MARKS, 8, PW_ARRIVALS_CHOSEN, other, LENGTH(CHOSEN), answer), LENGTH(CHOSEN));
     HOLDS(begins(other, CHOSEN));
-    ANSWERS(PW_DONE, pw_listing(SAMPLE, 8, SAMPLE_MARKS, 8, UINT32_MAX, other, 400, answer), LENGTH(CHOSEN));
-    ANSWERS(PW_DONE, pw_listing(NONE(uint8_t), 0, NONE(uint8_t), 0, PW_ARRIVALS_CHOSEN, NONE(uint8_t), 0, answer), 0);
-    ANSWERS(PW_LONG_IMAGE, pw_listing(too_long, TOO_LONG, SAMPLE_MARKS, 8, 0, room, 400, answer), TOO_LONG);
-    ANSWERS(PW_SHORT_MARKS, pw_listing(SAMPLE, 8, SAMPLE_MARKS, 7, 0, room, 400, answer), 7);
-    ANSWERS(PW_DAMAGED, pw_listing(SAMPLE, 8, BYTES(2, 3, 0, 0, 2, 2, 0, 2), 8, 0, room, 400, answer), 1);
-    ANSWERS(PW_NO_ROOM, pw_listing(SAMPLE, 8, SAMPLE_MARKS, 8, 0, room, LENGTH(DECLINED) - 1, answer), LENGTH(DECLINED));
-    ANSWERS(PW_NO_ROOM, pw_listing(SAMPLE, 8, SAMPLE_MARKS, 8, 1, NONE(uint8_t), 0, answer), LENGTH(CHOSEN));
+    ANSWERS(PW_DONE, pw_listing(mode, SAMPLE, 8, SAMPLE_MARKS, 8, UINT32_MAX, other, 400, answer), LENGTH(CHOSEN));
+    ANSWERS(PW_DONE, pw_listing(mode, NONE(uint8_t), 0, NONE(uint8_t), 0, PW_ARRIVALS_CHOSEN, NONE(uint8_t), 0, answer), 0);
+    ANSWERS(PW_LONG_IMAGE, pw_listing(mode, too_long, TOO_LONG, SAMPLE_MARKS, 8, 0, room, 400, answer), TOO_LONG);
+    ANSWERS(PW_SHORT_MARKS, pw_listing(mode, SAMPLE, 8, SAMPLE_MARKS, 7, 0, room, 400, answer), 7);
+    ANSWERS(PW_DAMAGED, pw_listing(mode, SAMPLE, 8, BYTES(2, 3, 0, 0, 2, 2, 0, 2), 8, 0, room, 400, answer), 1);
+    ANSWERS(PW_NO_ROOM, pw_listing(mode, SAMPLE, 8, SAMPLE_MARKS, 8, 0, room, LENGTH(DECLINED) - 1, answer), LENGTH(DECLINED));
+    ANSWERS(PW_NO_ROOM, pw_listing(mode, SAMPLE, 8, SAMPLE_MARKS, 8, 1, NONE(uint8_t), 0, answer), LENGTH(CHOSEN));
     HOLDS(begins(room, DECLINED));
 }
 
@@ -70,7 +70,7 @@ static void reading_back(const char *text, int64_t lines)
     uint8_t *image = BYTES(9, 9, 9, 9, 9, 9, 9, 9, 9);
     uint8_t *marks = BYTES(9, 9, 9, 9, 9, 9, 9, 9, 9);
 
-    ANSWERS(PW_DONE, pw_read_back(TEXT(text), strlen(text), SAMPLE_LENGTH, image, 9, marks, 9, answer), lines);
+    ANSWERS(PW_DONE, pw_read_back(mode, TEXT(text), strlen(text), SAMPLE_LENGTH, image, 9, marks, 9, answer), lines);
     LEFT(image, uint8_t, 0x01, 0x02, 0x00, 0x41, 0x64, 0x80, 0xF9, 0xA0, 9);
     LEFT(marks, uint8_t, 2, 0, 0, 0, 2, 2, 0, 2, 9);
 }
@@ -82,15 +82,15 @@ static void refusing_lines(void)
     uint8_t *image = BYTES(9, 9);
     uint8_t *marks = BYTES(9, 9);
 
-    ANSWERS(PW_LONG_IMAGE, pw_read_back(TEXT(past), strlen(past), TOO_LONG, image, 2, marks, 2, answer), TOO_LONG);
-    ANSWERS(PW_SHORT_MARKS, pw_read_back(TEXT(past), strlen(past), 2, image, 1, marks, 1, answer), 1);
-    ANSWERS(PW_NO_ROOM, pw_read_back(TEXT(past), strlen(past), 2, image, 1, marks, 2, answer), 2);
-    ANSWERS(PW_MALFORMED_LINE, pw_read_back(TEXT("\n"), 1, 2, image, 2, marks, 2, answer), 1);
-    ANSWERS(PW_MALFORMED_LINE, pw_read_back(TEXT(fallen), strlen(fallen), 2, image, 2, marks, 2, answer), 2);
-    ANSWERS(PW_LINE_PAST_END, pw_read_back(TEXT(past), strlen(past), 2, image, 2, marks, 2, answer), 1);
+    ANSWERS(PW_LONG_IMAGE, pw_read_back(mode, TEXT(past), strlen(past), TOO_LONG, image, 2, marks, 2, answer), TOO_LONG);
+    ANSWERS(PW_SHORT_MARKS, pw_read_back(mode, TEXT(past), strlen(past), 2, image, 1, marks, 1, answer), 1);
+    ANSWERS(PW_NO_ROOM, pw_read_back(mode, TEXT(past), strlen(past), 2, image, 1, marks, 2, answer), 2);
+    ANSWERS(PW_MALFORMED_LINE, pw_read_back(mode, TEXT("\n"), 1, 2, image, 2, marks, 2, answer), 1);
+    ANSWERS(PW_MALFORMED_LINE, pw_read_back(mode, TEXT(fallen), strlen(fallen), 2, image, 2, marks, 2, answer), 2);
+    ANSWERS(PW_LINE_PAST_END, pw_read_back(mode, TEXT(past), strlen(past), 2, image, 2, marks, 2, answer), 1);
     LEFT(image, uint8_t, 9, 9);
     LEFT(marks, uint8_t, 9, 9);
-    ANSWERS(PW_DONE, pw_read_back(NONE(uint8_t), 0, 2, image, 2, marks, 2, answer), 0);
+    ANSWERS(PW_DONE, pw_read_back(mode, NONE(uint8_t), 0, 2, image, 2, marks, 2, answer), 0);
     LEFT(image, uint8_t, 0, 0);
     LEFT(marks, uint8_t, 0, 0);
 }

@@ -6,12 +6,16 @@
 
 int main(void)
 {
-    void (*const parts[])(void) = {codec, tracing, viewing, listed, mapped};
+    void (*const parts[])(void) = {codec, tracing, viewing, listed, mapped, ends};
+    const uint32_t modes[] = {PW_UNWRAPPED, PW_WRAPPING, 2, UINT32_MAX};
 
     HOLDS(pw_version() == PW_VERSION);
-    for (size_t index = 0; index < sizeof parts / sizeof parts[0]; index++) {
-        parts[index]();
-        give_back();
+    for (size_t turn = 0; turn < sizeof modes / sizeof modes[0]; turn++) {
+        mode = modes[turn];
+        for (size_t index = 0; index < sizeof parts / sizeof parts[0]; index++) {
+            parts[index]();
+            give_back();
+        }
     }
     return report() ? EXIT_SUCCESS : EXIT_FAILURE;
 }

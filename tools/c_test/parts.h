@@ -7,5 +7,6 @@ void tracing(void);
 void viewing(void);
 void listed(void);
 void mapped(void);
+void ends(void);
 
 #endif

@@ -21,14 +21,14 @@ static void marking_targets(void)
 {
     uint8_t *room = BYTES(9, 9, 9, 9, 9, 9, 9, 9, 9);
 
-    ANSWERS(PW_DONE, pw_target_marks(SAMPLE, SAMPLE_LENGTH, SAMPLE_MARKS, SAMPLE_LENGTH, room, 9, answer), 8);
+    ANSWERS(PW_DONE, pw_target_marks(mode, SAMPLE, SAMPLE_LENGTH, SAMPLE_MARKS, SAMPLE_LENGTH, room, 9, answer), 8);
     LEFT(room, uint8_t, 1, 0, 0, 0, 1, 0, 0, 0, 9);
-    ANSWERS(PW_DONE, pw_target_marks(FLASH, FLASH_LENGTH, BYTES(2, 0, 2, 0, 0), FLASH_LENGTH, room, 5, answer), 5);
+    ANSWERS(PW_DONE, pw_target_marks(mode, FLASH, FLASH_LENGTH, BYTES(2, 0, 2, 0, 0), FLASH_LENGTH, room, 5, answer), 5);
     LEFT(room, uint8_t, 0, 0, 0, 0, 0, 0, 0, 0, 9);
-    ANSWERS(PW_LONG_IMAGE, pw_target_marks(too_long, TOO_LONG, SAMPLE_MARKS, 8, room, 9, answer), TOO_LONG);
-    ANSWERS(PW_SHORT_MARKS, pw_target_marks(SAMPLE, SAMPLE_LENGTH, SAMPLE_MARKS, 7, room, 9, answer), 7);
-    ANSWERS(PW_DAMAGED, pw_target_marks(BYTES(0x00), 1, BYTES(255), 1, room, 0, answer), 0);
-    ANSWERS(PW_NO_ROOM, pw_target_marks(SAMPLE, SAMPLE_LENGTH, SAMPLE_MARKS, SAMPLE_LENGTH, room, 7, answer), 8);
+    ANSWERS(PW_LONG_IMAGE, pw_target_marks(mode, too_long, TOO_LONG, SAMPLE_MARKS, 8, room, 9, answer), TOO_LONG);
+    ANSWERS(PW_SHORT_MARKS, pw_target_marks(mode, SAMPLE, SAMPLE_LENGTH, SAMPLE_MARKS, 7, room, 9, answer), 7);
+    ANSWERS(PW_DAMAGED, pw_target_marks(mode, BYTES(0x00), 1, BYTES(255), 1, room, 0, answer), 0);
+    ANSWERS(PW_NO_ROOM, pw_target_marks(mode, SAMPLE, SAMPLE_LENGTH, SAMPLE_MARKS, SAMPLE_LENGTH, room, 7, answer), 8);
     LEFT(room, uint8_t, 0, 0, 0, 0, 0, 0, 0, 0, 9);
 }
 
@@ -54,16 +54,16 @@ static void finding_arrivals(void)
 {
     uint32_t *room = LIST(uint32_t, 9, 9, 9);
 
-    ANSWERS(PW_DONE, pw_arrivals(SAMPLE, SAMPLE_LENGTH, SAMPLE_MARKS, SAMPLE_LENGTH, 0, room, 3, answer), 1);
+    ANSWERS(PW_DONE, pw_arrivals(mode, SAMPLE, SAMPLE_LENGTH, SAMPLE_MARKS, SAMPLE_LENGTH, 0, room, 3, answer), 1);
     LEFT(room, uint32_t, 5, 9, 9);
-    ANSWERS(PW_DONE, pw_arrivals(BYTES(0x80, 0x00, 0x01, 0xFE), 4, BYTES(2, 0, 2, 0), 4, 2, room, 2, answer), 2);
+    ANSWERS(PW_DONE, pw_arrivals(mode, BYTES(0x80, 0x00, 0x01, 0xFE), 4, BYTES(2, 0, 2, 0), 4, 2, room, 2, answer), 2);
     LEFT(room, uint32_t, 0, 2, 9);
-    ANSWERS(PW_DONE, pw_arrivals(SAMPLE, SAMPLE_LENGTH, SAMPLE_MARKS, SAMPLE_LENGTH, 8, NONE(uint32_t), 0, answer), 0);
-    ANSWERS(PW_DONE, pw_arrivals(FLASH, FLASH_LENGTH, BYTES(2, 0, 3, 0, 0), FLASH_LENGTH, 0, room, 3, answer), 0);
-    ANSWERS(PW_LONG_IMAGE, pw_arrivals(too_long, TOO_LONG, SAMPLE_MARKS, 8, 0, room, 3, answer), TOO_LONG);
-    ANSWERS(PW_SHORT_MARKS, pw_arrivals(SAMPLE, SAMPLE_LENGTH, SAMPLE_MARKS, 0, 0, room, 3, answer), 0);
-    ANSWERS(PW_DAMAGED, pw_arrivals(SAMPLE, SAMPLE_LENGTH, BYTES(2, 0, 0, 0, 0, 0, 0, 4), 8, 0, room, 3, answer), 7);
-    ANSWERS(PW_NO_ROOM, pw_arrivals(SAMPLE, SAMPLE_LENGTH, SAMPLE_MARKS, SAMPLE_LENGTH, 0, room, 0, answer), 1);
+    ANSWERS(PW_DONE, pw_arrivals(mode, SAMPLE, SAMPLE_LENGTH, SAMPLE_MARKS, SAMPLE_LENGTH, 8, NONE(uint32_t), 0, answer), 0);
+    ANSWERS(PW_DONE, pw_arrivals(mode, FLASH, FLASH_LENGTH, BYTES(2, 0, 3, 0, 0), FLASH_LENGTH, 0, room, 3, answer), 0);
+    ANSWERS(PW_LONG_IMAGE, pw_arrivals(mode, too_long, TOO_LONG, SAMPLE_MARKS, 8, 0, room, 3, answer), TOO_LONG);
+    ANSWERS(PW_SHORT_MARKS, pw_arrivals(mode, SAMPLE, SAMPLE_LENGTH, SAMPLE_MARKS, 0, 0, room, 3, answer), 0);
+    ANSWERS(PW_DAMAGED, pw_arrivals(mode, SAMPLE, SAMPLE_LENGTH, BYTES(2, 0, 0, 0, 0, 0, 0, 4), 8, 0, room, 3, answer), 7);
+    ANSWERS(PW_NO_ROOM, pw_arrivals(mode, SAMPLE, SAMPLE_LENGTH, SAMPLE_MARKS, SAMPLE_LENGTH, 0, room, 0, answer), 1);
     LEFT(room, uint32_t, 0, 2, 9);
 }
 

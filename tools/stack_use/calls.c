@@ -13,6 +13,8 @@ static uint64_t words[PW_IMAGE_LIMIT / PW_WORD_BITS];
 
 /* Each first byte with operands at their highest, and past them. */
 #define EACH_FIRST for (int first = 0; first < 256; first++)
+/* What is told a mode is called in both. */
+#define EACH_MODE for (uint32_t mode = PW_UNWRAPPED; mode <= PW_WRAPPING; mode++)
 
 static void version(void) { pw_version(); }
 static void decode(void)
@@ -33,44 +35,47 @@ static void encode(void)
 
 static void resolve(void)
 {
-    EACH_FIRST {
-        pw_resolve((uint8_t)first, 3, 3, 3, 1, answer);
-        pw_resolve((uint8_t)first, 3, 3, 65535, PW_HIGHEST_BASE, answer);
-        pw_resolve((uint8_t)first, 65536, 65536, 65536, PW_HIGHEST_BASE, answer);
+    EACH_MODE EACH_FIRST {
+        pw_resolve(mode, (uint8_t)first, 3, 3, 3, 1, answer);
+        pw_resolve(mode, (uint8_t)first, 3, 3, 65535, PW_HIGHEST_BASE, answer);
+        pw_resolve(mode, (uint8_t)first, 65536, 65536, 65536, PW_HIGHEST_BASE, answer);
     }
 }
 
 static void targets(void)
 {
-    EACH_FIRST {
-        pw_targets(65533, (uint8_t)first, 3, 3, 3, answer);
-        pw_targets(65533, (uint8_t)first, 65536, 65536, 65536, answer);
+    EACH_MODE EACH_FIRST {
+        pw_targets(mode, 65533, (uint8_t)first, 3, 3, 3, answer);
+        pw_targets(mode, 65533, (uint8_t)first, 65536, 65536, 65536, answer);
     }
 }
 
 static void start(void) { pw_start(IMAGE, marks, PW_IMAGE_LIMIT, input.entries, input.count, answer); }
 static void step(void)
 {
-    for (size_t index = 0; index <= input.count; index++)
-        pw_step(IMAGE, marks, PW_IMAGE_LIMIT, input.entries[index % PW_MOST_ENTRIES], answer);
+    EACH_MODE for (size_t index = 0; index <= input.count; index++) {
+        uint32_t position = input.entries[index % PW_MOST_ENTRIES];
+        marks[position] = PW_WAITING;
+        pw_step(mode, IMAGE, marks, PW_IMAGE_LIMIT, position, answer);
+    }
 }
 static void run(void)
 {
-    pw_run(IMAGE, marks, PW_IMAGE_LIMIT, places, PW_IMAGE_LIMIT, input.entries, input.count, PW_IMAGE_LIMIT, answer);
+    EACH_MODE pw_run(mode, IMAGE, marks, PW_IMAGE_LIMIT, places, PW_IMAGE_LIMIT, input.entries, input.count, PW_IMAGE_LIMIT, answer);
 }
-static void sweep(void) { pw_sweep(IMAGE, marks, PW_IMAGE_LIMIT, input.entries, input.count, answer); }
+static void sweep(void) { EACH_MODE pw_sweep(mode, IMAGE, marks, PW_IMAGE_LIMIT, input.entries, input.count, answer); }
 static void mask(void) { pw_mask(IMAGE, MARKS, bytes, TEXT_ROOM, answer); }
-static void target_marks(void) { pw_target_marks(IMAGE, MARKS, bytes, TEXT_ROOM, answer); }
+static void target_marks(void) { EACH_MODE pw_target_marks(mode, IMAGE, MARKS, bytes, TEXT_ROOM, answer); }
 static void overlaps(void) { pw_overlaps(IMAGE, MARKS, input.position, places, PW_MOST_OVERLAPS, answer); }
-static void arrivals(void) { pw_arrivals(IMAGE, MARKS, input.position, places, PW_IMAGE_LIMIT, answer); }
+static void arrivals(void) { EACH_MODE pw_arrivals(mode, IMAGE, MARKS, input.position, places, PW_IMAGE_LIMIT, answer); }
 static void data_run(void) { pw_data_run(IMAGE, MARKS, input.position, answer); }
-static void listing(void) { pw_listing(IMAGE, MARKS, PW_ARRIVALS_DECLINED, bytes, TEXT_ROOM, answer); }
-static void listing_exactly(void) { pw_listing(IMAGE, MARKS, PW_ARRIVALS_CHOSEN, bytes, input.listed, answer); }
-static void listing_with(void) { pw_listing(IMAGE, MARKS, PW_ARRIVALS_CHOSEN, bytes, TEXT_ROOM, answer); }
+static void listing(void) { EACH_MODE pw_listing(mode, IMAGE, MARKS, PW_ARRIVALS_DECLINED, bytes, TEXT_ROOM, answer); }
+static void listing_exactly(void) { EACH_MODE pw_listing(mode, IMAGE, MARKS, PW_ARRIVALS_CHOSEN, bytes, input.listed, answer); }
+static void listing_with(void) { EACH_MODE pw_listing(mode, IMAGE, MARKS, PW_ARRIVALS_CHOSEN, bytes, TEXT_ROOM, answer); }
 static void list_text(void) { pw_list_text(input.text, input.written, bytes, TEXT_ROOM, answer); }
 static void read_back(void)
 {
-    pw_read_back(input.listing, input.listed, (uint32_t)input.length, image, PW_IMAGE_LIMIT, marks, PW_IMAGE_LIMIT, answer);
+    EACH_MODE pw_read_back(mode, input.listing, input.listed, (uint32_t)input.length, image, PW_IMAGE_LIMIT, marks, PW_IMAGE_LIMIT, answer);
 }
 static void map_build(void) { pw_map_build(IMAGE, MARKS, words, PW_IMAGE_LIMIT / PW_WORD_BITS, answer); }
 static void map_test(void) { pw_map_test(words, PW_IMAGE_LIMIT / PW_WORD_BITS, (uint32_t)input.length, input.position, answer); }

@@ -50,9 +50,10 @@ static void done(const char *call, uint32_t number)
 static void trace(void)
 {
     int64_t answer[5];
-    done("pw_run", pw_run(input.image, input.length, input.marks, input.length, order, PW_IMAGE_LIMIT, input.entries, input.count,
-                          PW_IMAGE_LIMIT, answer));
-    done("pw_listing", pw_listing(input.image, input.length, input.marks, input.length, PW_ARRIVALS_CHOSEN, input.listing, TEXT_ROOM, answer));
+    done("pw_run", pw_run(PW_UNWRAPPED, input.image, input.length, input.marks, input.length, order, PW_IMAGE_LIMIT, input.entries,
+                          input.count, PW_IMAGE_LIMIT, answer));
+    done("pw_listing", pw_listing(PW_UNWRAPPED, input.image, input.length, input.marks, input.length, PW_ARRIVALS_CHOSEN, input.listing,
+                                  TEXT_ROOM, answer));
     input.listed = (size_t)answer[0];
 }
 

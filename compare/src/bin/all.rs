@@ -7,6 +7,8 @@
 //! every image of up to two bytes, and of three bytes where two are among 22 telling ones.
 //!
 //! Where two sets of entries leave the same marks, the listings are made once: they are given the same.
+//!
+//! All is in unwrapped mode, the original's: no wrapped target lies inside so short an image.
 
 #[path = "all/listing.rs"]
 mod listing;

@@ -2,7 +2,7 @@
 //!
 //! A line is a letter and what belongs to it, to the line's end. Numbers have eight hex digits.
 //!
-//! - `#`: what the case is about.
+//! - `#`: what the case is about. `W`: it is read in wrapping mode.
 //! - `T`: a line of the text, which byte 10 ends. `H`: bytes of the text in hex.
 //! - `N`: the length lent. `R`, `K`: how long the rooms for the image and for the marks are, where that is not
 //!   the length.
@@ -25,6 +25,8 @@ mod placed;
 mod spoiled;
 #[path = "backs/stored.rs"]
 mod stored;
+#[path = "backs/wrapped.rs"]
+mod wrapped;
 #[path = "backs/written.rs"]
 mod written;
 
@@ -39,6 +41,7 @@ fn main() {
         spoiled::cases(),
         placed::cases(),
         lent::cases(),
+        wrapped::cases(),
     ]
     .concat();
     for case in &cases {

@@ -2,7 +2,8 @@
 //!
 //! A line is a letter and what belongs to it, to the line's end.
 //!
-//! - `#`: what the case is about. `N`: how often the next part is meant, where it is not once.
+//! - `#`: what the case is about. `W`: it is in wrapping mode. `N`: how often the next part is meant, where it is not
+//!   once.
 //! - `T`: a part of the input. `B`, `M`: a part of an image and of its marks, in hex.
 //! - `X`: a part of the output, from its beginning on; all of it where it is short.
 //! - `S`: the output's checksum by POSIX `cksum`. `L`: the first bad line of the input, or 0.
@@ -30,6 +31,8 @@ mod marked;
 mod stored;
 #[path = "lists/sum.rs"]
 mod sum;
+#[path = "lists/wrapped.rs"]
+mod wrapped;
 
 use stored::Case;
 
@@ -42,6 +45,7 @@ fn main() {
         marked::cases(),
         vec![game::case()],
         large::cases(),
+        wrapped::cases(),
     ]
     .concat();
     for case in &cases {

@@ -1,5 +1,5 @@
-//! Prints answers of the original, and of the plain engine that sweeps, one case a line, for a program of the repository
-//! to replay.
+//! Prints answers of the original, of the plain engine that sweeps, and of both in wrapping mode, one case a line, for a
+//! program of the repository to replay.
 //!
 //! A line is a letter for the call and eleven fields: five inputs, the number of the answer and its
 //! five values. A field is a space, a sign and ten hexadecimal digits, so all lines are of one length.
@@ -15,11 +15,16 @@
 //!   each, as hexadecimal digits; before, the list is all 15 and the marks are all 9.
 //! - `W`: sweeps, given and told as a whole trace is. The values are the sweeps, the steps, 0, the order list, which is
 //!   lent to no sweep and stays, and the marks.
+//! - `O`, `S`, `P`: a whole trace, sweeps, and one step over the end of memory, given and told in the same way. The image
+//!   has 65,536 bytes, all Ret but the ten given, which are its last five and then its first five. So are the ten
+//!   positions of the order list and of the marks. The step is at the first entry, after a start from both.
+//! - `r`, `t`, `g`, `w`, `o`, `s`, `p`: the same as the large letter, in wrapping mode.
 //!
 //! The cases are those that the original answers: no register out of range, no field that encode is to
 //! refuse, no room too short, no base above 65,536, no target below 0. Of a trace it tells how it ends,
 //! the first visits and the traced set; what was noted and not taken up is document 01's. It does not sweep: that is
-//! document 02's, by the plain engine, and what it traced is compared where no B8 0D 21 stands.
+//! document 02's, by the plain engine, and what it traced is compared where no B8 0D 21 stands. So is wrapping mode, and
+//! beside its lines those of the same cases unwrapped, some of which the original does not answer.
 
 #[path = "vectors/decoded.rs"]
 mod decoded;
@@ -35,6 +40,8 @@ mod swept;
 mod targeted;
 #[path = "vectors/traced.rs"]
 mod traced;
+#[path = "vectors/wrapped.rs"]
+mod wrapped;
 
 use compare::answer::Answer;
 use compare::paper;
@@ -73,6 +80,7 @@ fn main() {
     targeted::cases(&mut lines);
     traced::cases(&mut lines);
     swept::cases(&mut lines);
+    wrapped::cases(&mut lines);
     print!("{}", lines.text);
     let count = lines.seen.len();
     eprintln!("{count} answers, made by 'compare/run --vectors SRC'");

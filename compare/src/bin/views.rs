@@ -7,13 +7,18 @@
 //!
 //! - `M`: the byte mask. `L`: the target marks. `O`: overlaps. `A`: arrivals.
 //! - `B`: the data run, which has its mask where the others have marks.
+//! - `l`, `a`: target marks and arrivals in wrapping mode.
+//! - `T`, `F`: target marks and arrivals over the end of memory; `t`, `f`: these in wrapping mode. See `rings.rs`.
 //!
 //! Over the marks of a whole trace the answers are the original's; those that it has none for, refusals
-//! and marks that no trace leaves, are document 01's.
+//! and marks that no trace leaves, are document 01's, and those in wrapping mode document 02's.
+
+#[path = "views/rings.rs"]
+mod rings;
 
 use compare::answer::Answer;
 use compare::original::{traced, viewed};
-use compare::paper::{tracer, views};
+use compare::paper::{Mode, tracer, views};
 use std::collections::HashSet;
 use std::fmt::Write;
 use waterbear::disasm::probe::Graph;
@@ -75,13 +80,26 @@ const RUNS: [(&[u8], &[u8], u32); 6] = [
     (&[1, 2, 3], &[0; LONGEST], 4),
 ];
 
+/// Images, marks and positions in wrapping mode: no wrapped target lies in so short an image, and the refusals are the
+/// same.
+const WRAPPING: [(&[u8], &[u8], u32); 3] = [
+    (&[0x01, 0x80], &[2, 0], 0),
+    (
+        &[0x01, 0x02, 0x00, 0x41, 0x64, 0x80, 0xF9, 0xA0],
+        &[2, 0, 0, 0, 2, 2, 0, 2],
+        0,
+    ),
+    (&[0xA0, 0x00, 0xA0], &[2, 4, 255], 0),
+];
+
 fn main() {
     let mut lines = Lines::default();
     for (image, entries, positions) in TRACED {
         let told = traced::trace(entries, image, ENOUGH).expect("few visits are enough");
         let graph = told.graph.expect("none is cut off");
         let (mut marks, mut order) = (vec![0; image.len()], vec![0; image.len()]);
-        tracer::run(image, &mut marks, &mut order, entries, u32::MAX);
+        let mode = Mode::Unwrapped;
+        tracer::run(mode, image, &mut marks, &mut order, entries, u32::MAX);
         lines.of_trace(image, &marks, positions, &graph);
     }
     for (image, marks, position, room) in ALONE {
@@ -91,6 +109,10 @@ fn main() {
         let given = Given::new(image, mask, position, LONGEST);
         lines.data_run(&given);
     }
+    for (image, marks, position) in WRAPPING {
+        Given::new(image, marks, position, LONGEST).wrapping(&mut lines);
+    }
+    rings::cases(&mut lines);
     print!("{}", lines.text);
     eprintln!(
         "{} views, made by 'compare/run --views SRC'",
@@ -151,7 +173,7 @@ impl Lines {
         let mask = viewed::mask(graph, image);
         for position in positions {
             let given = Given::new(image, marks, *position, LONGEST);
-            let [m, l, o, a] = given.views();
+            let [m, l, o, a] = given.views(Mode::Unwrapped);
             assert_eq!(m, Left::of_bytes(&mask));
             assert_eq!(l, Left::of_bytes(&viewed::target_marks(graph, image)));
             assert_eq!(o, Left::of_places(&viewed::overlaps(graph, *position)));
@@ -215,23 +237,31 @@ impl<'a> Given<'a> {
     }
 
     /// Document 01's mask, target marks, overlaps and arrivals. The first two have no position.
-    fn views(&self) -> [Left; 4] {
+    fn views(&self, mode: Mode) -> [Left; 4] {
         let (image, marks, at) = (self.image, self.marks, self.position);
         let mut all = [(); 4].map(|()| Left::new());
         let [m, l, o, a] = &mut all;
         m.answer = views::mask(image, marks, &mut m.bytes[..self.room]);
-        l.answer = views::target_marks(image, marks, &mut l.bytes[..self.room]);
+        l.answer = views::target_marks(mode, image, marks, &mut l.bytes[..self.room]);
         o.answer = views::overlaps(image, marks, at, &mut o.places[..self.room]);
-        a.answer = views::arrivals(image, marks, at, &mut a.places[..self.room]);
+        a.answer = views::arrivals(mode, image, marks, at, &mut a.places[..self.room]);
         all
     }
 
     fn lines(&self, lines: &mut Lines) {
-        let [m, l, o, a] = self.views();
+        let [m, l, o, a] = self.views(Mode::Unwrapped);
         let whole = Given::new(self.image, self.marks, 0, self.room);
         lines.line('M', &whole, &m);
         lines.line('L', &whole, &l);
         lines.line('O', self, &o);
         lines.line('A', self, &a);
+    }
+
+    /// What uses targets, in wrapping mode.
+    fn wrapping(&self, lines: &mut Lines) {
+        let [_, l, _, a] = self.views(Mode::Wrapping);
+        let whole = Given::new(self.image, self.marks, 0, self.room);
+        lines.line('l', &whole, &l);
+        lines.line('a', self, &a);
     }
 }

@@ -1,7 +1,7 @@
 //! A listing read back by document 02, written out plainly: the image and the marks, or the first bad line.
 
 use super::input::{self, lines};
-use super::{flow, listing, tracer};
+use super::{Mode, flow, listing, tracer};
 use crate::answer::Answer;
 
 /// The most bytes on a `D` line.
@@ -10,7 +10,7 @@ const MOST_BYTES: usize = 16;
 const TRACED: u8 = 2;
 
 /// Fills the rooms up to the length, or leaves them and says why not.
-pub fn read(text: &[u8], length: usize, image: &mut [u8], marks: &mut [u8]) -> Answer {
+pub fn read(mode: Mode, text: &[u8], length: usize, image: &mut [u8], marks: &mut [u8]) -> Answer {
     let answer = |number, value: usize| Answer::new(number, &[value as i64]);
     if length > tracer::LONGEST {
         return answer(Answer::LONG_IMAGE, length);
@@ -21,7 +21,7 @@ pub fn read(text: &[u8], length: usize, image: &mut [u8], marks: &mut [u8]) -> A
     if image.len() < length {
         return answer(Answer::NO_ROOM, length);
     }
-    let mut sheet = Sheet::new(length);
+    let mut sheet = Sheet::new(mode, length);
     let lines = lines(text);
     for (index, line) in lines.iter().enumerate() {
         if let Err(number) = sheet.line(line) {
@@ -37,6 +37,7 @@ pub fn read(text: &[u8], length: usize, image: &mut [u8], marks: &mut [u8]) -> A
 
 /// What the lines so far say.
 struct Sheet {
+    mode: Mode,
     listed: Vec<Option<u8>>,
     marks: Vec<u8>,
     /// The last line's position and letter.
@@ -44,8 +45,9 @@ struct Sheet {
 }
 
 impl Sheet {
-    fn new(length: usize) -> Sheet {
+    fn new(mode: Mode, length: usize) -> Sheet {
         Sheet {
+            mode,
             listed: vec![None; length],
             marks: vec![0; length],
             last: None,
@@ -54,7 +56,7 @@ impl Sheet {
 
     /// One line more, or its refusal.
     fn line(&mut self, line: &[u8]) -> Result<(), u32> {
-        let (letter, at, bytes) = record(line).ok_or(Answer::MALFORMED)?;
+        let (letter, at, bytes) = record(self.mode, line).ok_or(Answer::MALFORMED)?;
         if !self.in_order(at, letter) || self.contradicted(at, &bytes) {
             return Err(Answer::MALFORMED);
         }
@@ -93,7 +95,7 @@ impl Sheet {
 }
 
 /// The letter, the position and the bytes of a line that is well formed.
-fn record(line: &[u8]) -> Option<(u8, usize, Vec<u8>)> {
+fn record(mode: Mode, line: &[u8]) -> Option<(u8, usize, Vec<u8>)> {
     let fields: Vec<&[u8]> = line.split(|byte| *byte == b'\t').collect();
     let [[letter], at, rest @ ..] = &fields[..] else {
         return None;
@@ -103,7 +105,7 @@ fn record(line: &[u8]) -> Option<(u8, usize, Vec<u8>)> {
         b'L' => rest.is_empty().then(Vec::new),
         b'O' | b'A' => places(rest),
         b'D' => data(rest),
-        b'I' => instruction(line, at, rest),
+        b'I' => instruction(mode, line, at, rest),
         _ => None,
     };
     Some((*letter, at, bytes?))
@@ -122,13 +124,13 @@ fn data(fields: &[&[u8]]) -> Option<Vec<u8>> {
     }
 }
 
-/// The bytes are those of one instruction, which ends in memory, and the line is the writer's.
-fn instruction(line: &[u8], at: usize, fields: &[&[u8]]) -> Option<Vec<u8>> {
+/// The bytes are those of one instruction, which ends in memory, and the line is the writer's in the same mode.
+fn instruction(mode: Mode, line: &[u8], at: usize, fields: &[&[u8]]) -> Option<Vec<u8>> {
     let bytes = input::bytes(fields.first()?, 3)?;
     let next = at + flow::size(bytes[0]);
     if at + bytes.len() != next || next > tracer::LONGEST {
         return None;
     }
-    let written = listing::instruction_line(&[vec![0; at], bytes.clone()].concat(), at);
+    let written = listing::instruction_line(mode, &bytes, at);
     (written.as_bytes() == [line, b"\n"].concat()).then_some(bytes)
 }

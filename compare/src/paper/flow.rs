@@ -1,7 +1,7 @@
 //! Document 01's table of first bytes, as far as tracing needs it, and its targets: written out a second
 //! time, by row and column.
 
-use super::{Kind, encode_refusal, kinds};
+use super::{Kind, Mode, encode_refusal, kinds};
 use crate::answer::Answer;
 use crate::original;
 
@@ -68,35 +68,50 @@ pub(super) fn field(kind: Kind, bytes: &[u8]) -> i64 {
     }
 }
 
-/// The address that a field names.
-fn address(kind: Kind, field: i64, next: i64) -> i64 {
+/// The address that a field names. Only a short branch's goes by the mode.
+fn address(mode: Mode, kind: Kind, field: i64, next: i64) -> i64 {
     match kind {
         Wrapping => (next - 1 + field).rem_euclid(65_536),
         Page => next / 4_096 % 16 * 4_096 + field,
         Whole => field,
-        _ => next + field,
+        _ => mode.target(next + field),
     }
 }
 
-fn by_flow(flow: Flow, next: i64, field: impl Fn(Kind) -> i64) -> Vec<i64> {
+fn by_flow(mode: Mode, flow: Flow, next: i64, field: impl Fn(Kind) -> i64) -> Vec<i64> {
+    let named = |kind| address(mode, kind, field(kind), next);
     match flow {
         Stops => vec![],
-        GoesOn => vec![next],
-        Jumps(kind) => vec![address(kind, field(kind), next)],
-        Branches(kind) => vec![address(kind, field(kind), next), next],
+        GoesOn => vec![mode.target(next)],
+        Jumps(kind) => vec![named(kind)],
+        Branches(kind) => vec![named(kind), mode.target(next)],
     }
+}
+
+/// The bytes of the whole instruction at a position of an image.
+pub(super) fn instruction(image: &[u8], position: usize) -> &[u8] {
+    &image[position..position + size(image[position])]
 }
 
 /// The targets of the whole instruction at a position of an image, without the exception.
-pub fn targets_at(image: &[u8], position: usize) -> Vec<i64> {
-    let first = image[position];
-    let next = position + size(first);
-    let bytes = &image[position..next];
-    by_flow(flow(first), next as i64, |kind| field(kind, bytes))
+pub fn targets_at(mode: Mode, image: &[u8], position: usize) -> Vec<i64> {
+    targets_of(mode, instruction(image, position), position)
 }
 
-/// The answer of targets asked for alone.
-pub fn targets(first: u8, fields: [i32; 3], position: u32) -> Answer {
+/// The same, by its bytes.
+pub(super) fn targets_of(mode: Mode, bytes: &[u8], position: usize) -> Vec<i64> {
+    let next = (position + bytes.len()) as i64;
+    by_flow(mode, flow(bytes[0]), next, |kind| field(kind, bytes))
+}
+
+/// Whether no target of the whole instruction at a position leaves memory: then both modes have the same.
+pub fn stays(image: &[u8], position: usize) -> bool {
+    let targets = targets_at(Mode::Unwrapped, image, position);
+    targets.iter().all(|target| (0..MEMORY).contains(target))
+}
+
+/// The answer of targets asked for alone. Refusal 14 is judged on next as it is, in both modes.
+pub fn targets(mode: Mode, first: u8, fields: [i32; 3], position: u32) -> Answer {
     let form = original::form(first);
     let next = i64::from(position) + size(first) as i64;
     if next > MEMORY {
@@ -106,7 +121,7 @@ pub fn targets(first: u8, fields: [i32; 3], position: u32) -> Answer {
         return refusal;
     }
     let last = |_| i64::from(fields[kinds(form).len() - 1]);
-    let targets = by_flow(flow(first), next, last);
+    let targets = by_flow(mode, flow(first), next, last);
     let values: Vec<i64> = [&[targets.len() as i64][..], &targets].concat();
     Answer::new(Answer::DONE, &values)
 }

@@ -1,10 +1,14 @@
-//! Document 01's listing and the listing program's output, written out a second time and plainly.
+//! Document 01's listing, in both modes of document 02, and the listing program's output, written out a second time
+//! and plainly.
 
 use super::input::{self, Input};
-use super::{Kind, fields, flow, kinds, tracer, views};
+use super::{Kind, Mode, fields, flow, kinds, tracer, views};
 use crate::answer::Answer;
 use crate::original;
 use std::fmt::Write;
+
+/// The mode of the listing program.
+const PROGRAM: Mode = Mode::Unwrapped;
 
 /// The whole output of the listing program.
 pub fn output(text: &[u8]) -> String {
@@ -12,7 +16,7 @@ pub fn output(text: &[u8]) -> String {
         Err(_) => "R\t13\n".to_string(),
         Ok(input) => match marks(&input) {
             Err(answer) => refusal(&answer),
-            Ok(marks) => listing(&input.image, &marks, Arrivals::Declined),
+            Ok(marks) => listing(PROGRAM, &input.image, &marks, Arrivals::Declined),
         },
     }
 }
@@ -25,12 +29,12 @@ fn refusal(answer: &Answer) -> String {
     }
 }
 
-/// The marks of a run with the image length as limit, or its refusal.
+/// The marks of the listing program's run, with the image length as limit, or its refusal.
 pub fn marks(input: &Input) -> Result<Vec<u8>, Answer> {
     let length = input.image.len();
     let (mut marks, mut order) = (vec![0; length], vec![0; length]);
-    let limit = length as u32;
-    let answer = tracer::run(&input.image, &mut marks, &mut order, &input.entries, limit);
+    let (image, entries, limit) = (&input.image, &input.entries, length as u32);
+    let answer = tracer::run(PROGRAM, image, &mut marks, &mut order, entries, limit);
     if answer.done() {
         Ok(marks)
     } else {
@@ -50,19 +54,25 @@ impl Arrivals {
 }
 
 /// The listing in lent room, or its refusal.
-pub fn shown(image: &[u8], marks: &[u8], arrivals: Arrivals, room: &mut [u8]) -> Answer {
+pub fn shown(
+    mode: Mode,
+    image: &[u8],
+    marks: &[u8],
+    arrivals: Arrivals,
+    room: &mut [u8],
+) -> Answer {
     views::show(image, marks, room, || {
-        listing(image, marks, arrivals).into_bytes()
+        listing(mode, image, marks, arrivals).into_bytes()
     })
 }
 
 /// The listing of marks that are not damaged.
-pub fn listing(image: &[u8], marks: &[u8], arrivals: Arrivals) -> String {
+pub fn listing(mode: Mode, image: &[u8], marks: &[u8], arrivals: Arrivals) -> String {
     let (mut mask, mut labels) = (vec![0; image.len()], vec![0; image.len()]);
     assert!(views::mask(image, marks, &mut mask).done());
-    assert!(views::target_marks(image, marks, &mut labels).done());
+    assert!(views::target_marks(mode, image, marks, &mut labels).done());
     let arrived = match arrivals {
-        Arrivals::Chosen => arrived(image, marks),
+        Arrivals::Chosen => arrived(mode, image, marks),
         Arrivals::Declined => vec![],
     };
     let mut lines = Lines::default();
@@ -76,7 +86,8 @@ pub fn listing(image: &[u8], marks: &[u8], arrivals: Arrivals) -> String {
             if let Some(from) = arrived.get(at) {
                 lines.places('A', at, from);
             }
-            lines.line('I', at, &instruction(image, at));
+            let bytes = flow::instruction(image, at);
+            lines.line('I', at, &instruction(mode, bytes, at));
             at += 1;
         } else if mask[at] == 0 {
             let run = data_run(image, &mask, at);
@@ -92,10 +103,10 @@ pub fn listing(image: &[u8], marks: &[u8], arrivals: Arrivals) -> String {
 }
 
 /// The arrivals at every position.
-fn arrived(image: &[u8], marks: &[u8]) -> Vec<Vec<u32>> {
+fn arrived(mode: Mode, image: &[u8], marks: &[u8]) -> Vec<Vec<u32>> {
     let mut lists = vec![vec![]; image.len()];
     for from in views::followed(image, marks) {
-        let mut targets = flow::targets_at(image, from);
+        let mut targets = flow::targets_at(mode, image, from);
         targets.dedup();
         for target in targets {
             if (0..image.len() as i64).contains(&target) {
@@ -111,16 +122,15 @@ fn data_run<'a>(image: &'a [u8], mask: &[u8], at: usize) -> &'a [u8] {
     &image[at..at + length as usize]
 }
 
-/// The line of the instruction at a position.
-pub fn instruction_line(image: &[u8], at: usize) -> String {
+/// The line of an instruction of these bytes at a position.
+pub fn instruction_line(mode: Mode, bytes: &[u8], at: usize) -> String {
     let mut lines = Lines::default();
-    lines.line('I', at, &instruction(image, at));
+    lines.line('I', at, &instruction(mode, bytes, at));
     lines.0
 }
 
 /// The bytes, the mnemonic and the operands of the instruction at a position.
-fn instruction(image: &[u8], at: usize) -> Vec<String> {
-    let bytes = &image[at..at + flow::size(image[at])];
+fn instruction(mode: Mode, bytes: &[u8], at: usize) -> Vec<String> {
     let form = original::form(bytes[0]);
     let name = original::name(form);
     let mnemonic = name.split('_').next().unwrap_or(name).to_lowercase();
@@ -130,7 +140,7 @@ fn instruction(image: &[u8], at: usize) -> Vec<String> {
         Kind::Cell => format!("{field:03X}"),
         Kind::Bit => format!("{field}"),
         Kind::Register => format!("@R{field}"),
-        _ => target(flow::targets_at(image, at)[0]),
+        _ => target(flow::targets_of(mode, bytes, at)[0]),
     });
     [hex(bytes), mnemonic].into_iter().chain(operands).collect()
 }

@@ -1,15 +1,15 @@
 //! Document 02's engine that sweeps, written out plainly, over the plain start and step.
 
-use super::tracer;
+use super::{Mode, tracer};
 use crate::answer::Answer;
 
-pub fn sweep(image: &[u8], marks: &mut [u8], entries: &[u32]) -> Answer {
+pub fn sweep(mode: Mode, image: &[u8], marks: &mut [u8], entries: &[u32]) -> Answer {
     let started = tracer::start(image, marks, entries);
     if !started.done() {
         return started;
     }
     let mut sweeps = 1;
-    while once(image, marks) > 0 {
+    while once(mode, image, marks) > 0 {
         sweeps += 1;
     }
     let steps = tracer::traced(image, marks);
@@ -17,7 +17,7 @@ pub fn sweep(image: &[u8], marks: &mut [u8], entries: &[u32]) -> Answer {
 }
 
 /// One sweep: how many positions it takes. A step says no to those that are not waiting, and to those cut off.
-pub fn once(image: &[u8], marks: &mut [u8]) -> usize {
-    let is_taken = |at: &u32| tracer::step(image, marks, *at).done();
+pub fn once(mode: Mode, image: &[u8], marks: &mut [u8]) -> usize {
+    let is_taken = |at: &u32| tracer::step(mode, image, marks, *at).done();
     (0..image.len() as u32).filter(is_taken).count()
 }

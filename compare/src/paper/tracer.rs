@@ -1,6 +1,6 @@
-//! Document 01's start, step and run, written out a second time and plainly.
+//! Document 01's start, step and run, in both modes of document 02, written out a second time and plainly.
 
-use super::flow;
+use super::{Mode, flow};
 use crate::answer::Answer;
 
 /// The longest image.
@@ -78,16 +78,16 @@ pub(super) fn is_exempt(image: &[u8], marks: &[u8], at: usize) -> bool {
 }
 
 /// The targets of a position when it is taken up.
-fn targets(image: &[u8], marks: &[u8], at: usize) -> Vec<i64> {
+fn targets(mode: Mode, image: &[u8], marks: &[u8], at: usize) -> Vec<i64> {
     match is_exempt(image, marks, at) {
         true => vec![],
-        false => flow::targets_at(image, at),
+        false => flow::targets_at(mode, image, at),
     }
 }
 
 /// Takes up a position: its new mark, and what became waiting.
-fn take_up(image: &[u8], marks: &mut [u8], at: usize) -> (u8, Vec<u32>) {
-    let targets = targets(image, marks, at);
+fn take_up(mode: Mode, image: &[u8], marks: &mut [u8], at: usize) -> (u8, Vec<u32>) {
+    let targets = targets(mode, image, marks, at);
     let mark = match is_exempt(image, marks, at) {
         true => UNFOLLOWED,
         false => TRACED,
@@ -97,15 +97,15 @@ fn take_up(image: &[u8], marks: &mut [u8], at: usize) -> (u8, Vec<u32>) {
 }
 
 /// The damage that a step finds beside its position.
-fn damage(image: &[u8], marks: &[u8], at: usize) -> Option<usize> {
+fn damage(mode: Mode, image: &[u8], marks: &[u8], at: usize) -> Option<usize> {
     let damaged = |at: &usize| marks[*at] > UNFOLLOWED;
     let before = after_flash(image, at).then(|| at - 2).filter(damaged);
     let inside = |target: &i64| (0..image.len() as i64).contains(target);
-    let targets = targets(image, marks, at).into_iter().filter(inside);
+    let targets = targets(mode, image, marks, at).into_iter().filter(inside);
     before.or_else(|| targets.map(|target| target as usize).find(damaged))
 }
 
-pub fn step(image: &[u8], marks: &mut [u8], position: u32) -> Answer {
+pub fn step(mode: Mode, image: &[u8], marks: &mut [u8], position: u32) -> Answer {
     if let Some(refusal) = sizes(image, marks) {
         return refusal;
     }
@@ -120,14 +120,15 @@ pub fn step(image: &[u8], marks: &mut [u8], position: u32) -> Answer {
     if let Some(refusal) = cut_off(image, at) {
         return refusal;
     }
-    if let Some(place) = damage(image, marks, at) {
+    if let Some(place) = damage(mode, image, marks, at) {
         return Answer::new(Answer::DAMAGED, &[place as i64]);
     }
-    let (mark, noted) = take_up(image, marks, at);
+    let (mark, noted) = take_up(mode, image, marks, at);
     Answer::new(Answer::DONE, &[i64::from(mark), noted.len() as i64])
 }
 
 pub fn run(
+    mode: Mode,
     image: &[u8],
     marks: &mut [u8],
     order: &mut [u32],
@@ -153,7 +154,7 @@ pub fn run(
         if let Some(refusal) = cut_off(image, at) {
             break refusal;
         }
-        noted.extend(take_up(image, marks, at).1);
+        noted.extend(take_up(mode, image, marks, at).1);
         steps += 1;
     };
     order[..noted.len()].copy_from_slice(&noted);

@@ -1,5 +1,6 @@
-//! Document 01's views, written out a second time and plainly.
+//! Document 01's views, in both modes of document 02 where they use a target, written out a second time and plainly.
 
+use super::Mode;
 use super::flow::{self, Flow};
 use super::tracer::{self, UNFOLLOWED};
 use crate::answer::Answer;
@@ -46,6 +47,11 @@ fn traced(image: &[u8], marks: &[u8]) -> impl Iterator<Item = usize> {
     (0..image.len()).filter(|at| tracer::is_traced(marks[*at]))
 }
 
+/// Whether nothing that is traced leaves memory, by marks that are not damaged.
+pub fn stays(image: &[u8], marks: &[u8]) -> bool {
+    traced(image, marks).all(|at| flow::stays(image, at))
+}
+
 /// The mask, of marks that are not damaged.
 pub fn mask_of(image: &[u8], marks: &[u8]) -> Vec<u8> {
     let mut mask = vec![0; image.len()];
@@ -60,18 +66,18 @@ pub fn mask(image: &[u8], marks: &[u8], room: &mut [u8]) -> Answer {
 }
 
 /// What the instruction at a position names: of a jump, branch or call the first target.
-fn named(image: &[u8], at: usize) -> Option<i64> {
+fn named(mode: Mode, image: &[u8], at: usize) -> Option<i64> {
     match flow::flow(image[at]) {
-        Flow::Jumps(_) | Flow::Branches(_) => flow::targets_at(image, at).first().copied(),
+        Flow::Jumps(_) | Flow::Branches(_) => flow::targets_at(mode, image, at).first().copied(),
         Flow::Stops | Flow::GoesOn => None,
     }
 }
 
-pub fn target_marks(image: &[u8], marks: &[u8], room: &mut [u8]) -> Answer {
+pub fn target_marks(mode: Mode, image: &[u8], marks: &[u8], room: &mut [u8]) -> Answer {
     show(image, marks, room, || {
         let mut labels = vec![0; image.len()];
         let naming = traced(image, marks).filter(|at| !tracer::is_exempt(image, marks, *at));
-        for target in naming.filter_map(|at| named(image, at)) {
+        for target in naming.filter_map(|at| named(mode, image, at)) {
             if (0..image.len() as i64).contains(&target) {
                 labels[target as usize] = 1;
             }
@@ -103,11 +109,11 @@ pub fn overlaps(image: &[u8], marks: &[u8], position: u32, room: &mut [u32]) -> 
 }
 
 /// The arrivals at a position, of marks that are not damaged.
-pub fn arrivals_at(image: &[u8], marks: &[u8], at: usize) -> Vec<u32> {
+pub fn arrivals_at(mode: Mode, image: &[u8], marks: &[u8], at: usize) -> Vec<u32> {
     if at >= image.len() {
         return vec![];
     }
-    let arrives = |from: &usize| flow::targets_at(image, *from).contains(&(at as i64));
+    let arrives = |from: &usize| flow::targets_at(mode, image, *from).contains(&(at as i64));
     let arriving = followed(image, marks).filter(arrives);
     arriving.map(|from| from as u32).collect()
 }
@@ -117,9 +123,9 @@ pub(super) fn followed(image: &[u8], marks: &[u8]) -> impl Iterator<Item = usize
     traced(image, marks).filter(|at| marks[*at] != UNFOLLOWED)
 }
 
-pub fn arrivals(image: &[u8], marks: &[u8], position: u32, room: &mut [u32]) -> Answer {
+pub fn arrivals(mode: Mode, image: &[u8], marks: &[u8], position: u32, room: &mut [u32]) -> Answer {
     show(image, marks, room, || {
-        arrivals_at(image, marks, position as usize)
+        arrivals_at(mode, image, marks, position as usize)
     })
 }
 

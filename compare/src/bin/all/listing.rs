@@ -6,8 +6,11 @@ use crate::sums::{Call, Sums};
 use compare::answer::Answer;
 use compare::images::TELLING;
 use compare::original::listed;
+use compare::paper::Mode;
 use compare::paper::listing::{self as paper, Arrivals};
 
+/// The original's mode.
+const MODE: Mode = Mode::Unwrapped;
 /// More than the longest listing of an image of up to three bytes.
 const ROOM: usize = 256;
 /// What stands in lent memory before.
@@ -20,7 +23,7 @@ const BACK: usize = 4;
 struct Outcome(Answer, String);
 
 pub fn all(sums: &mut Sums, image: &[u8], entries: &[u32], ran: &Ran) {
-    let plain = paper::listing(image, &ran.marks, Arrivals::Chosen);
+    let plain = paper::listing(MODE, image, &ran.marks, Arrivals::Chosen);
     let told = (ran.graph.is_some() && is_asked(image)).then(|| listed::text(entries, image, true));
     let told_without = told.as_deref().map(without_arrivals);
     let declined = without_arrivals(&plain);
@@ -52,7 +55,7 @@ fn one(
     (plain, told): (&str, Option<String>),
 ) {
     let mut room = [OLD; ROOM];
-    let answer = ours::listing(image, marks, arrivals, &mut room);
+    let answer = ours::listing(MODE, image, marks, arrivals, &mut room);
     let ours = Outcome(answer, text_of(&room));
     let outcome = |text: &str| {
         let answer = Answer::new(Answer::DONE, &[text.len() as i64]);
@@ -86,7 +89,8 @@ fn read_back(sums: &mut Sums, image: &[u8], marks: &[u8], text: &str) {
     );
     let (mut back, mut back_marks) = ([OLD; BACK], [OLD; BACK]);
     let length = image.len() as u32;
-    let answer = ours::read_back(text.as_bytes(), length, &mut back, &mut back_marks);
+    let text_bytes = text.as_bytes();
+    let answer = ours::read_back(MODE, text_bytes, length, &mut back, &mut back_marks);
     let ours = (answer, back, back_marks);
     sums.judge(Call::ReadBack, &plain, None, &ours, || {
         format!("{image:02X?} marks {marks:?}: {text:?}")

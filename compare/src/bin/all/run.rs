@@ -4,7 +4,7 @@ use crate::ours;
 use crate::sums::{Call, Sums};
 use compare::answer::Answer;
 use compare::original::traced::{self, Told};
-use compare::paper::tracer;
+use compare::paper::{Mode, tracer};
 use compare::seen::Seen;
 use waterbear::disasm::probe::Graph;
 
@@ -30,7 +30,7 @@ struct Outcome {
 }
 
 /// A function that runs, ours or document 01's.
-type Run = fn(&[u8], &mut [u8], &mut [u32], &[u32], u32) -> Answer;
+type Run = fn(Mode, &[u8], &mut [u8], &mut [u32], &[u32], u32) -> Answer;
 
 pub fn one(sums: &mut Sums, image: &[u8], entries: &[u32]) -> Ran {
     let plain = outcome(tracer::run, image, entries);
@@ -64,7 +64,8 @@ fn outcome(run: Run, image: &[u8], entries: &[u32]) -> Outcome {
         vec![OLD_MARK; image.len() + 1],
         vec![OLD_PLACE; image.len() + 1],
     );
-    let answer = run(image, &mut marks, &mut order, entries, u32::MAX);
+    let mode = Mode::Unwrapped;
+    let answer = run(mode, image, &mut marks, &mut order, entries, u32::MAX);
     Outcome {
         answer,
         marks,

@@ -5,9 +5,11 @@ use crate::run::Ran;
 use crate::sums::{Call, Sums};
 use compare::answer::Answer;
 use compare::original::viewed;
-use compare::paper::views as paper;
+use compare::paper::{Mode, views as paper};
 use waterbear::disasm::probe::Graph;
 
+/// The original's mode.
+const MODE: Mode = Mode::Unwrapped;
 /// Room for every view of an image of up to three bytes, and one place more.
 const ROOM: usize = 4;
 
@@ -45,8 +47,8 @@ impl Views<'_> {
     fn target_marks(&self, sums: &mut Sums) {
         let told = |graph| viewed::target_marks(graph, self.image);
         let told = self.graph.map(told);
-        let ours = shown(|room| ours::target_marks(self.image, self.marks, room));
-        let plain = shown(|room| paper::target_marks(self.image, self.marks, room));
+        let ours = shown(|room| ours::target_marks(MODE, self.image, self.marks, room));
+        let plain = shown(|room| paper::target_marks(MODE, self.image, self.marks, room));
         self.judge(sums, Call::TargetMarks, 0, plain, told, ours);
     }
 
@@ -60,8 +62,8 @@ impl Views<'_> {
     fn arrivals(&self, sums: &mut Sums, position: u32) {
         let told = |graph| viewed::arrivals(graph, self.image, position);
         let told = self.graph.and_then(told);
-        let ours = shown(|room| ours::arrivals(self.image, self.marks, position, room));
-        let plain = shown(|room| paper::arrivals(self.image, self.marks, position, room));
+        let ours = shown(|room| ours::arrivals(MODE, self.image, self.marks, position, room));
+        let plain = shown(|room| paper::arrivals(MODE, self.image, self.marks, position, room));
         self.judge(sums, Call::Arrivals, position, plain, told, ours);
     }
 

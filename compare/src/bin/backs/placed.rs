@@ -3,7 +3,7 @@
 
 use super::stored::Case;
 use compare::answer::Answer;
-use compare::paper::listing;
+use compare::paper::{Mode, listing};
 
 const MALFORMED: u32 = Answer::MALFORMED;
 const PAST_END: u32 = Answer::PAST_END;
@@ -338,8 +338,7 @@ fn data() -> Vec<Wrong> {
 }
 
 fn end() -> Vec<Wrong> {
-    let line =
-        |at: usize, bytes: &[u8]| listing::instruction_line(&[&vec![0; at], bytes].concat(), at);
+    let line = |at: usize, bytes: &[u8]| listing::instruction_line(Mode::Unwrapped, bytes, at);
     let rows = END.iter();
     rows.map(|(about, at, bytes, length, number)| (*about, line(*at, bytes), *length, *number, 1))
         .collect()

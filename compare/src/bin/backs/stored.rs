@@ -1,7 +1,7 @@
 //! A case and its lines in the stored list.
 
 use compare::answer::Answer;
-use compare::paper::back;
+use compare::paper::{Mode, back};
 
 /// What stands in the rooms before.
 const OLD: u8 = b'~';
@@ -11,6 +11,7 @@ const IN_LINE: usize = 32;
 #[derive(Clone)]
 pub struct Case {
     about: String,
+    mode: Mode,
     text: Vec<u8>,
     length: usize,
     /// How long the rooms are.
@@ -24,11 +25,16 @@ impl Case {
         let byte = |c| u8::try_from(u32::from(c)).expect("a character for each byte");
         Case {
             about: about.to_string(),
+            mode: Mode::Unwrapped,
             text: text.chars().map(byte).collect(),
             length,
             image: length,
             marks: length,
         }
+    }
+
+    pub fn in_mode(self, mode: Mode) -> Case {
+        Case { mode, ..self }
     }
 
     pub fn in_rooms(self, image: usize, marks: usize) -> Case {
@@ -42,7 +48,8 @@ impl Case {
     /// The answer, and the rooms afterwards. What is not to be written must stay.
     pub fn read(&self) -> (Answer, Vec<u8>, Vec<u8>) {
         let (mut image, mut marks) = (vec![OLD; self.image], vec![OLD; self.marks]);
-        let answer = back::read(&self.text, self.length, &mut image, &mut marks);
+        let (mode, length) = (self.mode, self.length);
+        let answer = back::read(mode, &self.text, length, &mut image, &mut marks);
         let written = if answer.done() { self.length } else { 0 };
         let stays = |room: &[u8]| room[written..].iter().all(|byte| *byte == OLD);
         assert!(stays(&image) && stays(&marks), "{}", self.about);
@@ -63,6 +70,9 @@ impl Case {
         let (answer, image, marks) = self.read();
         let text = self.text.split_inclusive(|byte| *byte == b'\n');
         let mut lines = format!("#{}\n", self.about);
+        if self.mode == Mode::Wrapping {
+            lines += "W\n";
+        }
         lines.extend(text.map(text_line));
         lines += &format!("N{:08X}\n", self.length);
         for (letter, room) in [('R', self.image), ('K', self.marks)] {

@@ -3,10 +3,12 @@
 use super::example;
 use super::stored::Case;
 use compare::game::{self, VECTORS};
-use compare::paper::flow;
 use compare::paper::input::Input;
 use compare::paper::listing::{self, Arrivals};
+use compare::paper::{Mode, flow};
 
+/// The mode, but for the cases of the other.
+const MODE: Mode = Mode::Unwrapped;
 /// The game-like image has at least so many bytes.
 const GAME: usize = 1_600;
 
@@ -68,7 +70,8 @@ const HIGH: [(&str, [u8; 2], [u8; 2]); 6] = [
 ];
 
 pub fn cases() -> Vec<Case> {
-    let example = listing::listing(&example::IMAGE, &example::MARKS, Arrivals::Declined);
+    let (image, marks) = (&example::IMAGE, &example::MARKS);
+    let example = listing::listing(MODE, image, marks, Arrivals::Declined);
     assert_eq!(example, example::TEXT);
     let short = SHORT
         .iter()
@@ -77,12 +80,12 @@ pub fn cases() -> Vec<Case> {
         .iter()
         .map(|(about, code, marks)| (*about, at_end(code), at_end(marks)));
     let made = short.chain(high).chain(data());
-    let small = made.flat_map(|(about, image, marks)| variants(about, &image, &marks));
+    let small = made.flat_map(|(about, image, marks)| variants(MODE, about, &image, &marks));
     small.chain([every_first_byte(), game()]).collect()
 }
 
 /// Zeros up to the end of memory.
-fn at_end(bytes: &[u8]) -> Vec<u8> {
+pub fn at_end(bytes: &[u8]) -> Vec<u8> {
     [vec![0; 65_536 - bytes.len()], bytes.to_vec()].concat()
 }
 
@@ -114,9 +117,9 @@ fn data() -> Vec<(&'static str, Vec<u8>, Vec<u8>)> {
 
 /// Without arrivals and with them, with the last byte 10 and without. The image is restored, and of the marks
 /// those of instructions.
-fn variants(about: &str, image: &[u8], marks: &[u8]) -> Vec<Case> {
-    let plain = listing::listing(image, marks, Arrivals::Declined);
-    let whole = listing::listing(image, marks, Arrivals::Chosen);
+pub fn variants(mode: Mode, about: &str, image: &[u8], marks: &[u8]) -> Vec<Case> {
+    let plain = listing::listing(mode, image, marks, Arrivals::Declined);
+    let whole = listing::listing(mode, image, marks, Arrivals::Chosen);
     let mut cases = vec![Case::new(about, &plain, image.len())];
     if whole != plain {
         cases.push(Case::new(
@@ -132,6 +135,7 @@ fn variants(about: &str, image: &[u8], marks: &[u8]) -> Vec<Case> {
             image.len(),
         ));
     }
+    let cases: Vec<Case> = cases.into_iter().map(|case| case.in_mode(mode)).collect();
     for case in &cases {
         check(case, image, marks);
     }
@@ -154,7 +158,7 @@ fn every_first_byte() -> Case {
         image.extend(&bytes[..size]);
         marks.extend(&[2, 0, 0][..size]);
     }
-    let text = listing::listing(&image, &marks, Arrivals::Declined);
+    let text = listing::listing(MODE, &image, &marks, Arrivals::Declined);
     let case = Case::new("every first byte", &text, image.len());
     check(&case, &image, &marks);
     case
@@ -165,7 +169,7 @@ fn game() -> Case {
     let entries = VECTORS.map(|at| at as u32).to_vec();
     let input = Input { entries, image };
     let marks = listing::marks(&input).expect("no instruction is cut off");
-    let text = listing::listing(&input.image, &marks, Arrivals::Chosen);
+    let text = listing::listing(MODE, &input.image, &marks, Arrivals::Chosen);
     let case = Case::new("a game-like image", &text, input.image.len());
     check(&case, &input.image, &marks);
     case

@@ -4,7 +4,7 @@
 use super::stored::{Asked, Case};
 use compare::original::{self, traced, viewed};
 use compare::paper::input::{self, Input};
-use compare::paper::{fields, flow, listing, views};
+use compare::paper::{Mode, fields, flow, listing, views};
 use waterbear::disasm::probe::Graph;
 
 /// Visits of the original for each byte of an image, and more.
@@ -39,7 +39,7 @@ fn whole(input: &Input, graph: &Graph) {
     let marks = listing::marks(input).expect("it is not cut off");
     let (mut mask, mut labels) = (vec![0; image.len()], vec![0; image.len()]);
     assert!(views::mask(image, &marks, &mut mask).done());
-    assert!(views::target_marks(image, &marks, &mut labels).done());
+    assert!(views::target_marks(Mode::Unwrapped, image, &marks, &mut labels).done());
     assert_eq!(mask, viewed::mask(graph, image));
     assert_eq!(labels, viewed::target_marks(graph, image));
     let (traced, others): (Vec<usize>, Vec<usize>) =

@@ -1,6 +1,7 @@
 //! A case and its lines in the stored list.
 
 use super::sum;
+use compare::paper::Mode;
 use compare::paper::input;
 use compare::paper::listing::{self, Arrivals};
 
@@ -34,6 +35,8 @@ pub enum Asked {
 pub struct Case {
     pub about: String,
     pub asked: Asked,
+    /// The listing program has the unwrapped one.
+    mode: Mode,
     parts: Vec<(char, usize, String)>,
 }
 
@@ -45,8 +48,14 @@ impl Case {
         Case {
             about,
             asked: Asked::Output,
+            mode: Mode::Unwrapped,
             parts,
         }
+    }
+
+    pub fn in_mode(mut self, mode: Mode) -> Case {
+        self.mode = mode;
+        self
     }
 
     /// Of an image and marks, in hex.
@@ -94,12 +103,15 @@ impl Case {
     }
 
     fn listing(&self, arrivals: Arrivals) -> String {
-        listing::listing(&self.image(), &self.marks(), arrivals)
+        listing::listing(self.mode, &self.image(), &self.marks(), arrivals)
     }
 
     pub fn lines(&self) -> String {
         let output = self.output();
         let mut lines = format!("#{}\n", self.about);
+        if self.mode == Mode::Wrapping {
+            lines += "W\n";
+        }
         for (letter, times, part) in &self.parts {
             if *times != 1 {
                 lines += &format!("N{times}\n");

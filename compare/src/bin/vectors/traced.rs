@@ -5,7 +5,7 @@ use crate::Lines;
 use crate::packed::{self, LONGEST, OLD_MARK, OLD_PLACE};
 use compare::images::{self, KINDS};
 use compare::original::traced;
-use compare::paper::tracer;
+use compare::paper::{Mode, tracer};
 use compare::random::Random;
 use compare::seen::Seen;
 
@@ -75,7 +75,8 @@ pub fn cases(lines: &mut Lines) {
 fn one(lines: &mut Lines, image: &[u8], listed: &[u32]) {
     let entries = packed::entries(listed);
     let (mut marks, mut order) = ([OLD_MARK; LONGEST], [OLD_PLACE; LONGEST]);
-    let answer = tracer::run(image, &mut marks, &mut order, &entries, NO_LIMIT);
+    let mode = Mode::Unwrapped;
+    let answer = tracer::run(mode, image, &mut marks, &mut order, &entries, NO_LIMIT);
     let told = traced::trace(&entries, image, ENOUGH).expect("few visits are enough");
     let known = told.unfollowed.is_some();
     let seen = Seen::of(&answer, &marks[..image.len()], &order, known);
