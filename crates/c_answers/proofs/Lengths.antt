@@ -56,17 +56,17 @@ ended image stopped s t n vs e = let z : _≡_ {A = ℕ} 0 1 = cc in absurd (ome
 ended image (cutOff p) s t n vs e = cc
 
 module _ (image marks : List ℕ) (i : length image < 2 ^ 63) (m : length marks < 2 ^ 63) where
-  pub started-small : (entries : List ℕ) (s : Started) → startedOf s ≡ startAnswer image marks entries → lengthInStarted s < 2 ^ 63
+  pub started-small : (entries pins : List ℕ) (s : Started) → startedOf s ≡ startAnswer image marks entries pins → lengthInStarted s < 2 ^ 63
   unfolding startAnswer
-  started-small entries (started.Set n) e = omega arith
-  started-small entries (started.LongImage n) e = carries Small _ _ 1 (pos n ∷ []) (this i, (this m, tt)) e (omega arith) n refl
-  started-small entries (started.ShortMarks n) e = carries Small _ _ 2 (pos n ∷ []) (this i, (this m, tt)) e (omega arith) n refl
+  started-small entries pins (started.Set n) e = omega arith
+  started-small entries pins (started.LongImage n) e = carries Small _ _ 1 (pos n ∷ []) (this i, (this m, tt)) e (omega arith) n refl
+  started-small entries pins (started.ShortMarks n) e = carries Small _ _ 2 (pos n ∷ []) (this i, (this m, tt)) e (omega arith) n refl
 
-  pub swept-small : (mode : Mode) (entries : List ℕ) (s : Swept) → sweptOf s ≡ sweepAnswer mode image marks entries → lengthInSwept s < 2 ^ 63
+  pub swept-small : (mode : Mode) (entries pins : List ℕ) (s : Swept) → sweptOf s ≡ sweepAnswer mode image marks entries pins → lengthInSwept s < 2 ^ 63
   unfolding sweepAnswer
-  swept-small mode entries (swept.Ended t) e = omega arith
-  swept-small mode entries (swept.LongImage n) e = carries Small _ _ 1 (pos n ∷ []) (this i, (this m, tt)) e (omega arith) n refl
-  swept-small mode entries (swept.ShortMarks n) e = carries Small _ _ 2 (pos n ∷ []) (this i, (this m, tt)) e (omega arith) n refl
+  swept-small mode entries pins (swept.Ended t) e = omega arith
+  swept-small mode entries pins (swept.LongImage n) e = carries Small _ _ 1 (pos n ∷ []) (this i, (this m, tt)) e (omega arith) n refl
+  swept-small mode entries pins (swept.ShortMarks n) e = carries Small _ _ 2 (pos n ∷ []) (this i, (this m, tt)) e (omega arith) n refl
 
   steps-each : (mode : Mode) (p : ℕ) → Each Small (stepRefusals mode image marks p)
   unfolding stepRefusals
@@ -82,15 +82,15 @@ module _ (image marks : List ℕ) (i : length image < 2 ^ 63) (m : length marks 
   stepped-small mode p (stepped.Cut c) e = omega arith
   stepped-small mode p (stepped.Damaged q) e = omega arith
 
-  module _ (mode : Mode) (order entries : List ℕ) (limit : ℕ) (o : length order < 2 ^ 63) where
-    refused-small : (k n : ℕ) → k < 4 → refused k (pos n ∷ []) ≡ runAnswer mode image marks order entries limit → n < 2 ^ 63
+  module _ (mode : Mode) (order entries pins : List ℕ) (limit : ℕ) (o : length order < 2 ^ 63) where
+    refused-small : (k n : ℕ) → k < 4 → refused k (pos n ∷ []) ≡ runAnswer mode image marks order entries pins limit → n < 2 ^ 63
     unfolding runAnswer
     refused-small k n h e =
-        let out = outcomeOf mode image marks entries limit in
+        let out = outcomeOf mode image marks entries pins limit in
         let f = ended image (out .end) (steps out) (length (noted out)) k (pos n ∷ []) in
         carries Small (runRefusals image marks order) tt k (pos n ∷ []) (this i, (this m, (this o, tt))) (begun (runJudged image marks order) (ranAnswer image out) k (pos n ∷ []) f h e) h n refl
 
-    pub ran-small : (d : Ran) → ranOf d ≡ runAnswer mode image marks order entries limit → lengthInRan d < 2 ^ 63
+    pub ran-small : (d : Ran) → ranOf d ≡ runAnswer mode image marks order entries pins limit → lengthInRan d < 2 ^ 63
     ran-small (ran.Finished c) e = omega arith
     ran-small (ran.Stopped c) e = omega arith
     ran-small (ran.LongImage n) e = refused-small 1 n (omega arith) e

@@ -11,11 +11,11 @@ use crate::trace_replies;
 use instruction::Mode;
 
 // Accepted: the number of positions set.
-pub fn start(image: &[u8], marks: &mut [u8], entries: &[u32]) -> Reply
-    ensures { λ r. ⌜ r ≡ replyOf countValues (startAnswer (now (image .entry)) (now (marks .entry)) (now (entries .entry))) ⌝ }
-    ensures { λ _. ⌜ now (marks .exit) ≡ startMarks (now (image .entry)) (now (marks .entry)) (now (entries .entry)) ⌝ }
+pub fn start(image: &[u8], marks: &mut [u8], entries: &[u32], pins: &[u32]) -> Reply
+    ensures { λ r. ⌜ r ≡ replyOf countValues (startAnswer (now (image .entry)) (now (marks .entry)) (now (entries .entry)) (now (pins .entry))) ⌝ }
+    ensures { λ _. ⌜ now (marks .exit) ≡ startMarks (now (image .entry)) (now (marks .entry)) (now (entries .entry)) (now (pins .entry)) ⌝ }
 {
-    trace_replies::started(trace::start::start(image, marks, entries))
+    trace_replies::started(trace::start::start(image, marks, entries, pins))
 }
 
 // Accepted: the new mark, and how many positions became waiting.
@@ -33,19 +33,24 @@ pub fn run(
     marks: &mut [u8],
     order: &mut [u32],
     entries: &[u32],
+    pins: &[u32],
     limit: u32,
 ) -> Reply
-    ensures { λ r. ⌜ r ≡ replyOf runValues (runAnswer mode (now (image .entry)) (now (marks .entry)) (now (order .entry)) (now (entries .entry)) limit) ⌝ }
-    ensures { λ _. ⌜ now (marks .exit) ≡ runMarks mode (now (image .entry)) (now (marks .entry)) (now (order .entry)) (now (entries .entry)) limit ⌝ }
-    ensures { λ _. ⌜ now (order .exit) ≡ runOrder mode (now (image .entry)) (now (marks .entry)) (now (order .entry)) (now (entries .entry)) limit ⌝ }
+    ensures { λ r.
+        ⌜ r
+        ≡ replyOf runValues (runAnswer mode (now (image .entry)) (now (marks .entry)) (now (order .entry)) (now (entries .entry)) (now (pins .entry)) limit) ⌝ }
+    ensures { λ _.
+        ⌜ now (marks .exit) ≡ runMarks mode (now (image .entry)) (now (marks .entry)) (now (order .entry)) (now (entries .entry)) (now (pins .entry)) limit ⌝ }
+    ensures { λ _.
+        ⌜ now (order .exit) ≡ runOrder mode (now (image .entry)) (now (marks .entry)) (now (order .entry)) (now (entries .entry)) (now (pins .entry)) limit ⌝ }
 {
-    trace_replies::ran(trace::run::run(mode, image, marks, order, entries, limit))
+    trace_replies::ran(trace::run::run(mode, image, marks, order, entries, pins, limit))
 }
 
 // Accepted: the sweeps, the last one counted, and the steps.
-pub fn sweep(mode: Mode, image: &[u8], marks: &mut [u8], entries: &[u32]) -> Reply
-    ensures { λ r. ⌜ r ≡ replyOf sweepValues (sweepAnswer mode (now (image .entry)) (now (marks .entry)) (now (entries .entry))) ⌝ }
-    ensures { λ _. ⌜ now (marks .exit) ≡ sweepLeaves mode (now (image .entry)) (now (marks .entry)) (now (entries .entry)) ⌝ }
+pub fn sweep(mode: Mode, image: &[u8], marks: &mut [u8], entries: &[u32], pins: &[u32]) -> Reply
+    ensures { λ r. ⌜ r ≡ replyOf sweepValues (sweepAnswer mode (now (image .entry)) (now (marks .entry)) (now (entries .entry)) (now (pins .entry))) ⌝ }
+    ensures { λ _. ⌜ now (marks .exit) ≡ sweepLeaves mode (now (image .entry)) (now (marks .entry)) (now (entries .entry)) (now (pins .entry)) ⌝ }
 {
-    trace_replies::swept(sweep::sweep::sweep(mode, image, marks, entries))
+    trace_replies::swept(sweep::sweep::sweep(mode, image, marks, entries, pins))
 }

@@ -1,7 +1,7 @@
 -- Every output fits: a refusal has at most six bytes, a listing sixty for each position.
 -- Assumes nothing.
 use mathlib.Core.Path.{_≡_, refl, sym, ap, _∙_}
-use mathlib.Core.List.{List}
+use mathlib.Core.List.{List, []}
 use mathlib.Core.Logic.{_⊎_, inl, inr}
 use Prim.Native.Nat.{ℕ, _≤_, _<_}
 use native.Mathlib.Omega.{arith}
@@ -53,8 +53,8 @@ shown-fits (refused n vs) f g = omega (arith, g n vs refl)
 listed : (image entries out : List ℕ) → length image ≤ 16384 → Bytes image → tracedText image entries ≡ accepted out → length out ≤ 983040
 unfolding tracedText
 listed image entries out h B e =
-    let m = runMarks Unwrapped image (lentRoom image) (lentRoom image) entries (length image) in
-    let a = or-accepted (runAnswer Unwrapped image (lentRoom image) (lentRoom image) entries (length image)) (judge (viewRefusals image m) (listingOf Unwrapped image m Declined)) out e in
+    let m = runMarks Unwrapped image (lentRoom image) (lentRoom image) entries [] (length image) in
+    let a = or-accepted (runAnswer Unwrapped image (lentRoom image) (lentRoom image) entries [] (length image)) (judge (viewRefusals image m) (listingOf Unwrapped image m Declined)) out e in
     let f : listingOf Unwrapped image m Declined ≡ out = accepts (viewRefusals image m) (listingOf Unwrapped image m Declined) out (a .1) in
     omega (arith, ap length f, listing-bound Unwrapped image m B)
 

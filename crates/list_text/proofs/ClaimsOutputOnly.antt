@@ -2,7 +2,7 @@
 -- sound.
 -- Assumes nothing.
 use mathlib.Core.Path.{_≡_, refl, sym, ap, _∙_}
-use mathlib.Core.List.{List}
+use mathlib.Core.List.{List, []}
 use mathlib.Core.Logic.{_⊎_, inl, inr}
 use Prim.Native.Nat.{ℕ, _≤_}
 use native.Mathlib.Omega.{arith}
@@ -14,13 +14,12 @@ use Rattle.instruction.specs.Answer.{Answer, accepted, refused, judge}
 use Rattle.instruction.proofs.Judging.{pass, done, accepts}
 use Rattle.instruction_laws.specs.Missing.{OneOrTwo}
 use Rattle.instruction.specs.declared.mode.Mode.the-variants.{Unwrapped}
-use Rattle.reach.specs.Mark.{cleared}
+use Rattle.reach.specs.Pins.{table}
 use Rattle.reach.specs.Run.{End, finished, stopped, cutOff, steps, noted}
 use Rattle.reach.specs.Takes.{Takes, stay, up}
 use Rattle.reach.specs.Tracer.{Tracer}
-use Rattle.reach.proofs.Cleared.{length-cleared}
 use Rattle.reach.proofs.Note.{length-note}
-use Rattle.reach.proofs.Order.{cleared-base}
+use Rattle.reach.proofs.Table.{table-base, length-table}
 use Rattle.reach.proofs.Run.{run-takes}
 use Rattle.reach.proofs.Took.{length-took}
 use Rattle.trace.specs.Run.{RunResult, runJudged, runAnswer, runMarks, ranAnswer, endOf, outcomeOf, andThen}
@@ -46,12 +45,12 @@ takes-length : (G : Tracer) {m m′ ps : List ℕ} → Takes G m ps m′ → len
 takes-length G stay = refl
 takes-length G (up {m = m} {p = p} R rest) = takes-length G rest ∙ length-took G m p
 
-run-length : (image marks entries : List ℕ) (limit : ℕ) → length image ≤ length marks → length (outcomeOf Unwrapped image marks entries limit .marks) ≡ length marks
+run-length : (image marks entries pins : List ℕ) (limit : ℕ) → length image ≤ length marks → length (outcomeOf Unwrapped image marks entries pins limit .marks) ≡ length marks
 unfolding outcomeOf
-run-length image marks entries limit h =
-    takes-length (tracerOf Unwrapped image) (run-takes limit (tracerOf Unwrapped image) entries (cleared (length image) marks) (cleared-base (tracerOf Unwrapped image) marks h) .takes)
-    ∙ length-note (length image) entries (cleared (length image) marks)
-    ∙ length-cleared (length image) marks h
+run-length image marks entries pins limit h =
+    takes-length (tracerOf Unwrapped image) (run-takes limit (tracerOf Unwrapped image) entries (table (length image) pins marks) (table-base (tracerOf Unwrapped image) pins marks h) .takes)
+    ∙ length-note (length image) entries (table (length image) pins marks)
+    ∙ length-table (length image) pins marks h
 
 module _ (image entries : List ℕ) (small : length image ≤ 16384) where
   lent-length : length (lentRoom image) ≡ length image
@@ -62,10 +61,10 @@ module _ (image entries : List ℕ) (small : length image ≤ 16384) where
       let l = lent-length in
       right-sizes image (lentRoom image) _ tt (omega arith) (omega arith) ∙ pass _ _ _ (le-ltb (length (lentRoom image)) (length image) (omega arith)) ∙ done tt
 
-  run-five : (n : ℕ) (vs : List ℤ) → runAnswer Unwrapped image (lentRoom image) (lentRoom image) entries (length image) ≡ refused n vs → n ≡ 5
+  run-five : (n : ℕ) (vs : List ℤ) → runAnswer Unwrapped image (lentRoom image) (lentRoom image) entries [] (length image) ≡ refused n vs → n ≡ 5
   unfolding runAnswer
   run-five n vs e =
-      let out = outcomeOf Unwrapped image (lentRoom image) entries (length image) in
+      let out = outcomeOf Unwrapped image (lentRoom image) entries [] (length image) in
       by (out .end) (steps out) (length (noted out)) (ap (λ (q : Answer (Unit {0})). andThen q (ranAnswer image out)) (sym judged) ∙ e)
     where
       by : (d : End) (s k : ℕ) → endOf image d s k ≡ refused n vs → n ≡ 5
@@ -74,25 +73,25 @@ module _ (image entries : List ℕ) (small : length image ≤ 16384) where
       by (cutOff p) s k f = let g : 5 ≡ n = cc in sym g
 
   -- what is refused, the run refused
-  run-refused : (n : ℕ) (vs : List ℤ) → tracedText image entries ≡ refused n vs → runAnswer Unwrapped image (lentRoom image) (lentRoom image) entries (length image) ≡ refused n vs
+  run-refused : (n : ℕ) (vs : List ℤ) → tracedText image entries ≡ refused n vs → runAnswer Unwrapped image (lentRoom image) (lentRoom image) entries [] (length image) ≡ refused n vs
   unfolding tracedText
-  run-refused n vs e = by (or-refused (runAnswer Unwrapped image (lentRoom image) (lentRoom image) entries (length image)) _ n vs e)
+  run-refused n vs e = by (or-refused (runAnswer Unwrapped image (lentRoom image) (lentRoom image) entries [] (length image)) _ n vs e)
     where
       m : List ℕ
-      m = runMarks Unwrapped image (lentRoom image) (lentRoom image) entries (length image)
+      m = runMarks Unwrapped image (lentRoom image) (lentRoom image) entries [] (length image)
 
-      by : (runAnswer Unwrapped image (lentRoom image) (lentRoom image) entries (length image) ≡ refused n vs) ⊎ (((s : RunResult) × (runAnswer Unwrapped image (lentRoom image) (lentRoom image) entries (length image) ≡ accepted s)) × (judge (viewRefusals image m) (listingOf Unwrapped image m Declined) ≡ refused n vs)) → runAnswer Unwrapped image (lentRoom image) (lentRoom image) entries (length image) ≡ refused n vs
+      by : (runAnswer Unwrapped image (lentRoom image) (lentRoom image) entries [] (length image) ≡ refused n vs) ⊎ (((s : RunResult) × (runAnswer Unwrapped image (lentRoom image) (lentRoom image) entries [] (length image) ≡ accepted s)) × (judge (viewRefusals image m) (listingOf Unwrapped image m Declined) ≡ refused n vs)) → runAnswer Unwrapped image (lentRoom image) (lentRoom image) entries [] (length image) ≡ refused n vs
       by (inl r) = r
       by (inr a) =
           let s = a .0 .0 in
-          let f : runAnswer Unwrapped image (lentRoom image) (lentRoom image) entries (length image) ≡ accepted s = a .0 .1 in
-          let l : length m ≡ length (lentRoom image) = ap length (marks-are Unwrapped image (lentRoom image) (lentRoom image) entries (length image) s f) ∙ run-length image (lentRoom image) entries (length image) (let k = lent-length in omega arith) in
+          let f : runAnswer Unwrapped image (lentRoom image) (lentRoom image) entries [] (length image) ≡ accepted s = a .0 .1 in
+          let l : length m ≡ length (lentRoom image) = ap length (marks-are Unwrapped image (lentRoom image) (lentRoom image) entries [] (length image) s f) ∙ run-length image (lentRoom image) entries [] (length image) (let k = lent-length in omega arith) in
           let S : Sound image m = marks-sound image entries small s f l in
           absurd (differ (sym (a .1) ∙ judged-on (viewRefusals image m) S (listingOf Unwrapped image m Declined)))
 
 -- a line refuses with 13, or the lines are good and the run refuses
 abbrev Why : List ℕ → ℕ → List ℤ → Type 0
-Why text n vs = (n ≡ 13) ⊎ ((length (imageOf text) ≤ 16384) × (runAnswer Unwrapped (imageOf text) (lentRoom (imageOf text)) (lentRoom (imageOf text)) (entriesOf text) (length (imageOf text)) ≡ refused n vs))
+Why text n vs = (n ≡ 13) ⊎ ((length (imageOf text) ≤ 16384) × (runAnswer Unwrapped (imageOf text) (lentRoom (imageOf text)) (lentRoom (imageOf text)) (entriesOf text) [] (length (imageOf text)) ≡ refused n vs))
 
 why : (text : List ℕ) (n : ℕ) (vs : List ℤ) → textListed text ≡ refused n vs → Why text n vs
 unfolding textListed
@@ -123,4 +122,4 @@ listed-missing text vs e = by (why text 5 vs e)
   where
     by : Why text 5 vs → OneOrTwo vs
     by (inl f) = absurd (omega (arith, f))
-    by (inr r) = run-missing Unwrapped (imageOf text) (lentRoom (imageOf text)) (lentRoom (imageOf text)) (entriesOf text) (length (imageOf text)) vs (image-bytes text) (r .1)
+    by (inr r) = run-missing Unwrapped (imageOf text) (lentRoom (imageOf text)) (lentRoom (imageOf text)) (entriesOf text) [] (length (imageOf text)) vs (image-bytes text) (r .1)

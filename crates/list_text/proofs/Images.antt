@@ -24,19 +24,19 @@ said x y e r t room p = subst (λ (z : List ℕ). (r ≡ roomAnswer [] z room) �
 
 module _ (image entries : List ℕ) where
   abbrev answer : Answer RunResult
-  answer = runAnswer Unwrapped image (lentRoom image) (lentRoom image) entries (length image)
+  answer = runAnswer Unwrapped image (lentRoom image) (lentRoom image) entries [] (length image)
 
   abbrev marks : List ℕ
-  marks = runMarks Unwrapped image (lentRoom image) (lentRoom image) entries (length image)
+  marks = runMarks Unwrapped image (lentRoom image) (lentRoom image) entries [] (length image)
 
   abbrev out : List ℕ
   out = listingOf Unwrapped image marks Declined
 
   -- a run that is refused
-  pub refused-text : (b o : List ℕ) → b ≡ lentRoom image → o ≡ lentRoom image → (n : ℕ) (vs : List ℤ) → refused n vs ≡ runAnswer Unwrapped image b o entries (length image) → refusalLine n vs ≡ outputText (tracedText image entries)
+  pub refused-text : (b o : List ℕ) → b ≡ lentRoom image → o ≡ lentRoom image → (n : ℕ) (vs : List ℤ) → refused n vs ≡ runAnswer Unwrapped image b o entries [] (length image) → refusalLine n vs ≡ outputText (tracedText image entries)
   unfolding tracedText
   refused-text b o e f n vs g =
-      let h : answer ≡ refused n vs = sym (g ∙ ap₂ (λ (x y : List ℕ). runAnswer Unwrapped image x y entries (length image)) e f) in
+      let h : answer ≡ refused n vs = sym (g ∙ ap₂ (λ (x y : List ℕ). runAnswer Unwrapped image x y entries [] (length image)) e f) in
       sym (ap (λ (r : Answer RunResult). outputText (andThen r (judge (viewRefusals image marks) out))) h)
 
   module _ (small : length image ≤ 16384) (s : RunResult) (a : answer ≡ accepted s) where
@@ -47,7 +47,7 @@ module _ (image entries : List ℕ) where
     pub marks-sound : length marks ≡ length (lentRoom image) → Sound image marks
     marks-sound l =
         sound image marks (omega arith) (let c = covered in omega arith)
-        (subst (Undamaged image) (sym (marks-are Unwrapped image (lentRoom image) (lentRoom image) entries (length image) s a)) (run-undamaged Unwrapped image (lentRoom image) entries (length image) covered))
+        (subst (Undamaged image) (sym (marks-are Unwrapped image (lentRoom image) (lentRoom image) entries [] (length image) s a)) (run-undamaged Unwrapped image (lentRoom image) entries [] (length image) covered))
 
     listed-text : Sound image marks → out ≡ outputText (tracedText image entries)
     unfolding tracedText
@@ -64,8 +64,8 @@ module _ (image entries : List ℕ) where
         )
 
   -- the same for rooms that hold what the run was lent, and marks that it left
-  pub listed-run : length image ≤ 16384 → (b o : List ℕ) → b ≡ lentRoom image → o ≡ lentRoom image → (s : RunResult) → accepted s ≡ runAnswer Unwrapped image b o entries (length image) → (m : List ℕ) → m ≡ runMarks Unwrapped image b o entries (length image) → length m ≡ length b → (r : Answer ℕ) (t room : List ℕ) → (r ≡ viewAnswer image m (listingOf Unwrapped image m Declined) room) × (t ≡ viewRoom image m (listingOf Unwrapped image m Declined) room) → (r ≡ roomAnswer [] (outputText (tracedText image entries)) room) × (t ≡ roomAfter [] (outputText (tracedText image entries)) room)
+  pub listed-run : length image ≤ 16384 → (b o : List ℕ) → b ≡ lentRoom image → o ≡ lentRoom image → (s : RunResult) → accepted s ≡ runAnswer Unwrapped image b o entries [] (length image) → (m : List ℕ) → m ≡ runMarks Unwrapped image b o entries [] (length image) → length m ≡ length b → (r : Answer ℕ) (t room : List ℕ) → (r ≡ viewAnswer image m (listingOf Unwrapped image m Declined) room) × (t ≡ viewRoom image m (listingOf Unwrapped image m Declined) room) → (r ≡ roomAnswer [] (outputText (tracedText image entries)) room) × (t ≡ roomAfter [] (outputText (tracedText image entries)) room)
   listed-run h b o e f s g m k l r t room p =
-      let q : m ≡ marks = k ∙ ap₂ (λ (x y : List ℕ). runMarks Unwrapped image x y entries (length image)) e f in
-      listed h s (sym (g ∙ ap₂ (λ (x y : List ℕ). runAnswer Unwrapped image x y entries (length image)) e f)) (ap length (sym q) ∙ l ∙ ap length e) r t room
+      let q : m ≡ marks = k ∙ ap₂ (λ (x y : List ℕ). runMarks Unwrapped image x y entries [] (length image)) e f in
+      listed h s (sym (g ∙ ap₂ (λ (x y : List ℕ). runAnswer Unwrapped image x y entries [] (length image)) e f)) (ap length (sym q) ∙ l ∙ ap length e) r t room
       (subst (λ (x : List ℕ). (r ≡ viewAnswer image x (listingOf Unwrapped image x Declined) room) × (t ≡ viewRoom image x (listingOf Unwrapped image x Declined) room)) q p)

@@ -3,7 +3,7 @@
 -- Assumes nothing.
 use Prim.Native.Nat.{ℕ}
 use mathlib.Core.Bool.{cond}
-use mathlib.Core.List.{List}
+use mathlib.Core.List.{List, []}
 use lib.Dec.{eqb}
 use lib.IntN.{ℤ, pos, natAbs}
 use lib.ListN.{length, getD, replicate}
@@ -28,8 +28,8 @@ lentRoom image = replicate (length image) 0
 unfoldable pub tracedText : List ℕ → List ℕ → Answer (List ℕ)
 tracedText image entries =
     let room = lentRoom image in
-    let m = runMarks Unwrapped image room room entries (length image) in
-    andThen (runAnswer Unwrapped image room room entries (length image)) (judge (viewRefusals image m) (listingOf Unwrapped image m Declined))
+    let m = runMarks Unwrapped image room room entries [] (length image) in
+    andThen (runAnswer Unwrapped image room room entries [] (length image)) (judge (viewRefusals image m) (listingOf Unwrapped image m Declined))
 
 -- the same of a text; a line that is malformed first
 unfoldable pub textListed : List ℕ → Answer (List ℕ)

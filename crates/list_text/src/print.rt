@@ -31,6 +31,7 @@ fn list_image(image: &[u8], entries: &[u32], room: &mut [u8]) -> Viewed
         &mut marks[..n],
         &mut order[..n],
         entries,
+        &entries[..0],
         n as u32,
     ) {
         Ran::Finished(_) => listing::listing_with(mode, image, &marks[..n], arrivals, room),

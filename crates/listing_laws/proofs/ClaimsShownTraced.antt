@@ -4,7 +4,7 @@ use mathlib.Core.Path.{_≡_, refl, sym, ap, _∙_}
 use mathlib.Core.Bool.{Bool, true, false, not, _&&_, _||_}
 use mathlib.Core.List.{List, _∷_}
 use Prim.Native.Char.{code}
-use Prim.Native.Nat.{ℕ, _<_}
+use Prim.Native.Nat.{ℕ, _<_, _≤_}
 use native.Mathlib.Omega.{arith}
 use lib.Dec.{ltb}
 use lib.IntN.{ℤ}
@@ -26,7 +26,8 @@ use Rattle.targets.proofs.AskedAlone.{found}
 use Rattle.targets.proofs.HereIs.{answer, whole-here}
 use Rattle.targets.proofs.Within.{within}
 use Rattle.reach.specs.ClaimsOrder.{Final}
-use Rattle.reach.specs.Mark.{tracedMark, cleared}
+use Rattle.reach.specs.Mark.{tracedMark}
+use Rattle.reach.specs.Pins.{table}
 use Rattle.marks.specs.Refusals.{damaged}
 use Rattle.marks.specs.Tracer.{tracerOf}
 use Rattle.trace.specs.Run.{outcomeOf}
@@ -78,21 +79,22 @@ traced-shown mode image m B l U p t =
     }
 
 -- marks that are final
-module _ (mode : Mode) (image marks entries m : List ℕ) (F : Final (tracerOf mode image) (cleared (length image) marks) entries m) (p : ℕ) where
-  there : tracedAt image m p ≡ true → Reachable mode image entries p × (fitsHere image p ≡ true)
+module _ (mode : Mode) (image marks entries pins m : List ℕ) (l : length image ≤ length marks) (F : Final (tracerOf mode image) (table (length image) pins marks) entries m) (p : ℕ) where
+  there : tracedAt image m p ≡ true → Reachable mode image entries pins p × (fitsHere image p ≡ true)
   there t =
       let h = traced-inside image m p t in
-      let r = traced-reached mode image marks entries m F p h (second-part (ltb p (length image)) _ t) in
-      (plainly (tracerOf mode image) (waysHere mode image) marks entries (r .0), r .1)
+      let r = traced-reached mode image marks entries pins m l F p h (second-part (ltb p (length image)) _ t) in
+      (plainly (tracerOf mode image) (waysHere mode image) marks entries pins l (r .0), r .1)
 
-  back : Reachable mode image entries p → fitsHere image p ≡ true → tracedAt image m p ≡ true
+  back : Reachable mode image entries pins p → fitsHere image p ≡ true → tracedAt image m p ≡ true
   back r g =
       let h = reached-inside r .inside in
       both (ltb p (length image)) (tracedMark (getD m p 0)) (lt-ltb p (length image) h)
-      (reached-traced mode image marks entries m F p h (over (tracerOf mode image) (waysHere mode image) marks entries r) g)
+      (reached-traced mode image marks entries pins m l F p h (over (tracerOf mode image) (waysHere mode image) marks entries pins l r) g)
 
 pub traced-reachable : TracedReachable
-traced-reachable mode image marks order entries limit s B C a f p =
-    let m : List ℕ = outcomeOf mode image marks entries limit .marks in
-    let F : Final (tracerOf mode image) (cleared (length image) marks) entries m = image-run-final mode image marks entries limit B C (covered mode image marks order entries limit (sized mode image marks order entries limit s a)) (ended mode image marks order entries limit s a f) in
-    rw (marks-are mode image marks order entries limit s a) (there mode image marks entries m F p, back mode image marks entries m F p)
+traced-reachable mode image marks order entries pins limit s B C a f p =
+    let m : List ℕ = outcomeOf mode image marks entries pins limit .marks in
+    let l : length image ≤ length marks = covered mode image marks order entries pins limit (sized mode image marks order entries pins limit s a) in
+    let F : Final (tracerOf mode image) (table (length image) pins marks) entries m = image-run-final mode image marks entries pins limit B C l (ended mode image marks order entries pins limit s a f) in
+    rw (marks-are mode image marks order entries pins limit s a) (there mode image marks entries pins m l F p, back mode image marks entries pins m l F p)

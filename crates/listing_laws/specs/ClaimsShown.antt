@@ -47,6 +47,6 @@ TracedShown =
 -- instruction is not cut off
 abbrev pub TracedReachable : Type 0
 TracedReachable =
-    (mode : Mode) (image marks order entries : List ℕ) (limit : ℕ) (s : RunResult) → Bytes image → Clean image → runAnswer mode image marks order entries limit ≡ accepted s → s .finished ≡ true
-    → (p : ℕ) → (tracedAt image (runMarks mode image marks order entries limit) p ≡ true → Reachable mode image entries p × (fitsHere image p ≡ true))
-    × (Reachable mode image entries p → fitsHere image p ≡ true → tracedAt image (runMarks mode image marks order entries limit) p ≡ true)
+    (mode : Mode) (image marks order entries pins : List ℕ) (limit : ℕ) (s : RunResult) → Bytes image → Clean image → runAnswer mode image marks order entries pins limit ≡ accepted s → s .finished ≡ true
+    → (p : ℕ) → (tracedAt image (runMarks mode image marks order entries pins limit) p ≡ true → Reachable mode image entries pins p × (fitsHere image p ≡ true))
+    × (Reachable mode image entries pins p → fitsHere image p ≡ true → tracedAt image (runMarks mode image marks order entries pins limit) p ≡ true)

@@ -7,6 +7,7 @@ use lib.Dec.{ltb}
 use lib.IntN.{pos}
 use lib.ListN.{length}
 use Rattle.instruction.specs.Answer.{Refusal, refuse}
+use Rattle.reach.specs.Pins.{pinned}
 
 -- 1: an image over 65,536; 2: marks shorter than the image
 abbrev pub sizeRefusals : List ℕ → List ℕ → List Refusal
@@ -15,6 +16,6 @@ sizeRefusals image marks =
     ∷ refuse (ltb (length marks) (length image)) 2 (pos (length marks) ∷ [])
     ∷ []
 
--- a byte over 3
+-- a byte over 4, the mark of a pinned position. Document 02, W8; document 01 has no 4, and there it is a byte over 3
 abbrev pub damaged : ℕ → Bool
-damaged v = ltb 3 v
+damaged v = ltb pinned v

@@ -13,7 +13,10 @@ impl Mark {
     // A traced Jmpf under the exception.
     pub const FLASH: u8 = 3;
 
-    pub const HIGHEST: u8 = 3;
+    // Kept off the trace.
+    pub const PINNED: u8 = 4;
+
+    pub const HIGHEST: u8 = 4;
 
     // Whether a mark says traced.
     pub fn is_traced(mark: u8) -> bool

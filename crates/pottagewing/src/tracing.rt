@@ -14,13 +14,15 @@ pub extern "C" fn pw_start(
     image: &[u8],
     marks: &mut [u8],
     entries: &[u32],
+    pins: &[u32],
     answer: &mut [i64; 5],
 ) -> u32
-    ensures { λ r. ⌜ r ≡ refusalNumber (startAnswer (now (image .entry)) (now (marks .entry)) (now (entries .entry))) ⌝ }
-    ensures { λ _. ⌜ now (answer .exit) ≡ valuesOf countValues (startAnswer (now (image .entry)) (now (marks .entry)) (now (entries .entry))) ⌝ }
-    ensures { λ _. ⌜ now (marks .exit) ≡ startMarks (now (image .entry)) (now (marks .entry)) (now (entries .entry)) ⌝ }
+    ensures { λ r. ⌜ r ≡ refusalNumber (startAnswer (now (image .entry)) (now (marks .entry)) (now (entries .entry)) (now (pins .entry))) ⌝ }
+    ensures { λ _.
+        ⌜ now (answer .exit) ≡ valuesOf countValues (startAnswer (now (image .entry)) (now (marks .entry)) (now (entries .entry)) (now (pins .entry))) ⌝ }
+    ensures { λ _. ⌜ now (marks .exit) ≡ startMarks (now (image .entry)) (now (marks .entry)) (now (entries .entry)) (now (pins .entry)) ⌝ }
 {
-    c_answers::start(image, marks, entries).give(answer)
+    c_answers::start(image, marks, entries, pins).give(answer)
 }
 
 // Accepted: the new mark, and how many positions became waiting.
@@ -47,17 +49,34 @@ pub extern "C" fn pw_run(
     marks: &mut [u8],
     order: &mut [u32],
     entries: &[u32],
+    pins: &[u32],
     limit: u32,
     answer: &mut [i64; 5],
 ) -> u32
-    ensures { λ r. ⌜ r ≡ refusalNumber (runAnswer (modeOf mode) (now (image .entry)) (now (marks .entry)) (now (order .entry)) (now (entries .entry)) limit) ⌝ }
+    ensures { λ r.
+        ⌜ r
+        ≡ refusalNumber (runAnswer (modeOf mode) (now (image .entry)) (now (marks .entry)) (now (order .entry))
+        (now (entries .entry)) (now (pins .entry)) limit) ⌝ }
     ensures { λ _.
         ⌜ now (answer .exit)
-        ≡ valuesOf runValues (runAnswer (modeOf mode) (now (image .entry)) (now (marks .entry)) (now (order .entry)) (now (entries .entry)) limit) ⌝ }
-    ensures { λ _. ⌜ now (marks .exit) ≡ runMarks (modeOf mode) (now (image .entry)) (now (marks .entry)) (now (order .entry)) (now (entries .entry)) limit ⌝ }
-    ensures { λ _. ⌜ now (order .exit) ≡ runOrder (modeOf mode) (now (image .entry)) (now (marks .entry)) (now (order .entry)) (now (entries .entry)) limit ⌝ }
+        ≡ valuesOf runValues (runAnswer (modeOf mode) (now (image .entry)) (now (marks .entry)) (now (order .entry))
+        (now (entries .entry)) (now (pins .entry)) limit) ⌝ }
+    ensures { λ _.
+        ⌜ now (marks .exit)
+        ≡ runMarks (modeOf mode) (now (image .entry)) (now (marks .entry)) (now (order .entry)) (now (entries .entry)) (now (pins .entry)) limit ⌝ }
+    ensures { λ _.
+        ⌜ now (order .exit)
+        ≡ runOrder (modeOf mode) (now (image .entry)) (now (marks .entry)) (now (order .entry)) (now (entries .entry)) (now (pins .entry)) limit ⌝ }
 {
-    c_answers::run(c_answers::mode(mode), image, marks, order, entries, limit).give(answer)
+    c_answers::run(
+        c_answers::mode(mode),
+        image,
+        marks,
+        order,
+        entries,
+        pins,
+        limit,
+    ).give(answer)
 }
 
 // Accepted: the sweeps, the last one counted, and the steps.
@@ -67,11 +86,14 @@ pub extern "C" fn pw_sweep(
     image: &[u8],
     marks: &mut [u8],
     entries: &[u32],
+    pins: &[u32],
     answer: &mut [i64; 5],
 ) -> u32
-    ensures { λ r. ⌜ r ≡ refusalNumber (sweepAnswer (modeOf mode) (now (image .entry)) (now (marks .entry)) (now (entries .entry))) ⌝ }
-    ensures { λ _. ⌜ now (answer .exit) ≡ valuesOf sweepValues (sweepAnswer (modeOf mode) (now (image .entry)) (now (marks .entry)) (now (entries .entry))) ⌝ }
-    ensures { λ _. ⌜ now (marks .exit) ≡ sweepLeaves (modeOf mode) (now (image .entry)) (now (marks .entry)) (now (entries .entry)) ⌝ }
+    ensures { λ r. ⌜ r ≡ refusalNumber (sweepAnswer (modeOf mode) (now (image .entry)) (now (marks .entry)) (now (entries .entry)) (now (pins .entry))) ⌝ }
+    ensures { λ _.
+        ⌜ now (answer .exit)
+        ≡ valuesOf sweepValues (sweepAnswer (modeOf mode) (now (image .entry)) (now (marks .entry)) (now (entries .entry)) (now (pins .entry))) ⌝ }
+    ensures { λ _. ⌜ now (marks .exit) ≡ sweepLeaves (modeOf mode) (now (image .entry)) (now (marks .entry)) (now (entries .entry)) (now (pins .entry)) ⌝ }
 {
-    c_answers::sweep(c_answers::mode(mode), image, marks, entries).give(answer)
+    c_answers::sweep(c_answers::mode(mode), image, marks, entries, pins).give(answer)
 }

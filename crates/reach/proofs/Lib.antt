@@ -57,3 +57,4 @@ pub mod Begin
 pub mod Came
 pub mod Sample
 pub mod SweepSample
+pub mod Table

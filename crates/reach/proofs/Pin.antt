@@ -3,8 +3,8 @@ use Prim.Native.Nat.{ℕ, _<_, _≤_}
 use native.Mathlib.Omega.{arith}
 use mathlib.Core.Bool.{Bool, true, false, cond}
 use mathlib.Core.Path.{_≡_, refl, ap, _∙_}
-use mathlib.Core.Logic.{_⊎_, inl, inr, ⊎-elim}
-use mathlib.Core.List.{List, [], _∷_, List·Memᴰ as Among, List·Memᴰ·cases-cons, List·Memᴰ·not-nil}
+use mathlib.Core.Logic.{_⊎_, inl, inr, ⊎-elim, _≢_}
+use mathlib.Core.List.{List, [], _∷_, List·Memᴰ as Among, List·Memᴰ·head, List·Memᴰ·tail, List·Memᴰ·cases-cons, List·Memᴰ·not-nil}
 use lib.ListN.{length, getD, set, length-set}
 use lib.Seq.{getD-set-other}
 use lib.Dec.{ltb}
@@ -61,3 +61,19 @@ pin-set n (t ∷ qs) m q l i h = by (List·Memᴰ·cases-cons i) (λ (j : Among 
     by : (q ≡ t) ⊎ Among q qs → (Among q qs → getD (pin n qs m₁) q 0 ≡ pinned) → getD (pin n qs m₁) q 0 ≡ pinned
     by (inr j) on = on j
     by (inl e) on = ⊎-elim (λ f. f ∙ here e) (λ f. f) (pin-kept n qs m₁ q l₁)
+
+-- a mark that is not the one that stood there has been pinned
+pub pin-only : (n : ℕ) (qs m : List ℕ) (q : ℕ) → (getD (pin n qs m) q 0 ≡ getD m q 0) ⊎ Among q qs
+unfolding pin
+pin-only n [] m q = inl refl
+pin-only n (t ∷ qs) m q = by (eq-or-ne q t) (pin-only n qs (cond (ltb t n) (set m t pinned) m) q)
+  where
+    other : q ≢ t → (b : Bool) → getD (cond b (set m t pinned) m) q 0 ≡ getD m q 0
+    other ne true = getD-set-other m t q pinned 0 ne
+    other ne false = refl
+
+    by : (q ≡ t) ⊎ (q ≢ t) → (getD (pin n qs (cond (ltb t n) (set m t pinned) m)) q 0 ≡ getD (cond (ltb t n) (set m t pinned) m) q 0) ⊎ Among q qs
+        → (getD (pin n qs (cond (ltb t n) (set m t pinned) m)) q 0 ≡ getD m q 0) ⊎ Among q (t ∷ qs)
+    by (inl e) r = inr (List·Memᴰ·head e)
+    by (inr ne) (inl f) = inl (f ∙ other ne (ltb t n))
+    by (inr ne) (inr i) = inr (List·Memᴰ·tail i)

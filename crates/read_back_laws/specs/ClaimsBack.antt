@@ -16,7 +16,7 @@ use Rattle.listing.specs.declared.tabbed.Arrivals.{Arrivals}
 use Rattle.read_back.specs.Back.{restoredOf, backAnswer, backImage, backMarks}
 use Rattle.read_back.specs.Read.{readOf}
 
--- a mark as a listing tells it: 1 becomes 0, and 3 becomes 2
+-- a mark as a listing tells it: 1 and 4 become 0, and 3 becomes 2
 abbrev pub told : ℕ → ℕ
 told v = cond (tracedMark v) traced untouched
 

@@ -31,10 +31,10 @@ sweptOf (LongImage n) = refused 1 (pos n ∷ [])
 sweptOf (ShortMarks n) = refused 2 (pos n ∷ [])
 
 -- it starts as start does
-unfoldable pub sweepAnswer : Mode → List ℕ → List ℕ → List ℕ → Answer SweepResult
-sweepAnswer mode image marks entries = judge (sizeRefusals image marks) (sweepResult mode image (startMarks image marks entries))
+unfoldable pub sweepAnswer : Mode → List ℕ → List ℕ → List ℕ → List ℕ → Answer SweepResult
+sweepAnswer mode image marks entries pins = judge (sizeRefusals image marks) (sweepResult mode image (startMarks image marks entries pins))
 
 -- the marks where the sweeps end
-unfoldable pub sweepLeaves : Mode → List ℕ → List ℕ → List ℕ → List ℕ
-sweepLeaves mode image marks entries =
-    after (sweepAnswer mode image marks entries) (sweptMarks (tracerOf mode image) (startMarks image marks entries)) marks
+unfoldable pub sweepLeaves : Mode → List ℕ → List ℕ → List ℕ → List ℕ → List ℕ
+sweepLeaves mode image marks entries pins =
+    after (sweepAnswer mode image marks entries pins) (sweptMarks (tracerOf mode image) (startMarks image marks entries pins)) marks

@@ -91,11 +91,11 @@ fn sweep_on(mode: Mode, image: &[u8], marks: &mut [u8]) -> Tally
 }
 
 // Starts from the entries and sweeps until a sweep takes none.
-pub fn sweep(mode: Mode, image: &[u8], marks: &mut [u8], entries: &[u32]) -> Swept
-    ensures { λ r. ⌜ sweptOf r ≡ sweepAnswer mode (now (image .entry)) (now (marks .entry)) (now (entries .entry)) ⌝ }
-    ensures { λ _. ⌜ now (marks .exit) ≡ sweepLeaves mode (now (image .entry)) (now (marks .entry)) (now (entries .entry)) ⌝ }
+pub fn sweep(mode: Mode, image: &[u8], marks: &mut [u8], entries: &[u32], pins: &[u32]) -> Swept
+    ensures { λ r. ⌜ sweptOf r ≡ sweepAnswer mode (now (image .entry)) (now (marks .entry)) (now (entries .entry)) (now (pins .entry)) ⌝ }
+    ensures { λ _. ⌜ now (marks .exit) ≡ sweepLeaves mode (now (image .entry)) (now (marks .entry)) (now (entries .entry)) (now (pins .entry)) ⌝ }
 {
-    match trace::start::start(image, marks, entries) {
+    match trace::start::start(image, marks, entries, pins) {
         Started::Set(_) => Swept::Ended(sweep_on(mode, image, marks)),
         Started::LongImage(n) => Swept::LongImage(n),
         Started::ShortMarks(n) => Swept::ShortMarks(n),

@@ -23,21 +23,22 @@ use Rattle.targets.specs.At.{fitsHere}
 use Rattle.marks.proofs.Sizing as sizing
 use Rattle.trace.proofs.Stepping.{Inner}
 
-none-left : (v : ℕ) → v ≤ 3 → (v ≡ 0 → ⊥) → (v ≡ 1 → ⊥) → (v ≡ 2 → ⊥) → (v ≡ 3 → ⊥) → ⊥
-none-left v h a b c d = omega arith
+none-left : (v : ℕ) → v ≤ 4 → (v ≡ 0 → ⊥) → (v ≡ 1 → ⊥) → (v ≡ 2 → ⊥) → (v ≡ 3 → ⊥) → (v ≡ 4 → ⊥) → ⊥
+none-left v h a b c d e = omega arith
 
 -- marks that do not wait
-pub idle-marks : (v : ℕ) → v ≤ 3 → (v ≡ 1 → ⊥) → idle v ≡ true
-idle-marks v h w = by (eqb v 0) refl (eqb v 2) refl (eqb v 3) refl
+pub idle-marks : (v : ℕ) → v ≤ 4 → (v ≡ 1 → ⊥) → idle v ≡ true
+idle-marks v h w = by (eqb v 0) refl (eqb v 2) refl (eqb v 3) refl (eqb v 4) refl
   where
-    by : (a : Bool) → eqb v 0 ≡ a → (b : Bool) → eqb v 2 ≡ b → (c : Bool) → eqb v 3 ≡ c → idle v ≡ true
-    by true e b f c g = rw e
-    by false e true f c g = rw (e, f)
-    by false e false f true g = rw (e, f, g)
-    by false e false f false g = absurd (none-left v h (eqb-false v 0 e) w (eqb-false v 2 f) (eqb-false v 3 g))
+    by : (a : Bool) → eqb v 0 ≡ a → (b : Bool) → eqb v 2 ≡ b → (c : Bool) → eqb v 3 ≡ c → (d : Bool) → eqb v 4 ≡ d → idle v ≡ true
+    by true e b f c g d i = rw e
+    by false e true f c g d i = rw (e, f)
+    by false e false f true g d i = rw (e, f, g)
+    by false e false f false g true i = rw (e, f, g, i)
+    by false e false f false g false i = absurd (none-left v h (eqb-false v 0 e) w (eqb-false v 2 f) (eqb-false v 3 g) (eqb-false v 4 i))
 
-not-idle : (v : ℕ) → (v ≡ 0 → ⊥) → (v ≡ 2 → ⊥) → (v ≡ 3 → ⊥) → idle v ≡ false
-not-idle v a b c = rw (ne-eqb v 0 a, ne-eqb v 2 b, ne-eqb v 3 c)
+not-idle : (v : ℕ) → (v ≡ 0 → ⊥) → (v ≡ 2 → ⊥) → (v ≡ 3 → ⊥) → (v ≡ 4 → ⊥) → idle v ≡ false
+not-idle v a b c d = rw (ne-eqb v 0 a, ne-eqb v 2 b, ne-eqb v 3 c, ne-eqb v 4 d)
 
 module _ (mode : Mode) (image m : List ℕ) (p : ℕ) where
   abbrev n : ℕ
@@ -87,11 +88,11 @@ module _ (mode : Mode) (image m : List ℕ) (p : ℕ) where
         unfolding stepAnswer stepRefusals
         begun = sizing.right-sizes image m later (stepResult (tracerOf mode image) m p) fits room ∙ pass _ _ _ (lt-leb n p inside)
 
-        pub damaged-mark : 3 < v → Is (refused 6 (pos p ∷ [])) m
+        pub damaged-mark : 4 < v → Is (refused 6 (pos p ∷ [])) m
         damaged-mark h =
-            held (refused 6 (pos p ∷ [])) (begun ∙ pass _ _ _ (not-idle v (λ e. omega arith) (λ e. omega arith) (λ e. omega arith)) ∙ stop _ _ _ (lt-ltb 3 v h)) m refl
+            held (refused 6 (pos p ∷ [])) (begun ∙ pass _ _ _ (not-idle v (λ e. omega arith) (λ e. omega arith) (λ e. omega arith) (λ e. omega arith)) ∙ stop _ _ _ (lt-ltb 4 v h)) m refl
 
-        pub not-waiting : v ≤ 3 → (v ≡ 1 → ⊥) → Is (refused 4 (pos v ∷ [])) m
+        pub not-waiting : v ≤ 4 → (v ≡ 1 → ⊥) → Is (refused 4 (pos v ∷ [])) m
         not-waiting h w = held (refused 4 (pos v ∷ [])) (begun ∙ stop _ _ _ (idle-marks v h w)) m refl
 
         module _ (waits : v ≡ 1) where

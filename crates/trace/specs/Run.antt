@@ -12,9 +12,10 @@ use Rattle.instruction.specs.CutOff.{cutValues}
 use Rattle.instruction.specs.declared.answer.CutOff.{CutOff}
 use Rattle.instruction.specs.Decode.{cutAt}
 use Rattle.instruction.specs.declared.mode.Mode.{Mode}
-use Rattle.reach.specs.Mark.{cleared, tracedMark, count}
+use Rattle.reach.specs.Mark.{tracedMark, count}
 use Rattle.reach.specs.Queue.{TakenInOrder}
 use Rattle.reach.specs.Run.{End, finished, stopped, cutOff, Outcome, steps, noted, ordered, runOf}
+use Rattle.reach.specs.Pins.{table}
 use Rattle.marks.specs.Refusals.{sizeRefusals}
 use Rattle.marks.specs.Tracer.{tracerOf}
 use Rattle.targets.specs.At.{fitsHere}
@@ -31,9 +32,9 @@ runRefusals image marks order =
 abbrev pub runJudged : List ℕ → List ℕ → List ℕ → Answer (Unit {0})
 runJudged image marks order = judge (runRefusals image marks order) tt
 
--- the run starts afresh: the entries noted over cleared marks
-unfoldable pub outcomeOf : Mode → List ℕ → List ℕ → List ℕ → ℕ → Outcome
-outcomeOf mode image marks entries limit = runOf limit (tracerOf mode image) entries (cleared (length image) marks)
+-- the run starts afresh: the entries noted over cleared marks with the pins
+unfoldable pub outcomeOf : Mode → List ℕ → List ℕ → List ℕ → List ℕ → ℕ → Outcome
+outcomeOf mode image marks entries pins limit = runOf limit (tracerOf mode image) entries (table (length image) pins marks)
 
 -- whether it is finished, the steps and the positions noted
 pub record RunResult : Type 0 where
@@ -66,19 +67,19 @@ abbrev pub andThen : {A B : Type 0} → Answer A → Answer B → Answer B
 andThen (accepted a) b = b
 andThen (refused n vs) b = refused n vs
 
-unfoldable pub runAnswer : Mode → List ℕ → List ℕ → List ℕ → List ℕ → ℕ → Answer RunResult
-runAnswer mode image marks order entries limit =
-    andThen (runJudged image marks order) (ranAnswer image (outcomeOf mode image marks entries limit))
+unfoldable pub runAnswer : Mode → List ℕ → List ℕ → List ℕ → List ℕ → List ℕ → ℕ → Answer RunResult
+runAnswer mode image marks order entries pins limit =
+    andThen (runJudged image marks order) (ranAnswer image (outcomeOf mode image marks entries pins limit))
 
 -- what its start and its steps wrote: also where it ended by 5
-unfoldable pub runMarks : Mode → List ℕ → List ℕ → List ℕ → List ℕ → ℕ → List ℕ
-runMarks mode image marks order entries limit =
-    after (runJudged image marks order) (outcomeOf mode image marks entries limit .marks) marks
+unfoldable pub runMarks : Mode → List ℕ → List ℕ → List ℕ → List ℕ → List ℕ → ℕ → List ℕ
+runMarks mode image marks order entries pins limit =
+    after (runJudged image marks order) (outcomeOf mode image marks entries pins limit .marks) marks
 
 -- the order list: the positions noted, and the rest as it was
-unfoldable pub runOrder : Mode → List ℕ → List ℕ → List ℕ → List ℕ → ℕ → List ℕ
-runOrder mode image marks order entries limit =
-    after (runJudged image marks order) (ordered (outcomeOf mode image marks entries limit) order) order
+unfoldable pub runOrder : Mode → List ℕ → List ℕ → List ℕ → List ℕ → List ℕ → ℕ → List ℕ
+runOrder mode image marks order entries pins limit =
+    after (runJudged image marks order) (ordered (outcomeOf mode image marks entries pins limit) order) order
 
 -- of the inner function that takes the next position up: it is taken up and what it found is written at the list's end, or its
 -- instruction is cut off and nothing changes
@@ -96,8 +97,8 @@ StepsTied image (ShortOrder n) m = Unit {0}
 StepsTied image (Cut c) m = Unit {0}
 
 -- of the inner function that runs once the sizes are judged
-pub record RanTo (mode : Mode) (image marks order entries : List ℕ) (limit : ℕ) (r : Ran) (m′ o′ : List ℕ) : Type 0 where
-  pub answer-is : ranOf r ≡ ranAnswer image (outcomeOf mode image marks entries limit)
-  pub marks-are : m′ ≡ outcomeOf mode image marks entries limit .marks
-  pub order-is : o′ ≡ ordered (outcomeOf mode image marks entries limit) order
+pub record RanTo (mode : Mode) (image marks order entries pins : List ℕ) (limit : ℕ) (r : Ran) (m′ o′ : List ℕ) : Type 0 where
+  pub answer-is : ranOf r ≡ ranAnswer image (outcomeOf mode image marks entries pins limit)
+  pub marks-are : m′ ≡ outcomeOf mode image marks entries pins limit .marks
+  pub order-is : o′ ≡ ordered (outcomeOf mode image marks entries pins limit) order
   pub tied : StepsTied image r m′

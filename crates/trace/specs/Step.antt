@@ -11,6 +11,7 @@ use Rattle.instruction.specs.Answer.{Answer, accepted, refused, Refusal, refuse
 use Rattle.instruction.specs.CutOff.{cutValues}
 use Rattle.instruction.specs.Decode.{cutAt}
 use Rattle.instruction.specs.declared.mode.Mode.{Mode}
+use Rattle.reach.specs.Pins.{pinned}
 use Rattle.reach.specs.Tracer.{Tracer, targets, mark, took, found}
 use Rattle.marks.specs.Refusals.{sizeRefusals, damaged}
 use Rattle.marks.specs.Tracer.{tracerOf}
@@ -20,9 +21,9 @@ use Rattle.trace.specs.declared.damage.Damage.the-variants.{Nowhere, At}
 use Rattle.trace.specs.declared.step.Stepped.{Stepped}
 use Rattle.trace.specs.declared.step.Stepped.the-variants.{Traced, LongImage, ShortMarks, NotWaiting, Cut, Damaged}
 
--- 4: position not inside, with 0, or mark 0, 2, 3, with it
+-- 4: position not inside, with 0, or mark 0, 2, 3, with it; document 02, W8: or pinned
 abbrev pub idle : ℕ → Bool
-idle v = eqb v 0 || (eqb v 2 || eqb v 3)
+idle v = eqb v 0 || (eqb v 2 || (eqb v 3 || eqb v pinned))
 
 -- 6 at each of the positions ts that is inside, in their order
 unfoldable pub damages : ℕ → List ℕ → List ℕ → List Refusal

@@ -1,4 +1,5 @@
 // The tracer: start, step and run.
+mod begin;
 mod damage;
 mod queue;
 pub mod run;

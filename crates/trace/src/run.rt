@@ -7,6 +7,7 @@ ghost use lib.ListN.{length};
 ghost use Rattle.reach.specs.Tracer.{found};
 ghost use Rattle.trace.specs.Run.{ranOf, runAnswer, runMarks, runOrder, RanTo, StepsTied, NextTaken};
 ghost use Rattle.marks.specs.Tracer.{tracerOf};
+use crate::begin;
 use crate::queue;
 use instruction::CutOff;
 use instruction::Mode;
@@ -79,14 +80,16 @@ fn run_on(
     marks: &mut [u8],
     order: &mut [u32],
     entries: &[u32],
+    pins: &[u32],
     limit: u32,
 ) -> Ran
     requires { ⌜ (length (now image) ≤ 65536) × (length (now image) ≤ length (now marks)) × (length (now image) ≤ length (now order)) ⌝ }
     ensures { λ r.
-        ⌜ RanTo mode (now (image .entry)) (now (marks .entry)) (now (order .entry)) (now (entries .entry)) limit r (now (marks .exit)) (now (order .exit)) ⌝ }
+        ⌜ RanTo mode (now (image .entry)) (now (marks .entry)) (now (order .entry)) (now (entries .entry)) (now (pins .entry)) limit r
+        (now (marks .exit)) (now (order .exit)) ⌝ }
 {
     let n = image.len();
-    marks::clear(marks, n);
+    begin::begin(marks, n, pins);
     let most = limit as usize;
     let mut tail = queue::put_entries(marks, order, n, entries);
     let mut head: usize = 0;
@@ -111,11 +114,15 @@ pub fn run(
     marks: &mut [u8],
     order: &mut [u32],
     entries: &[u32],
+    pins: &[u32],
     limit: u32,
 ) -> Ran
-    ensures { λ r. ⌜ ranOf r ≡ runAnswer mode (now (image .entry)) (now (marks .entry)) (now (order .entry)) (now (entries .entry)) limit ⌝ }
-    ensures { λ _. ⌜ now (marks .exit) ≡ runMarks mode (now (image .entry)) (now (marks .entry)) (now (order .entry)) (now (entries .entry)) limit ⌝ }
-    ensures { λ _. ⌜ now (order .exit) ≡ runOrder mode (now (image .entry)) (now (marks .entry)) (now (order .entry)) (now (entries .entry)) limit ⌝ }
+    ensures { λ r.
+        ⌜ ranOf r ≡ runAnswer mode (now (image .entry)) (now (marks .entry)) (now (order .entry)) (now (entries .entry)) (now (pins .entry)) limit ⌝ }
+    ensures { λ _.
+        ⌜ now (marks .exit) ≡ runMarks mode (now (image .entry)) (now (marks .entry)) (now (order .entry)) (now (entries .entry)) (now (pins .entry)) limit ⌝ }
+    ensures { λ _.
+        ⌜ now (order .exit) ≡ runOrder mode (now (image .entry)) (now (marks .entry)) (now (order .entry)) (now (entries .entry)) (now (pins .entry)) limit ⌝ }
     ensures { λ r. ⌜ StepsTied (now (image .entry)) r (now (marks .exit)) ⌝ }
 {
     let n = image.len();
@@ -128,5 +135,5 @@ pub fn run(
     if order.len() < n {
         return Ran::ShortOrder(order.len());
     }
-    run_on(mode, image, marks, order, entries, limit)
+    run_on(mode, image, marks, order, entries, pins, limit)
 }

@@ -4,6 +4,7 @@ ghost use Prim.Native.Nat.{_≤_};
 ghost use lib.ListN.{length};
 ghost use Rattle.reach.specs.Note.{note, fresh};
 ghost use Rattle.trace.specs.Start.{startedOf, startAnswer, startMarks};
+use crate::begin;
 use targets::Image;
 
 pub enum Started {
@@ -30,10 +31,10 @@ fn note_entries(marks: &mut [u8], n: usize, entries: &[u32]) -> usize
     set
 }
 
-// Clears the marks and sets those of the entries inside the image.
-pub fn start(image: &[u8], marks: &mut [u8], entries: &[u32]) -> Started
-    ensures { λ r. ⌜ startedOf r ≡ startAnswer (now (image .entry)) (now (marks .entry)) (now (entries .entry)) ⌝ }
-    ensures { λ _. ⌜ now (marks .exit) ≡ startMarks (now (image .entry)) (now (marks .entry)) (now (entries .entry)) ⌝ }
+// Clears the marks, and sets those of the pinned positions and of the entries inside the image; one that is both stays pinned.
+pub fn start(image: &[u8], marks: &mut [u8], entries: &[u32], pins: &[u32]) -> Started
+    ensures { λ r. ⌜ startedOf r ≡ startAnswer (now (image .entry)) (now (marks .entry)) (now (entries .entry)) (now (pins .entry)) ⌝ }
+    ensures { λ _. ⌜ now (marks .exit) ≡ startMarks (now (image .entry)) (now (marks .entry)) (now (entries .entry)) (now (pins .entry)) ⌝ }
 {
     let n = image.len();
     if Image::LIMIT < n {
@@ -42,6 +43,6 @@ pub fn start(image: &[u8], marks: &mut [u8], entries: &[u32]) -> Started
     if marks.len() < n {
         return Started::ShortMarks(marks.len());
     }
-    marks::clear(marks, n);
+    begin::begin(marks, n, pins);
     Started::Set(note_entries(marks, n, entries) as u32)
 }

@@ -29,7 +29,7 @@ pub record Went (mode : Mode) (image m : List ℕ) (p : ℕ) : Type 0 where
   pub ready : Ready (tracerOf mode image) m p
   pub marks : stepMarks mode image m p ≡ took (tracerOf mode image) m p
 
-waits : (v : ℕ) → idle v ≡ false → v ≤ 3 → v ≡ 1
+waits : (v : ℕ) → idle v ≡ false → v ≤ 4 → v ≡ 1
 waits v i h = by (eqb v 1) refl
   where
     by : (t : Bool) → eqb v 1 ≡ t → v ≡ 1
@@ -53,13 +53,13 @@ went mode image m p s e =
     record {
       small = ltb-false 65536 (length image) (a .0);
       room = ltb-false (length m) (length image) (b .0);
-      ready = record { inside = inside; waits = waits (getD m p 0) (d .0) (ltb-false 3 (getD m p 0) (f .0)); whole = fitted (fitsHere image p) (g .0) };
+      ready = record { inside = inside; waits = waits (getD m p 0) (d .0) (ltb-false 4 (getD m p 0) (f .0)); whole = fitted (fitsHere image p) (g .0) };
       marks = ap (λ (r : Answer StepResult). after r (took (tracerOf mode image) m p) m) e;
     }
 
--- no mark inside is over 3
+-- no mark inside is over 4
 abbrev pub Sound : List ℕ → List ℕ → Type 0
-Sound image m = (q : ℕ) → q < length image → getD m q 0 ≤ 3
+Sound image m = (q : ℕ) → q < length image → getD m q 0 ≤ 4
 
 module _ (mode : Mode) (image m : List ℕ) (S : Sound image m) where
   no-damage : {A : Type 0} (a : A) (ts : List ℕ) → judge (damages (length image) m ts) a ≡ accepted a
@@ -68,14 +68,14 @@ module _ (mode : Mode) (image m : List ℕ) (S : Sound image m) where
   no-damage a (t ∷ ts) = pass _ _ _ (by (ltb t (length image)) refl) ∙ no-damage a ts
     where
       by : (b : Bool) → ltb t (length image) ≡ b → (ltb t (length image) && damaged (getD m t 0)) ≡ false
-      by true e = not-second (ltb t (length image)) (damaged (getD m t 0)) (le-ltb 3 (getD m t 0) (S t (ltb-true t (length image) e)))
+      by true e = not-second (ltb t (length image)) (damaged (getD m t 0)) (le-ltb 4 (getD m t 0) (S t (ltb-true t (length image) e)))
       by false e = rw e
 
   sound-said : (p : ℕ) → p < length image → judge (damageRefusals image m p (targets (tracerOf mode image) m p)) (stepResult (tracerOf mode image) m p) ≡ accepted (stepResult (tracerOf mode image) m p)
   unfolding damageRefusals
   sound-said p h =
       let k : p - 2 < length image = omega arith in
-      pass _ _ _ (not-second (flashHere image p) (damaged (getD m (p - 2) 0)) (le-ltb 3 (getD m (p - 2) 0) (S (p - 2) k))) ∙ no-damage (stepResult (tracerOf mode image) m p) (targets (tracerOf mode image) m p)
+      pass _ _ _ (not-second (flashHere image p) (damaged (getD m (p - 2) 0)) (le-ltb 4 (getD m (p - 2) 0) (S (p - 2) k))) ∙ no-damage (stepResult (tracerOf mode image) m p) (targets (tracerOf mode image) m p)
 
   pub ready-accepted : length image ≤ 65536 → length image ≤ length m → (p : ℕ) → Ready (tracerOf mode image) m p → stepAnswer mode image m p ≡ accepted (stepResult (tracerOf mode image) m p)
   ready-accepted s l p r =

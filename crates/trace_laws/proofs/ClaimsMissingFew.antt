@@ -17,11 +17,11 @@ use Rattle.instruction.specs.Decode.{cutAt}
 use Rattle.instruction_laws.specs.Missing.{OneOrTwo}
 use Rattle.instruction.proofs.Accepting.{passed}
 use Rattle.instruction_laws.proofs.Missing.{cut-missing}
-use Rattle.reach.specs.Mark.{cleared}
 use Rattle.reach.specs.Run.{End, finished, stopped, cutOff, steps, noted}
 use Rattle.reach.specs.Tracer.{targets}
-use Rattle.reach.proofs.Order.{cleared-base}
 use Rattle.reach.proofs.Run.{run-ending}
+use Rattle.reach.specs.Pins.{table}
+use Rattle.reach.proofs.Table.{table-base}
 use Rattle.trace.specs.Run.{runJudged, ranAnswer, endOf, outcomeOf, andThen, runAnswer}
 use Rattle.trace.specs.Step.{damages, damageRefusals, stepRefusals, stepAnswer}
 use Rattle.marks.specs.Tracer.{tracerOf}
@@ -64,22 +64,22 @@ judged image marks order vs e =
 
 pub run-missing : RunMissing
 unfolding runAnswer outcomeOf
-run-missing mode image marks order entries limit vs bytes e = by (runJudged image marks order) refl
+run-missing mode image marks order entries pins limit vs bytes e = by (runJudged image marks order) refl
   where
-    ends : length image ≤ length marks → (d : End) → outcomeOf mode image marks entries limit .end ≡ d → (s n : ℕ) → endOf image d s n ≡ refused 5 vs → OneOrTwo vs
+    ends : length image ≤ length marks → (d : End) → outcomeOf mode image marks entries pins limit .end ≡ d → (s n : ℕ) → endOf image d s n ≡ refused 5 vs → OneOrTwo vs
     ends room finished f s n g = absurd (let z : _≡_ {A = ℕ} 0 1 = cc in omega arith)
     ends room stopped f s n g = absurd (let z : _≡_ {A = ℕ} 0 1 = cc in omega arith)
     ends room (cutOff p) f s n g =
-        let c = run-ending limit (tracerOf mode image) entries (cleared (length image) marks) (cleared-base (tracerOf mode image) marks room) .when-cut p f in
+        let c = run-ending limit (tracerOf mode image) entries (table (length image) pins marks) (table-base (tracerOf mode image) pins marks room) .when-cut p f in
         let h : cutValues (cutAt image p) ≡ vs = cc in subst OneOrTwo h (few image p bytes (c .inside) (c .cut))
 
     by : (j : Answer (Unit {0})) → runJudged image marks order ≡ j → OneOrTwo vs
     by (accepted u) f =
         let a = passed _ _ _ f in
         let b = passed _ _ _ (a .1) in
-        let out = outcomeOf mode image marks entries limit in
+        let out = outcomeOf mode image marks entries pins limit in
         let g : ranAnswer image out ≡ refused 5 vs = ap (λ (j : Answer (Unit {0})). andThen j (ranAnswer image out)) (sym f) ∙ e in
         ends (ltb-false (length marks) (length image) (b .0)) (out .end) refl (steps out) (length (noted out)) g
     by (refused n ws) f =
-        let g : refused n ws ≡ refused 5 vs = ap (λ (j : Answer (Unit {0})). andThen j (ranAnswer image (outcomeOf mode image marks entries limit))) (sym f) ∙ e in
+        let g : refused n ws ≡ refused 5 vs = ap (λ (j : Answer (Unit {0})). andThen j (ranAnswer image (outcomeOf mode image marks entries pins limit))) (sym f) ∙ e in
         let h : n ≡ 5 = cc in let k : ws ≡ vs = cc in absurd (judged image marks order vs (f ∙ (let l : _≡_ {A = Answer (Unit {0})} (refused n ws) (refused 5 vs) = cc in l)))

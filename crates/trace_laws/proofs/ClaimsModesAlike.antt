@@ -10,12 +10,12 @@ use lib.ListN.{length}
 use Rattle.instruction.specs.Answer.{Answer, judge, after}
 use Rattle.instruction.specs.declared.mode.Mode.the-variants.{Unwrapped, Wrapping}
 use Rattle.reach.specs.ClaimsAlike.{AlikeTaken, AlikeSwept}
-use Rattle.reach.specs.Mark.{cleared}
 use Rattle.reach.specs.Run.{Outcome, ordered}
 use Rattle.reach.specs.Tracer.{took}
 use Rattle.reach.proofs.Alike.{alike-takings, alike-runs}
 use Rattle.reach.proofs.AlikeSweep.{alike-sweeps}
 use Rattle.reach.proofs.Cases.{yes-or-no}
+use Rattle.reach.specs.Pins.{table}
 use Rattle.marks.specs.Tracer.{tracerOf}
 use Rattle.targets.specs.At.{fitsHere, waysHere}
 use Rattle.trace.specs.Run.{outcomeOf, runJudged, ranAnswer, andThen, runAnswer, runMarks, runOrder}
@@ -49,34 +49,34 @@ module _ (image : List ℕ) (S : Stays image) where
 
   -- ---- a run
 
-  module _ (marks order entries : List ℕ) (limit : ℕ) where
-    outcome : outcomeOf Wrapping image marks entries limit ≡ outcomeOf Unwrapped image marks entries limit
+  module _ (marks order entries pins : List ℕ) (limit : ℕ) where
+    outcome : outcomeOf Wrapping image marks entries pins limit ≡ outcomeOf Unwrapped image marks entries pins limit
     unfolding outcomeOf
-    outcome = alike-runs limit (tracerOf Unwrapped image) (waysHere Wrapping image) (ways-same image S) entries (cleared (length image) marks)
+    outcome = alike-runs limit (tracerOf Unwrapped image) (waysHere Wrapping image) (ways-same image S) entries (table (length image) pins marks)
 
-    ran : runAnswer Wrapping image marks order entries limit ≡ runAnswer Unwrapped image marks order entries limit
+    ran : runAnswer Wrapping image marks order entries pins limit ≡ runAnswer Unwrapped image marks order entries pins limit
     unfolding runAnswer
     ran = ap (λ (o : Outcome). andThen (runJudged image marks order) (ranAnswer image o)) outcome
 
-    run-left : runMarks Wrapping image marks order entries limit ≡ runMarks Unwrapped image marks order entries limit
+    run-left : runMarks Wrapping image marks order entries pins limit ≡ runMarks Unwrapped image marks order entries pins limit
     unfolding runMarks
     run-left = ap (λ (o : Outcome). after (runJudged image marks order) (o .marks) marks) outcome
 
-    run-noted : runOrder Wrapping image marks order entries limit ≡ runOrder Unwrapped image marks order entries limit
+    run-noted : runOrder Wrapping image marks order entries pins limit ≡ runOrder Unwrapped image marks order entries pins limit
     unfolding runOrder
     run-noted = ap (λ (o : Outcome). after (runJudged image marks order) (ordered o order) order) outcome
 
   -- ---- sweeps
 
-  module _ (marks entries : List ℕ) where
-    swept : AlikeSwept (tracerOf Wrapping image) (tracerOf Unwrapped image) (startMarks image marks entries)
-    swept = alike-sweeps (tracerOf Unwrapped image) (waysHere Wrapping image) (ways-same image S) (startMarks image marks entries)
+  module _ (marks entries pins : List ℕ) where
+    swept : AlikeSwept (tracerOf Wrapping image) (tracerOf Unwrapped image) (startMarks image marks entries pins)
+    swept = alike-sweeps (tracerOf Unwrapped image) (waysHere Wrapping image) (ways-same image S) (startMarks image marks entries pins)
 
-    sweep-told : sweepAnswer Wrapping image marks entries ≡ sweepAnswer Unwrapped image marks entries
+    sweep-told : sweepAnswer Wrapping image marks entries pins ≡ sweepAnswer Unwrapped image marks entries pins
     unfolding sweepAnswer
     sweep-told = rw (swept .alike-sweeps, swept .alike-steps)
 
-    sweep-left : sweepLeaves Wrapping image marks entries ≡ sweepLeaves Unwrapped image marks entries
+    sweep-left : sweepLeaves Wrapping image marks entries pins ≡ sweepLeaves Unwrapped image marks entries pins
     unfolding sweepLeaves
     sweep-left = rw (sweep-told, swept .alike-marks)
 

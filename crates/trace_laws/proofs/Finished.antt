@@ -17,14 +17,14 @@ use Rattle.instruction.specs.declared.mode.Mode.{Mode}
 use Rattle.reach.specs.Run.{End, finished, stopped, cutOff, Outcome, steps, noted}
 use Rattle.trace.specs.Run.{RunResult, runJudged, runAnswer, runMarks, ranAnswer, endOf, outcomeOf, andThen}
 
-module _ (mode : Mode) (image marks order entries : List ℕ) (limit : ℕ) where
+module _ (mode : Mode) (image marks order entries pins : List ℕ) (limit : ℕ) where
   abbrev judged : Answer (Unit {0})
   judged = runJudged image marks order
 
   abbrev out : Outcome
-  out = outcomeOf mode image marks entries limit
+  out = outcomeOf mode image marks entries pins limit
 
-  module _ (s : RunResult) (a : runAnswer mode image marks order entries limit ≡ accepted s) where
+  module _ (s : RunResult) (a : runAnswer mode image marks order entries pins limit ≡ accepted s) where
     passed : (r : Answer (Unit {0})) → judged ≡ r → (r ≡ accepted tt) × (ranAnswer image out ≡ accepted s)
     unfolding runAnswer
     passed (accepted tt) e = (refl, ap (λ (q : Answer (Unit {0})). andThen q (ranAnswer image out)) (sym e) ∙ a)
@@ -34,7 +34,7 @@ module _ (mode : Mode) (image marks order entries : List ℕ) (limit : ℕ) wher
     pub sized : judged ≡ accepted tt
     sized = passed judged refl .0
 
-    pub marks-are : runMarks mode image marks order entries limit ≡ out .marks
+    pub marks-are : runMarks mode image marks order entries pins limit ≡ out .marks
     unfolding runMarks
     marks-are = ap (λ (q : Answer (Unit {0})). after q (out .marks) marks) sized
 

@@ -15,3 +15,5 @@ pub mod ClaimsSweepsImages
 pub mod Unwritten
 pub mod SameHere
 pub mod ClaimsModesAlike
+pub mod ClaimsPinsNone
+pub mod ClaimsPinsKept

@@ -9,8 +9,8 @@ use Rattle.instruction.specs.Bytes.{Bytes}
 use Rattle.instruction.specs.Answer.{accepted}
 use Rattle.instruction.specs.declared.mode.Mode.{Mode}
 use Rattle.reach.specs.ClaimsOrder.{Final}
-use Rattle.reach.specs.Mark.{cleared}
 use Rattle.reach.specs.Run.{finished}
+use Rattle.reach.specs.Pins.{table}
 use Rattle.trace.specs.Run.{outcomeOf}
 use Rattle.trace.specs.Start.{startAnswer, startMarks}
 use Rattle.trace.specs.Step.{StepResult, stepAnswer, stepMarks}
@@ -31,23 +31,23 @@ abbrev pub Still : Mode → List ℕ → List ℕ → Type 0
 Still mode image m = (p : ℕ) (s : StepResult) → stepAnswer mode image m p ≡ accepted s → ⊥
 
 -- m is where some order ends: started from these entries, and accepted steps until there was none
-pub record StepsToEnd (mode : Mode) (image marks entries m : List ℕ) : Type 0 where
+pub record StepsToEnd (mode : Mode) (image marks entries pins m : List ℕ) : Type 0 where
   pub count : ℕ
-  pub started : startAnswer image marks entries ≡ accepted count
+  pub started : startAnswer image marks entries pins ≡ accepted count
   pub order : List ℕ
-  pub steps : Steps mode image (startMarks image marks entries) order m
+  pub steps : Steps mode image (startMarks image marks entries pins) order m
   pub still : Still mode image m
 
 -- every order ends in the marks that demand 3 names: 2 exactly at the reachable positions whose instruction fits, 1 at the other reachable
 -- ones, the rest untouched. Reachable is `Reach`, crates/reach/specs/Reach.antt
 abbrev pub ImageAnyOrder : Type 0
 ImageAnyOrder =
-    (mode : Mode) (image marks entries m : List ℕ) → Bytes image → Clean image → StepsToEnd mode image marks entries m → Final (tracerOf mode image) (cleared (length image) marks) entries m
+    (mode : Mode) (image marks entries pins m : List ℕ) → Bytes image → Clean image → StepsToEnd mode image marks entries pins m → Final (tracerOf mode image) (table (length image) pins marks) entries m
 
 -- so any two orders end in the same marks
 abbrev pub ImageSameMarks : Type 0
 ImageSameMarks =
-    (mode : Mode) (image marks entries m m′ : List ℕ) → Bytes image → Clean image → StepsToEnd mode image marks entries m → StepsToEnd mode image marks entries m′ → m ≡ m′
+    (mode : Mode) (image marks entries pins m m′ : List ℕ) → Bytes image → Clean image → StepsToEnd mode image marks entries pins m → StepsToEnd mode image marks entries pins m′ → m ≡ m′
 
 -- every sequence of accepted steps ends: it is at most as long as the image
 abbrev pub ImageStepsBound : Type 0
@@ -60,5 +60,5 @@ ImageCanEnd = (mode : Mode) (image m : List ℕ) → (ps : List ℕ) × (m′ : 
 -- a finished run's marks are these too
 abbrev pub ImageRunFinal : Type 0
 ImageRunFinal =
-    (mode : Mode) (image marks entries : List ℕ) (limit : ℕ) → Bytes image → Clean image → length image ≤ length marks → outcomeOf mode image marks entries limit .end ≡ finished
-    → Final (tracerOf mode image) (cleared (length image) marks) entries (outcomeOf mode image marks entries limit .marks)
+    (mode : Mode) (image marks entries pins : List ℕ) (limit : ℕ) → Bytes image → Clean image → length image ≤ length marks → outcomeOf mode image marks entries pins limit .end ≡ finished
+    → Final (tracerOf mode image) (table (length image) pins marks) entries (outcomeOf mode image marks entries pins limit .marks)

@@ -24,14 +24,14 @@ pub record ModesAlike (image : List ℕ) : Type 0 where
   pub name : (p : ℕ) → fitsHere image p ≡ true → nameHere Wrapping image p ≡ nameHere Unwrapped image p
   pub step-answer : (m : List ℕ) (p : ℕ) → stepAnswer Wrapping image m p ≡ stepAnswer Unwrapped image m p
   pub step-marks : (m : List ℕ) (p : ℕ) → stepMarks Wrapping image m p ≡ stepMarks Unwrapped image m p
-  pub run-answer : (marks order entries : List ℕ) (limit : ℕ)
-      → runAnswer Wrapping image marks order entries limit ≡ runAnswer Unwrapped image marks order entries limit
-  pub run-marks : (marks order entries : List ℕ) (limit : ℕ)
-      → runMarks Wrapping image marks order entries limit ≡ runMarks Unwrapped image marks order entries limit
-  pub run-order : (marks order entries : List ℕ) (limit : ℕ)
-      → runOrder Wrapping image marks order entries limit ≡ runOrder Unwrapped image marks order entries limit
-  pub sweep-answer : (marks entries : List ℕ) → sweepAnswer Wrapping image marks entries ≡ sweepAnswer Unwrapped image marks entries
-  pub sweep-leaves : (marks entries : List ℕ) → sweepLeaves Wrapping image marks entries ≡ sweepLeaves Unwrapped image marks entries
+  pub run-answer : (marks order entries pins : List ℕ) (limit : ℕ)
+      → runAnswer Wrapping image marks order entries pins limit ≡ runAnswer Unwrapped image marks order entries pins limit
+  pub run-marks : (marks order entries pins : List ℕ) (limit : ℕ)
+      → runMarks Wrapping image marks order entries pins limit ≡ runMarks Unwrapped image marks order entries pins limit
+  pub run-order : (marks order entries pins : List ℕ) (limit : ℕ)
+      → runOrder Wrapping image marks order entries pins limit ≡ runOrder Unwrapped image marks order entries pins limit
+  pub sweep-answer : (marks entries pins : List ℕ) → sweepAnswer Wrapping image marks entries pins ≡ sweepAnswer Unwrapped image marks entries pins
+  pub sweep-leaves : (marks entries pins : List ℕ) → sweepLeaves Wrapping image marks entries pins ≡ sweepLeaves Unwrapped image marks entries pins
 
 -- so it is for every such image
 abbrev pub StaysAlike : Type 0

@@ -5,3 +5,4 @@ pub mod ClaimsImages
 pub mod ClaimsMissing
 pub mod ClaimsSweeps
 pub mod ClaimsModesAlike
+pub mod ClaimsPins

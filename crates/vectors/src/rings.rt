@@ -162,7 +162,8 @@ fn stepped(
     marks: &mut [u8],
     answer: &mut [i64; 5],
 ) -> u32 {
-    pottagewing::pw_start(image, marks, entries, answer);
+    let pins = [traces::PAST; 2];
+    pottagewing::pw_start(image, marks, entries, &pins, answer);
     pottagewing::pw_step(mode, image, marks, entries[0], answer)
 }
 
@@ -176,9 +177,19 @@ fn ask(
     marks: &mut [u8],
     answer: &mut [i64; 5],
 ) -> u32 {
+    let pins = [traces::PAST; 2];
     match letter {
-        b'O' => pottagewing::pw_run(mode, image, marks, order, entries, traces::NO_LIMIT, answer),
-        b'S' => pottagewing::pw_sweep(mode, image, marks, entries, answer),
+        b'O' => pottagewing::pw_run(
+            mode,
+            image,
+            marks,
+            order,
+            entries,
+            &pins,
+            traces::NO_LIMIT,
+            answer,
+        ),
+        b'S' => pottagewing::pw_sweep(mode, image, marks, entries, &pins, answer),
         _ => stepped(mode, image, entries, marks, answer),
     }
 }

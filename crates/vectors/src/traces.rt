@@ -45,6 +45,9 @@ fn are(order: &[u32; 10], marks: &[u8; 10], places: i64, values: i64) -> bool {
     true
 }
 
+// Past every image: a pin there is skipped.
+pub const PAST: u32 = 65536;
+
 // No line has this number.
 pub const OTHER: u32 = 255;
 
@@ -53,6 +56,7 @@ fn ran(
     mode: u32,
     image: &[u8],
     entries: &[u32; 2],
+    pins: &[u32; 2],
     places: i64,
     values: i64,
     answer: &mut [i64; 5],
@@ -65,6 +69,7 @@ fn ran(
         &mut marks,
         &mut order,
         entries,
+        pins,
         NO_LIMIT,
         answer,
     );
@@ -80,13 +85,14 @@ fn swept(
     mode: u32,
     image: &[u8],
     entries: &[u32; 2],
+    pins: &[u32; 2],
     places: i64,
     values: i64,
     answer: &mut [i64; 5],
 ) -> u32 {
     let mut marks = [OLD_MARK; 10];
     let order = [OLD_PLACE; 10];
-    let number = pottagewing::pw_sweep(mode, image, &mut marks, entries, answer);
+    let number = pottagewing::pw_sweep(mode, image, &mut marks, entries, pins, answer);
     if are(&order, &marks, places, values) {
         number
     } else {
@@ -113,8 +119,8 @@ pub fn told(numbers: &[i64; 11], n: u8, a: u32, b: u32, number: u32, answer: &[i
     calls::same(numbers, &given, number, &values)
 }
 
-// Whether a run, or sweeps, answer and leave what the line says.
-fn holds(sweeping: bool, mode: u32, numbers: &[i64; 11]) -> bool {
+// Whether a run, or sweeps, answer and leave what the line says. It gives two entries, or an entry and a pin, which are each told twice.
+fn holds(sweeping: bool, pinned: bool, mode: u32, numbers: &[i64; 11]) -> bool {
     let n = narrow::byte(numbers[0]);
     let a = narrow::word(numbers[3]);
     let b = narrow::word(numbers[4]);
@@ -124,12 +130,16 @@ fn holds(sweeping: bool, mode: u32, numbers: &[i64; 11]) -> bool {
         return false;
     }
     let mut answer = [0i64; 5];
-    let entries = [a, b];
+    let second = if pinned { a } else { b };
+    let pin = if pinned { b } else { PAST };
+    let entries = [a, second];
+    let pins = [pin, pin];
     let number = if sweeping {
         swept(
             mode,
             &bytes[0..end],
             &entries,
+            &pins,
             numbers[9],
             numbers[10],
             &mut answer,
@@ -139,6 +149,7 @@ fn holds(sweeping: bool, mode: u32, numbers: &[i64; 11]) -> bool {
             mode,
             &bytes[0..end],
             &entries,
+            &pins,
             numbers[9],
             numbers[10],
             &mut answer,
@@ -148,9 +159,17 @@ fn holds(sweeping: bool, mode: u32, numbers: &[i64; 11]) -> bool {
 }
 
 pub fn run(mode: u32, numbers: &[i64; 11]) -> bool {
-    holds(false, mode, numbers)
+    holds(false, false, mode, numbers)
 }
 
 pub fn sweep(mode: u32, numbers: &[i64; 11]) -> bool {
-    holds(true, mode, numbers)
+    holds(true, false, mode, numbers)
+}
+
+pub fn pinned_run(mode: u32, numbers: &[i64; 11]) -> bool {
+    holds(false, true, mode, numbers)
+}
+
+pub fn pinned_sweep(mode: u32, numbers: &[i64; 11]) -> bool {
+    holds(true, true, mode, numbers)
 }

@@ -3,8 +3,8 @@
 use mathlib.Core.Path.{_≡_, refl, sym, ap, subst, _∙_}
 use mathlib.Core.Bool.{Bool, true, false, _||_}
 use mathlib.Core.List.{List}
-use mathlib.Core.Logic.{_⊎_, inl, inr}
-use Prim.Native.Nat.{ℕ, _+_, _<_}
+use mathlib.Core.Logic.{_⊎_, inl, inr, ⊎-elim}
+use Prim.Native.Nat.{ℕ, _+_, _<_, _≤_}
 use native.Mathlib.Omega.{arith}
 use native.Mathlib.Nat.{zero-add}
 use lib.Dec.{ltb, leb, eqb}
@@ -15,9 +15,10 @@ use Rattle.targets.specs.At.{sizeHere, fitsHere, waysHere}
 use Rattle.instruction.proofs.Ands.{both, first-part, second-part}
 use Rattle.instruction.specs.declared.mode.Mode.{Mode}
 use Rattle.reach.specs.ClaimsOrder.{Final}
-use Rattle.reach.specs.Mark.{traced, flash, tracedMark, cleared}
+use Rattle.reach.specs.Mark.{traced, flash, tracedMark}
 use Rattle.reach.specs.Reach.{Reach}
-use Rattle.reach.proofs.Cleared.{cleared-at}
+use Rattle.reach.proofs.Table.{table-at}
+use Rattle.reach.specs.Pins.{table}
 use Rattle.marks.specs.Tracer.{tracerOf}
 use Rattle.trace_laws.proofs.ClaimsImagesOrder.{image-run-final}
 use Rattle.views.specs.Positions.{bit, tracedAt}
@@ -29,9 +30,9 @@ use Rattle.views_laws.proofs.Reached.{plainly, over, reached-inside}
 use Rattle.views_laws.proofs.Somes.{which, passing}
 
 -- marks that are final
-module _ (mode : Mode) (image marks entries m : List ℕ) (F : Final (tracerOf mode image) (cleared (length image) marks) entries m) where
+module _ (mode : Mode) (image marks entries pins m : List ℕ) (l : length image ≤ length marks) (F : Final (tracerOf mode image) (table (length image) pins marks) entries m) where
   abbrev At : ℕ → Type 0
-  At q = Reach (tracerOf mode image) (waysHere mode image) (cleared (length image) marks) entries q
+  At q = Reach (tracerOf mode image) (waysHere mode image) (table (length image) pins marks) entries q
 
   -- a reachable position has mark 1 or 2
   reached-mark : (q : ℕ) → q < length image → At q → (b : Bool) → fitsHere image q ≡ b → getD m q 0 ≡ flash → ⊥
@@ -41,7 +42,8 @@ module _ (mode : Mode) (image marks entries m : List ℕ) (F : Final (tracerOf m
   -- no mark is 3
   no-flash : (q : ℕ) → q < length image → getD m q 0 ≡ flash → ⊥
   no-flash q h e =
-      let z : getD m q 0 ≡ 0 = F .others q (λ r. reached-mark q h r (fitsHere image q) refl e) ∙ cleared-at (length image) marks q h in omega arith
+      let z : getD m q 0 ≡ getD (table (length image) pins marks) q 0 = F .others q (λ r. reached-mark q h r (fitsHere image q) refl e) in
+      ⊎-elim (λ a. omega arith) (λ a. omega arith) (table-at (length image) pins marks q l h)
 
   pub traced-reached : (q : ℕ) → q < length image → tracedMark (getD m q 0) ≡ true → At q × (fitsHere image q ≡ true)
   unfolding tracedMark
@@ -56,7 +58,7 @@ module _ (mode : Mode) (image marks entries m : List ℕ) (F : Final (tracerOf m
   reached-traced q h r f = ap tracedMark (F .two q h .1 (r, f))
 
   -- a byte that is masked is code
-  masked-code : (b : ℕ) → masked image m b ≡ true → Code mode image entries b
+  masked-code : (b : ℕ) → masked image m b ≡ true → Code mode image entries pins b
   unfolding masked
   masked-code b e =
       let P = which (covers image m b) (length image) 0 e in
@@ -67,18 +69,18 @@ module _ (mode : Mode) (image marks entries m : List ℕ) (F : Final (tracerOf m
       let r = traced-reached q h (second-part (ltb q (length image)) _ t) in
       record {
         position = q;
-        reachable = plainly (tracerOf mode image) (waysHere mode image) marks entries (r .0);
+        reachable = plainly (tracerOf mode image) (waysHere mode image) marks entries pins l (r .0);
         fits = r .1;
         from = leb-true q b (first-part (leb q b) _ u);
         to = ltb-true b (q + sizeHere image q) (second-part (leb q b) _ u);
       }
 
   -- and code is masked
-  code-masked : (b : ℕ) → Code mode image entries b → masked image m b ≡ true
+  code-masked : (b : ℕ) → Code mode image entries pins b → masked image m b ≡ true
   unfolding masked
   code-masked b C =
       let q = C .position in
-      let r = over (tracerOf mode image) (waysHere mode image) marks entries (C .reachable) in
+      let r = over (tracerOf mode image) (waysHere mode image) marks entries pins l (C .reachable) in
       let h = reached-inside (C .reachable) .inside in
       passing (covers image m b) (length image) 0 q (omega arith) (subst (λ (k : ℕ). q < k) (sym (zero-add (length image))) h)
       (both (tracedAt image m q) (under image b q)
@@ -89,15 +91,15 @@ module _ (mode : Mode) (image marks entries m : List ℕ) (F : Final (tracerOf m
   unfolding maskOf
   mask-at b h = up-at (λ (k : ℕ). bit (masked image m k)) (length image) 0 b h ∙ ap (λ (k : ℕ). bit (masked image m k)) (zero-add b)
 
-  told : (b : ℕ) → b < length image → ((getD (maskOf image m) b 0 ≡ 1) × Code mode image entries b) ⊎ ((getD (maskOf image m) b 0 ≡ 0) × (Code mode image entries b → ⊥))
+  told : (b : ℕ) → b < length image → ((getD (maskOf image m) b 0 ≡ 1) × Code mode image entries pins b) ⊎ ((getD (maskOf image m) b 0 ≡ 0) × (Code mode image entries pins b → ⊥))
   told b h = by (masked image m b) refl
     where
-      by : (t : Bool) → masked image m b ≡ t → ((getD (maskOf image m) b 0 ≡ 1) × Code mode image entries b) ⊎ ((getD (maskOf image m) b 0 ≡ 0) × (Code mode image entries b → ⊥))
+      by : (t : Bool) → masked image m b ≡ t → ((getD (maskOf image m) b 0 ≡ 1) × Code mode image entries pins b) ⊎ ((getD (maskOf image m) b 0 ≡ 0) × (Code mode image entries pins b → ⊥))
       by true e = inl (mask-at b h ∙ ap bit e, masked-code b e)
       by false e = inr (mask-at b h ∙ ap bit e, λ C. never (sym (code-masked b C) ∙ e))
 
 pub code-bytes : CodeBytes
-code-bytes mode image marks order entries limit s B C a f b h =
-    subst (λ (m : List ℕ). ((getD (maskOf image m) b 0 ≡ 1) × Code mode image entries b) ⊎ ((getD (maskOf image m) b 0 ≡ 0) × (Code mode image entries b → ⊥)))
-    (sym (marks-are mode image marks order entries limit s a))
-    (told mode image marks entries _ (image-run-final mode image marks entries limit B C (covered mode image marks order entries limit (sized mode image marks order entries limit s a)) (ended mode image marks order entries limit s a f)) b h)
+code-bytes mode image marks order entries pins limit s B C a f b h =
+    subst (λ (m : List ℕ). ((getD (maskOf image m) b 0 ≡ 1) × Code mode image entries pins b) ⊎ ((getD (maskOf image m) b 0 ≡ 0) × (Code mode image entries pins b → ⊥)))
+    (sym (marks-are mode image marks order entries pins limit s a))
+    (told mode image marks entries pins _ (covered mode image marks order entries pins limit (sized mode image marks order entries pins limit s a)) (image-run-final mode image marks entries pins limit B C (covered mode image marks order entries pins limit (sized mode image marks order entries pins limit s a)) (ended mode image marks order entries pins limit s a f)) b h)

@@ -3,6 +3,7 @@
 use mathlib.Core.Path.{_≡_, refl, sym, ap, subst, _∙_}
 use mathlib.Core.Bool.{Bool, true, false, cond, _||_}
 use mathlib.Core.List.{List}
+use mathlib.Core.Logic.{⊎-elim}
 use Prim.Native.Nat.{ℕ, _<_, _≤_}
 use native.Mathlib.Omega.{arith}
 use lib.Dec.{eqb, leb}
@@ -11,16 +12,16 @@ use Rattle.instruction.specs.Forms.{formNamed}
 use Rattle.targets.specs.At.{formHere, fitsHere, flashHere}
 use Rattle.instruction.proofs.Ands.{first-part, second-part}
 use Rattle.instruction.specs.declared.mode.Mode.{Mode}
-use Rattle.reach.specs.Mark.{flash, traced, tracedMark, cleared}
+use Rattle.reach.specs.Mark.{flash, traced, tracedMark}
 use Rattle.reach.specs.Note.{note}
 use Rattle.reach.specs.Takes.{Ready, Takes, stay, up}
 use Rattle.reach.specs.Tracer.{mark, took}
-use Rattle.reach.proofs.Cleared.{cleared-at, length-cleared}
 use Rattle.reach.proofs.NoteAt.{Noticed, as-before, newly, noticed}
-use Rattle.reach.proofs.Order.{cleared-base}
 use Rattle.reach.proofs.Run.{run-takes}
 use Rattle.reach.proofs.Took.{Moved, itself, kept, called, moved, length-took}
 use Rattle.reach.proofs.Note.{length-note}
+use Rattle.reach.specs.Pins.{pinned, table}
+use Rattle.reach.proofs.Table.{table-at, table-base, length-table}
 use Rattle.trace.specs.Run.{outcomeOf}
 use Rattle.marks.specs.Refusals.{damaged}
 use Rattle.marks.specs.Tracer.{tracerOf, exemptHere}
@@ -43,6 +44,10 @@ module _ (image : List ℕ) where
   unfolding misplaced offJmpf tracedMark
   waiting-fine q = refl
 
+  pinned-fine : (q : ℕ) → Fine q pinned
+  unfolding misplaced offJmpf tracedMark
+  pinned-fine q = refl
+
   traced-fine : (q : ℕ) → fitsHere image q ≡ true → Fine q 2
   unfolding misplaced offJmpf tracedMark
   traced-fine q f = rw f
@@ -60,11 +65,12 @@ module _ (image : List ℕ) where
   abbrev Good : List ℕ → Type 0
   Good m = (q : ℕ) → q < n → Fine q (getD m q 0)
 
-  pub start-good : (marks entries : List ℕ) → n ≤ length marks → Good (note n entries (cleared n marks))
-  start-good marks entries l q h = by (noticed n entries (cleared n marks) q (omega (arith, length-cleared n marks l)))
+  pub start-good : (marks entries pins : List ℕ) → n ≤ length marks → Good (note n entries (table n pins marks))
+  start-good marks entries pins l q h = by (noticed n entries (table n pins marks) q (omega (arith, length-table n pins marks l)))
     where
-      by : Noticed n entries (cleared n marks) q → Fine q (getD (note n entries (cleared n marks)) q 0)
-      by (as-before f x) = subst (Fine q) (sym (x ∙ cleared-at n marks q h)) (untouched-fine q)
+      by : Noticed n entries (table n pins marks) q → Fine q (getD (note n entries (table n pins marks)) q 0)
+      by (as-before f x) =
+          ⊎-elim (λ e. subst (Fine q) (sym (x ∙ e)) (untouched-fine q)) (λ e. subst (Fine q) (sym (x ∙ e)) (pinned-fine q)) (table-at n pins marks q l h)
       by (newly i o x) = subst (Fine q) (sym x) (waiting-fine q)
 
 -- taking positions up
@@ -94,8 +100,8 @@ module _ (mode : Mode) (image : List ℕ) where
 
 pub run-undamaged : RunUndamaged
 unfolding outcomeOf damagedHere
-run-undamaged mode image marks entries limit l p h =
+run-undamaged mode image marks entries pins limit l p h =
     takes-good mode image
-    (let e = length-note (length image) entries (cleared (length image) marks) in omega (arith, length-cleared (length image) marks l))
-    (run-takes limit (tracerOf mode image) entries (cleared (length image) marks) (cleared-base (tracerOf mode image) marks l) .takes)
-    (start-good image marks entries l) p h
+    (let e = length-note (length image) entries (table (length image) pins marks) in omega (arith, length-table (length image) pins marks l))
+    (run-takes limit (tracerOf mode image) entries (table (length image) pins marks) (table-base (tracerOf mode image) pins marks l) .takes)
+    (start-good image marks entries pins l) p h

@@ -6,11 +6,11 @@ use mathlib.Core.Bool.{false}
 use mathlib.Core.List.{List}
 use mathlib.Core.Path.{_≡_, sym, subst}
 use lib.ListN.{length}
-use Rattle.reach.specs.Mark.{cleared}
 use Rattle.reach.specs.Note.{note}
-use Rattle.reach.proofs.Cleared.{length-cleared}
 use Rattle.reach.proofs.Note.{length-note}
 use Rattle.reach.proofs.SweepTakes.{sweeps-take}
+use Rattle.reach.specs.Pins.{table}
+use Rattle.reach.proofs.Table.{length-table}
 use Rattle.marks.specs.Tracer.{tracerOf}
 use Rattle.trace_laws.specs.ClaimsImages.{stay, further}
 use Rattle.trace_laws.proofs.Accepted.{went}
@@ -22,9 +22,9 @@ use Rattle.views_laws.proofs.ClaimsSoundRun.{step-good, takes-good, sta
 
 pub start-undamaged : StartUndamaged
 unfolding damagedHere
-start-undamaged image marks entries k e =
-    let s = began image marks entries k e in
-    subst (Undamaged image) (sym (s .marks-are)) (start-good image marks entries (s .room))
+start-undamaged image marks entries pins k e =
+    let s = began image marks entries pins k e in
+    subst (Undamaged image) (sym (s .marks-are)) (start-good image marks entries pins (s .room))
 
 pub step-undamaged : StepUndamaged
 unfolding damagedHere
@@ -38,11 +38,11 @@ steps-undamaged mode image m ps m′ u (further {p = p} {s = s} e rest) =
 
 pub sweep-undamaged : SweepUndamaged
 unfolding damagedHere
-sweep-undamaged mode image marks entries s e =
-    let room = long-marks mode image marks entries s e in
-    let begun : List ℕ = note (length image) entries (cleared (length image) marks) in
-    let l = length-note (length image) entries (cleared (length image) marks) in
-    subst (Undamaged image) (sym (leaves-sweeps mode image marks entries (small-image mode image marks entries s e) room))
-    (takes-good mode image (omega (arith, l, length-cleared (length image) marks room))
-    (sweeps-take (tracerOf mode image) (suc (length image)) begun (omega (arith, l, length-cleared (length image) marks room)) .takes)
-    (start-good image marks entries room))
+sweep-undamaged mode image marks entries pins s e =
+    let room = long-marks mode image marks entries pins s e in
+    let begun : List ℕ = note (length image) entries (table (length image) pins marks) in
+    let l = length-note (length image) entries (table (length image) pins marks) in
+    subst (Undamaged image) (sym (leaves-sweeps mode image marks entries pins (small-image mode image marks entries pins s e) room))
+    (takes-good mode image (omega (arith, l, length-table (length image) pins marks room))
+    (sweeps-take (tracerOf mode image) (suc (length image)) begun (omega (arith, l, length-table (length image) pins marks room)) .takes)
+    (start-good image marks entries pins room))

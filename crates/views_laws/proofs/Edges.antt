@@ -19,6 +19,7 @@ use Rattle.reach.specs.Mark.{tracedMark, cleared}
 use Rattle.reach.specs.Note.{isOpen, note, fresh}
 use Rattle.reach.specs.Run.{runFrom, runOf}
 use Rattle.reach.specs.Tracer.{targets, mark, took, found}
+use Rattle.reach.specs.Pins.{pin}
 use Rattle.trace.specs.Run.{outcomeOf, runMarks, runOrder}
 use Rattle.marks.specs.Tracer.{exemptHere}
 use Rattle.views.specs.Positions.{upFrom, some}
@@ -26,6 +27,6 @@ use Rattle.views.specs.Labels.{labelled, labelsOf}
 use Rattle.views_laws.specs.Edges.{Edges}
 
 pub edges : Edges
-unfolding judge cutAt decodeAnswer fieldsIn resolveAnswer operandRefusals fieldOf instrBytes forms formAt formOf formNamed kindsOf partsOf madeOf pattern patternBytes onto bitsGiven nextBracket targetsAnswer targetsIn addressIn addressOf fitsHere instrHere waysHere flashHere nameHere nameOf exemptHere runMarks runOrder outcomeOf runOf runFrom took found targets mark note fresh isOpen tracedMark cleared labelsOf labelled some upFrom unfit flowOf stops jumps branches
+unfolding pin judge cutAt decodeAnswer fieldsIn resolveAnswer operandRefusals fieldOf instrBytes forms formAt formOf formNamed kindsOf partsOf madeOf pattern patternBytes onto bitsGiven nextBracket targetsAnswer targetsIn addressIn addressOf fitsHere instrHere waysHere flashHere nameHere nameOf exemptHere runMarks runOrder outcomeOf runOf runFrom took found targets mark note fresh isOpen tracedMark cleared labelsOf labelled some upFrom unfit flowOf stops jumps branches
 edges =
     (refl, refl, refl, refl, refl, refl, refl, refl, refl, refl, refl, refl, refl, refl, refl, refl, refl, refl, refl, refl, refl, refl, refl, refl)

@@ -22,12 +22,12 @@ Undamaged image m = (p : ℕ) → p < length image → damagedHere image m p ≡
 -- for every image, also one with B8 0D 21, from any entries, however the run ends
 abbrev pub RunUndamaged : Type 0
 RunUndamaged =
-    (mode : Mode) (image marks entries : List ℕ) (limit : ℕ) → length image ≤ length marks → Undamaged image (outcomeOf mode image marks entries limit .marks)
+    (mode : Mode) (image marks entries pins : List ℕ) (limit : ℕ) → length image ≤ length marks → Undamaged image (outcomeOf mode image marks entries pins limit .marks)
 
 -- what start leaves
 abbrev pub StartUndamaged : Type 0
 StartUndamaged =
-    (image marks entries : List ℕ) (k : ℕ) → startAnswer image marks entries ≡ accepted k → Undamaged image (startMarks image marks entries)
+    (image marks entries pins : List ℕ) (k : ℕ) → startAnswer image marks entries pins ≡ accepted k → Undamaged image (startMarks image marks entries pins)
 
 -- an accepted step keeps marks that are not damaged so
 abbrev pub StepUndamaged : Type 0
@@ -42,5 +42,5 @@ StepsUndamaged = (mode : Mode) (image m ps m′ : List ℕ) → Undamaged image 
 -- what the sweeping engine leaves
 abbrev pub SweepUndamaged : Type 0
 SweepUndamaged =
-    (mode : Mode) (image marks entries : List ℕ) (s : SweepResult) → sweepAnswer mode image marks entries ≡ accepted s
-    → Undamaged image (sweepLeaves mode image marks entries)
+    (mode : Mode) (image marks entries pins : List ℕ) (s : SweepResult) → sweepAnswer mode image marks entries pins ≡ accepted s
+    → Undamaged image (sweepLeaves mode image marks entries pins)

@@ -26,10 +26,10 @@ unread = replicate 5 9
 
 -- a run in it from one entry: the marks it leaves, and the order list, which notes positions from its start on
 abbrev pub marksFrom : ℕ → List ℕ
-marksFrom entry = runMarks Unwrapped flashCall unread unread (entry ∷ []) 5
+marksFrom entry = runMarks Unwrapped flashCall unread unread (entry ∷ []) [] 5
 
 abbrev pub orderFrom : ℕ → List ℕ
-orderFrom entry = runOrder Unwrapped flashCall unread unread (entry ∷ []) 5
+orderFrom entry = runOrder Unwrapped flashCall unread unread (entry ∷ []) [] 5
 
 abbrev pub Edges : Type 0
 Edges =

@@ -13,10 +13,10 @@ use Rattle.c_answers.proofs.tracing.start.Tie as tie
 started-requires : tie.Need-started-requires
 started-requires c κs =
     let t = c .before .before in
-    let s = t .before .before .before .before .before in
+    let s = t .before .before .before .before .before .before in
     let i : length (s .args .image .now) < 2 ^ 63 = omega (arith, s .good .0 .1) in
     let m : length (s .args .marks .now) < 2 ^ 63 = omega (arith, s .good .1 .0 .1) in
-    started-small (s .args .image .now) (s .args .marks .now) i m (s .args .entries .now) (t .start .result) (t .start .ensures .0)
+    started-small (s .args .image .now) (s .args .marks .now) i m (s .args .entries .now) (s .args .pins .now) (t .start .result) (t .start .ensures .0)
 
 returns : tie.Need-returns
 returns c =

@@ -14,10 +14,10 @@ use Rattle.c_answers.proofs.tracing.sweep.Tie as tie
 swept-requires : tie.Need-swept-requires
 swept-requires c κs =
     let t = c .before .before in
-    let s = t .before .before .before .before .before in
+    let s = t .before .before .before .before .before .before in
     let i : length (s .args .image .now) < 2 ^ 63 = omega (arith, s .good .1 .0 .1) in
     let m : length (s .args .marks .now) < 2 ^ 63 = omega (arith, s .good .1 .1 .0 .1) in
-    swept-small (s .args .image .now) (s .args .marks .now) i m (s .args .mode) (s .args .entries .now) (t .sweep .result) (t .sweep .ensures .0)
+    swept-small (s .args .image .now) (s .args .marks .now) i m (s .args .mode) (s .args .entries .now) (s .args .pins .now) (t .sweep .result) (t .sweep .ensures .0)
 
 returns : tie.Need-returns
 returns c =

@@ -41,7 +41,7 @@ order-long : (s : tie.After-positions) → length (image s) ≡ length (lent-ord
 order-long s = sym (ap length (order-are s) ∙ length-replicate (length (image s)) 0)
 
 abbrev made : tie.After-run → tie.After-positions
-made r = r .before .before .before
+made r = r .before .before .before .before
 
 abbrev start : tie.After-run → tie.Start
 start r = entry (made r)
@@ -125,7 +125,7 @@ returns-6 c =
 pub list-image-spec : {M : Type 1} → statement M
 list-image-spec =
     tie.close
-    (tie.spec (λ c κs. search needs) (λ c κs. search needs) (λ c. search needs) (λ c. marks-long (c .before)) (λ c. search needs) (λ c. order-long (c .before .before)) (λ c. search needs) (λ c κs. search needs)
+    (tie.spec (λ c κs. search needs) (λ c κs. search needs) (λ c. search needs) (λ c. marks-long (c .before)) (λ c. search needs) (λ c. order-long (c .before .before)) (λ c. search needs) (λ c. search needs) (λ c κs. search needs)
     (λ c. search needs) (λ c. within (c .before .before .before .before)) (λ c. sized (c .before .before .before .before .before)) (λ c κs. search needs)
     (λ c. search needs) (λ c. within (c .before .before .before .before)) (λ c. sized (c .before .before .before .before .before)) (λ c κs. search needs)
     (λ c. search needs) (λ c κs. search needs) (λ c. search needs) (λ c κs. search needs) (λ c. search needs) (λ c κs. search needs)

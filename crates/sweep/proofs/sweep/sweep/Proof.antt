@@ -15,10 +15,10 @@ abbrev started : tie.After-slice-known2 → tie.After-start
 started c = c .before .before
 
 abbrev start : tie.After-slice-known2 → tie.Start
-start c = started c .before .before .before .before .before
+start c = started c .before .before .before .before .before .before
 
 abbrev Accepted : tie.After-slice-known2 → ℕ → Type 0
-Accepted c k = accepted k ≡ startAnswer (start c .args .image .now) (start c .args .marks .now) (start c .args .entries .now)
+Accepted c k = accepted k ≡ startAnswer (start c .args .image .now) (start c .args .marks .now) (start c .args .entries .now) (start c .args .pins .now)
 
 set : (c : tie.After-enum-told) → Accepted (c .before .before) (c .enum-told .given .0 .0)
 set c = sym (ap startedOf (c .enum-told .given .1)) ∙ started (c .before .before) .start .ensures .0
@@ -29,9 +29,9 @@ sweep-on-requires c κs =
     let k = e .before .before in
     let a = start k .args in
     let m = started k .start .ensures .1 in (
-      small (a .mode) (a .image .now) (a .marks .now) (a .entries .now) _ (set e),
-      rw m (begun-long (a .mode) (a .image .now) (a .marks .now) (a .entries .now) _ (set e)),
-      rw m (begun-count (a .mode) (a .image .now) (a .marks .now) (a .entries .now) _ (set e)),
+      small (a .mode) (a .image .now) (a .marks .now) (a .entries .now) (a .pins .now) _ (set e),
+      rw m (begun-long (a .mode) (a .image .now) (a .marks .now) (a .entries .now) (a .pins .now) _ (set e)),
+      rw m (begun-count (a .mode) (a .image .now) (a .marks .now) (a .entries .now) (a .pins .now) _ (set e)),
     )
 
 returns : tie.Need-returns
@@ -40,21 +40,21 @@ returns c =
     let e = o .before .before in
     let k = e .before .before in
     let a = start k .args in
-    swept (a .mode) (a .image .now) (a .marks .now) (a .entries .now) _ (set e) (o .sweep-on .result) _ _ (started k .start .ensures .1) (o .sweep-on .ensures)
+    swept (a .mode) (a .image .now) (a .marks .now) (a .entries .now) (a .pins .now) _ (set e) (o .sweep-on .result) _ _ (started k .start .ensures .1) (o .sweep-on .ensures)
 
 returns-2 : tie.Need-returns-2
 returns-2 c =
     let n = c .before in
     let k = n .before .before in
     let a = start k .args in
-    refused-too (a .mode) (a .image .now) (a .marks .now) (a .entries .now) 1 (pos (n .n .given .0 .0) ∷ []) _ (sym (ap startedOf (n .n .given .1)) ∙ started k .start .ensures .0) (started k .start .ensures .1)
+    refused-too (a .mode) (a .image .now) (a .marks .now) (a .entries .now) (a .pins .now) 1 (pos (n .n .given .0 .0) ∷ []) _ (sym (ap startedOf (n .n .given .1)) ∙ started k .start .ensures .0) (started k .start .ensures .1)
 
 returns-3 : tie.Need-returns-3
 returns-3 c =
     let n = c .before in
     let k = n .before .before in
     let a = start k .args in
-    refused-too (a .mode) (a .image .now) (a .marks .now) (a .entries .now) 2 (pos (n .n2 .given .0 .0) ∷ []) _ (sym (ap startedOf (n .n2 .given .1)) ∙ started k .start .ensures .0) (started k .start .ensures .1)
+    refused-too (a .mode) (a .image .now) (a .marks .now) (a .entries .now) (a .pins .now) 2 (pos (n .n2 .given .0 .0) ∷ []) _ (sym (ap startedOf (n .n2 .given .1)) ∙ started k .start .ensures .0) (started k .start .ensures .1)
 
 pub sweep-spec : {M : Type 1} → statement M
 sweep-spec =

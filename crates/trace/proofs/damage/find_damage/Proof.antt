@@ -49,7 +49,7 @@ returns : tie.Need-returns
 returns c =
     let t = c .before .before in
     let f = t .before in
-    before-damaged (image f) (marks f) (ways f) (p f) (flash t) (lt-ltb 3 _ (c .if2 .taken))
+    before-damaged (image f) (marks f) (ways f) (p f) (flash t) (lt-ltb 4 _ (c .if2 .taken))
 
 returns-2 : tie.Need-returns-2
 returns-2 c =
@@ -57,7 +57,7 @@ returns-2 c =
     let e = r .before in
     let t = e .before .before in
     let f = t .before in
-    exempted (image f) (marks f) (ways f) (p f) (flash t) (le-ltb 3 _ (e .if2 .left)) (sym (r .is-traced .ensures) ∙ c .if3 .taken)
+    exempted (image f) (marks f) (ways f) (p f) (flash t) (le-ltb 4 _ (e .if2 .left)) (sym (r .is-traced .ensures) ∙ c .if3 .taken)
 
 returns-3 : tie.Need-returns-3
 returns-3 c =
@@ -65,7 +65,7 @@ returns-3 c =
     let f = j .before in
     let e = f .is-flash .ensures in
     c .damage-all .ensures ∙ by-ways (image f) (marks f) (ways f) (p f)
-    (⊎-elim (λ w. inr (sym e ∙ w .0 .taken, le-ltb 3 _ (w .2 .left), sym (w .3 .ensures) ∙ w .4 .left)) (λ w. inl (sym e ∙ w .left)) (j .if1 .came))
+    (⊎-elim (λ w. inr (sym e ∙ w .0 .taken, le-ltb 4 _ (w .2 .left), sym (w .3 .ensures) ∙ w .4 .left)) (λ w. inl (sym e ∙ w .left)) (j .if1 .came))
 
 pub find-damage-spec : {M : Type 1} → statement M
 find-damage-spec =

@@ -7,19 +7,19 @@ use Rattle.trace.proofs.run.run.Statement.{statement}
 use Rattle.trace.proofs.run.run.Tie as tie
 
 abbrev start : tie.Else1 → tie.Start
-start c = c .before .before .before .before .before
+start c = c .before .before .before .before .before .before
 
 returns : tie.Need-returns
 returns c =
-    let a = c .before .before .before .before .before .args in
-    let w = long (a .mode) (a .image .now) (a .marks .now) (a .order .now) (a .entries .now) (a .limit) (c .if1 .taken) in
+    let a = c .before .before .before .before .before .before .args in
+    let w = long (a .mode) (a .image .now) (a .marks .now) (a .order .now) (a .entries .now) (a .pins .now) (a .limit) (c .if1 .taken) in
     (w .0, (w .1, (w .2, tt)))
 
 returns-2 : tie.Need-returns-2
 returns-2 c =
     let e = c .before in
     let a = start e .args in
-    let w = short-marks (a .mode) (a .image .now) (a .marks .now) (a .order .now) (a .entries .now) (a .limit) (e .if1 .left) (c .if2 .taken) in
+    let w = short-marks (a .mode) (a .image .now) (a .marks .now) (a .order .now) (a .entries .now) (a .pins .now) (a .limit) (e .if1 .left) (c .if2 .taken) in
     (w .0, (w .1, (w .2, tt)))
 
 returns-3 : tie.Need-returns-3
@@ -27,7 +27,7 @@ returns-3 c =
     let f = c .before in
     let e = f .before in
     let a = start e .args in
-    let w = short-order (a .mode) (a .image .now) (a .marks .now) (a .order .now) (a .entries .now) (a .limit) (e .if1 .left) (f .if2 .left) (c .if3 .taken) in
+    let w = short-order (a .mode) (a .image .now) (a .marks .now) (a .order .now) (a .entries .now) (a .pins .now) (a .limit) (e .if1 .left) (f .if2 .left) (c .if3 .taken) in
     (w .0, (w .1, (w .2, tt)))
 
 returns-4 : tie.Need-returns-4
@@ -38,7 +38,7 @@ returns-4 c =
     let e = f .before in
     let a = start e .args in
     parted-four
-    (ran (a .mode) (a .image .now) (a .marks .now) (a .order .now) (a .entries .now) (a .limit) (e .if1 .left) (f .if2 .left) (g .if3 .left) _ _ _ (r .run-on .ensures))
+    (ran (a .mode) (a .image .now) (a .marks .now) (a .order .now) (a .entries .now) (a .pins .now) (a .limit) (e .if1 .left) (f .if2 .left) (g .if3 .left) _ _ _ (r .run-on .ensures))
 
 pub run-spec : {M : Type 1} → statement M
 run-spec =
