@@ -11,6 +11,8 @@
 
 static const uint8_t image[LENGTH] = {0x01, 0x02, 0x00, 0x41, 0x64, 0x80, 0xF9, 0xA0};
 static const uint32_t entries[] = {0x0000};
+/* None is told: where a table stands, its positions would be. */
+static const uint32_t pins[1];
 
 /* A call that was refused ends the program: it says the number, and the values that go with it, three at most. */
 static void check(const char *call, uint32_t number, const int64_t answer[5])
@@ -39,7 +41,7 @@ int main(void)
     uint32_t number;
 
     /* No position is taken up twice, so that the image's length is limit enough for every run to finish. */
-    number = pw_run(MODE, image, LENGTH, marks, LENGTH, order, LENGTH, entries, sizeof entries / sizeof entries[0], LENGTH, answer);
+    number = pw_run(MODE, image, LENGTH, marks, LENGTH, order, LENGTH, entries, sizeof entries / sizeof entries[0], pins, 0, LENGTH, answer);
     check("pw_run", number, answer);
 
     /* A room of 0 bytes asks how many the listing has. It is lent a pointer all the same, since none may be null. The stack of `main` is

@@ -30,6 +30,8 @@ mod pottagewing {
             order_length: usize,
             entries: *const u32,
             entries_length: usize,
+            pins: *const u32,
+            pins_length: usize,
             limit: u32,
             answer: *mut [i64; 5],
         ) -> u32;
@@ -93,6 +95,7 @@ mod pottagewing {
         marks: &mut [u8],
         order: &mut [u32],
         entries: &[u32],
+        pins: &[u32],
         limit: u32,
     ) -> Result<[i64; 5], Refusal> {
         let mut answer = [0; 5];
@@ -107,6 +110,8 @@ mod pottagewing {
                 order.len(),
                 entries.as_ptr(),
                 entries.len(),
+                pins.as_ptr(),
+                pins.len(),
                 limit,
                 &mut answer,
             )
@@ -174,7 +179,7 @@ fn print() -> Result<(), Box<dyn Error>> {
     // No position is taken up twice, so that the image's length is limit enough for every run to finish.
     let limit = IMAGE.len() as u32;
     let mode = Mode::Unwrapped;
-    pottagewing::run(mode, &IMAGE, &mut marks, &mut order, &ENTRIES, limit)?;
+    pottagewing::run(mode, &IMAGE, &mut marks, &mut order, &ENTRIES, &[], limit)?;
     let text = pottagewing::listing(mode, &IMAGE, &marks, false)?;
     io::stdout().write_all(&text)?;
     Ok(())

@@ -32,13 +32,14 @@
  *
  * Tracing goes over an image, its bytes, and marks, one byte for each position
  * of it: 0 untouched, 1 waiting, 2 traced, 3 a traced `jmpf` whose target is
- * not followed. That is one with the bytes B8 0D right before it, where the
- * first of these two is traced when the `jmpf` is taken up. Marks and order
- * lists may be longer than the image; what lies beyond its length is neither
- * read nor written.
+ * not followed, 4 pinned. A 3 is one with the bytes B8 0D right before it,
+ * where the first of these two is traced when the `jmpf` is taken up. A pinned
+ * position is never taken up, whatever leads to it; an instruction that begins
+ * before it may still cover it. Marks and order lists may be longer than the
+ * image; what lies beyond its length is neither read nor written.
  *
  * Views show what marks of any content say, those of a run as well as others.
- * They look through the whole image for damage first: a mark over 3, a 2 or 3
+ * They look through the whole image for damage first: a mark over 4, a 2 or 3
  * on an instruction that the end cuts off, a 3 that is not on a `jmpf`; the
  * lowest is named. They refuse in the order 1, 2, 6, 11, and then their room
  * stays as it was. What they show stands at the beginning of the room; the
@@ -67,7 +68,7 @@
 
 /* The version of what is declared here: it changes when a call does. What is
  * linked answers its own by pw_version. */
-#define PW_VERSION 2
+#define PW_VERSION 3
 
 /* The number that a call answers: 0, or that of a refusal, here with its values
  * in answer[0] to answer[2]. 13 is answered by none: pw_list_text prints it. */
@@ -122,6 +123,8 @@
 #define PW_TRACED 2
 /* a traced `jmpf` whose target is not followed */
 #define PW_FLASH 3
+/* kept off the trace */
+#define PW_PINNED 4
 
 /* How a run ended, in answer[0]. */
 #define PW_STOPPED 0
@@ -205,14 +208,16 @@ uint32_t pw_resolve(uint32_t mode, uint8_t first, int32_t a, int32_t b,
 uint32_t pw_targets(uint32_t mode, uint32_t position, uint8_t first, int32_t a,
                     int32_t b, int32_t c, int64_t answer[5]);
 
-/* Clears the marks of the image and sets 1 at the entries inside it. Repeated
- * entries count once.
- * 0: the number of positions set.
+/* Clears the marks of the image, sets 4 at the pins inside it and 1 at the
+ * entries inside it that are not pinned. Repeated entries count once; pins may
+ * be repeated too, and pins_length may be 0.
+ * 0: the number of positions set to 1.
  * 1, then 2: the marks stay as they were.
  */
 uint32_t pw_start(const uint8_t *image, size_t image_length,
                   uint8_t *marks, size_t marks_length,
                   const uint32_t *entries, size_t entries_length,
+                  const uint32_t *pins, size_t pins_length,
                   int64_t answer[5]);
 
 /* Takes up one waiting position: its mark becomes 2 or 3, and each of its
@@ -226,7 +231,7 @@ uint32_t pw_step(uint32_t mode, const uint8_t *image, size_t image_length,
                  uint8_t *marks, size_t marks_length,
                  uint32_t position, int64_t answer[5]);
 
-/* Starts afresh from the entries and takes positions up first come, first
+/* Starts afresh, as pw_start does, and takes positions up first come, first
  * served, for at most `limit` steps. The order list gets each position noted,
  * in the order in which they came; the rest of it stays as it was.
  * 0: 1 where nothing was left waiting or 0 where the limit stopped it, the
@@ -239,10 +244,11 @@ uint32_t pw_run(uint32_t mode, const uint8_t *image, size_t image_length,
                 uint8_t *marks, size_t marks_length,
                 uint32_t *order, size_t order_length,
                 const uint32_t *entries, size_t entries_length,
+                const uint32_t *pins, size_t pins_length,
                 uint32_t limit, int64_t answer[5]);
 
-/* A second tracer, plain enough to be followed on paper. Starts afresh from the
- * entries and sweeps the marks upward: it takes up, as pw_step does, each
+/* A second tracer, plain enough to be followed on paper. Starts afresh, as
+ * pw_start does, and sweeps the marks upward: it takes up, as pw_step does, each
  * waiting position that it meets, but for those whose instruction is cut off.
  * What becomes waiting further up is met by the same sweep, what becomes
  * waiting behind by the next. It ends with the sweep that takes up none.
@@ -260,6 +266,7 @@ uint32_t pw_run(uint32_t mode, const uint8_t *image, size_t image_length,
 uint32_t pw_sweep(uint32_t mode, const uint8_t *image, size_t image_length,
                   uint8_t *marks, size_t marks_length,
                   const uint32_t *entries, size_t entries_length,
+                  const uint32_t *pins, size_t pins_length,
                   int64_t answer[5]);
 
 /* The byte mask: 1 on each byte of a traced instruction, 0 on all others.
@@ -350,8 +357,8 @@ uint32_t pw_list_text(const uint8_t *text, size_t text_length,
  * of image, and their marks to the beginning of marks. Where nothing is listed
  * the byte is 0; the mark is 2 where an `I` line stands and 0 elsewhere. The
  * rest of both stays as it was. What pw_listing wrote in the same mode, with or
- * without `A` lines, gives the same image back, and the same marks but for 1,
- * which becomes 0, and 3, which becomes 2.
+ * without `A` lines, gives the same image back, and the same marks but for 1
+ * and 4, which become 0, and 3, which becomes 2.
  * Positions may not fall. At one position stand `L`, `O`, `A`, `I` in this
  * order, each at most once, or one `D` of 1 to 16 bytes alone. An `I` line is
  * the one that pw_listing writes in this mode for its bytes at its position; of

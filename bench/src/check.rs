@@ -69,7 +69,7 @@ pub fn running(case: &Case) -> Result<(), &'static str> {
     let (mut marks, mut order) = (vec![9; length], vec![9; length]);
     let entries = &case.entries;
     let image = &case.image;
-    let answer = ours::run(MODE, image, &mut marks, &mut order, entries, u32::MAX);
+    let answer = ours::run(MODE, image, &mut marks, &mut order, entries, &[], u32::MAX);
     let noted = case.order.len();
     let finished = Answer::new(Answer::DONE, &[1, noted as i64, noted as i64]);
     same(answer == finished, "the answer of run")?;
@@ -105,7 +105,7 @@ fn running_into_the_end(case: &Case) -> Result<(), &'static str> {
 /// Ours and the plain side: the answer, the marks, and the positions noted.
 fn running_from(image: &[u8], entries: &[u32]) -> Result<(), &'static str> {
     let (mut marks, mut order) = (vec![9; image.len()], vec![9; image.len()]);
-    let answer = ours::run(MODE, image, &mut marks, &mut order, entries, u32::MAX);
+    let answer = ours::run(MODE, image, &mut marks, &mut order, entries, &[], u32::MAX);
     let mut tracer = Tracer::default();
     let ended = tracer.run(image, entries, image.len());
     order.truncate(tracer.order.len());
@@ -130,7 +130,7 @@ pub fn sweeping_alone(image: &[u8]) -> Result<usize, &'static str> {
 /// Ours and the plain side: the answer and the marks.
 fn sweeping_from(image: &[u8], entries: &[u32]) -> Result<usize, &'static str> {
     let mut marks = vec![9; image.len()];
-    let answer = ours::sweep(MODE, image, &mut marks, entries);
+    let answer = ours::sweep(MODE, image, &mut marks, entries, &[]);
     let mut sweeper = Sweeper::default();
     let sweeps = sweeper.sweep(image, entries);
     let plain = Answer::new(Answer::DONE, &[sweeps as i64, sweeper.steps as i64]);
@@ -279,13 +279,14 @@ fn wrapping(case: &Case) -> Result<(), &'static str> {
     let (mode, image, entries) = (Mode::Wrapping, &case.image, &case.entries);
     let (mut marks, mut order) = (vec![9; image.len()], vec![9; image.len()]);
     let (mut plain_marks, mut plain_order) = (marks.clone(), order.clone());
-    let answer = ours::run(mode, image, &mut marks, &mut order, entries, u32::MAX);
+    let answer = ours::run(mode, image, &mut marks, &mut order, entries, &[], u32::MAX);
     let plain = tracer::run(
         mode,
         image,
         &mut plain_marks,
         &mut plain_order,
         entries,
+        &[],
         u32::MAX,
     );
     let ran = (answer, marks, order) == (plain, plain_marks, plain_order);

@@ -137,7 +137,7 @@ pub fn running_alone() -> Sides<'static, Vec<u8>> {
     let mut tracer = Tracer::default();
     [
         Some(Box::new(move |image| {
-            let ran = ours::run(MODE, image, &mut marks, &mut order, &[0], u32::MAX);
+            let ran = ours::run(MODE, image, &mut marks, &mut order, &[0], &[], u32::MAX);
             black_box(ran);
         })),
         None,
@@ -153,7 +153,13 @@ fn sweeping() -> Sides<'static, Case> {
     let mut sweeper = Sweeper::default();
     [
         Some(Box::new(move |case| {
-            black_box(ours::sweep(MODE, &case.image, &mut marks, &case.entries));
+            black_box(ours::sweep(
+                MODE,
+                &case.image,
+                &mut marks,
+                &case.entries,
+                &[],
+            ));
         })),
         None,
         Some(Box::new(move |case| {
@@ -168,7 +174,7 @@ pub fn sweeping_alone() -> Sides<'static, Vec<u8>> {
     let mut sweeper = Sweeper::default();
     [
         Some(Box::new(move |image| {
-            black_box(ours::sweep(MODE, image, &mut marks, &[0]));
+            black_box(ours::sweep(MODE, image, &mut marks, &[0], &[]));
         })),
         None,
         Some(Box::new(move |image| {
@@ -179,7 +185,7 @@ pub fn sweeping_alone() -> Sides<'static, Vec<u8>> {
 
 fn run(mode: Mode, case: &Case, marks: &mut [u8], order: &mut [u32]) -> Answer {
     let (image, entries) = (&case.image, &case.entries);
-    ours::run(mode, image, marks, order, entries, image.len() as u32)
+    ours::run(mode, image, marks, order, entries, &[], image.len() as u32)
 }
 
 fn running_wrapping() -> Sides<'static, Case> {

@@ -103,11 +103,11 @@ impl Listed<'_> {
         changed::text(self.mode, random, self.image, self.text)
     }
 
-    /// The image comes back, and the marks but for 1, which becomes 0, and 3, which becomes 2.
+    /// The image comes back, and the marks but for 1 and 4, which become 0, and 3, which becomes 2.
     fn whole(&self, tally: &mut Tally, random: &mut Random) {
         let Listed { image, text, .. } = self;
         let restored = self.marks[..image.len()].iter().map(|mark| match mark {
-            0 | 1 => 0,
+            0 | 1 | 4 => 0,
             _ => 2,
         });
         let restored: Vec<u8> = restored.collect();

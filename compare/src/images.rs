@@ -129,3 +129,35 @@ pub fn entries(length: usize, random: &mut Random) -> Vec<u32> {
     }
     entries
 }
+
+/// Some pins: on entries, on positions that are taken up without them, beside these, two before a Jmpf after B8 0D, inside, at the ends,
+/// repeated, outside; now and then all positions.
+pub fn pins(image: &[u8], entries: &[u32], noted: &[u32], random: &mut Random) -> Vec<u32> {
+    if random.below(16) == 0 {
+        return (0..image.len() as u32).collect();
+    }
+    let flashing = |at: &usize| image[*at..].starts_with(&[0xB8, 0x0D, 0x21]);
+    let flashes: Vec<u32> = (0..image.len())
+        .filter(flashing)
+        .map(|at| at as u32)
+        .collect();
+    let mut pins: Vec<u32> = vec![];
+    for _ in 0..1 + random.below(4) {
+        let mut from = |list: &[u32]| match list {
+            [] => 0,
+            _ => random.pick(list),
+        };
+        let (entry, taken, flash) = (from(entries), from(noted), from(&flashes));
+        let pin = match random.below(8) {
+            0 => entry,
+            1 | 2 => taken,
+            3 => taken.wrapping_add(1),
+            4 => flash,
+            5 => random.below(image.len().max(1) as u64) as u32,
+            6 => image.len() as u32,
+            _ => pins.first().copied().unwrap_or(u32::MAX),
+        };
+        pins.push(pin);
+    }
+    pins
+}

@@ -75,7 +75,7 @@ struct Given<'a> {
 
 fn marks_after(image: &[u8], entries: &[u32], limit: u32) -> (Vec<u8>, Vec<u32>) {
     let (mut marks, mut order) = (vec![0; image.len()], vec![0; image.len()]);
-    tracer::run(MODE, image, &mut marks, &mut order, entries, limit);
+    tracer::run(MODE, image, &mut marks, &mut order, entries, &[], limit);
     (marks, order)
 }
 
@@ -280,7 +280,7 @@ fn walk(tally: &mut Tally, random: &mut Random) {
     };
     let Some(graph) = told.graph else { return };
     let mut marks = vec![0xFF; length];
-    tracer::start(&image, &mut marks, &entries);
+    tracer::start(&image, &mut marks, &entries, &[]);
     let before = built(random, &image, &marks);
     let (mut words, mut ours) = (before.clone(), before.clone());
     for position in told.taken {

@@ -41,6 +41,8 @@ unsafe extern "C" {
         marks_length: usize,
         entries: *const u32,
         entries_length: usize,
+        pins: *const u32,
+        pins_length: usize,
         answer: *mut [i64; 5],
     ) -> u32;
     fn pw_step(
@@ -62,6 +64,8 @@ unsafe extern "C" {
         order_length: usize,
         entries: *const u32,
         entries_length: usize,
+        pins: *const u32,
+        pins_length: usize,
         limit: u32,
         answer: *mut [i64; 5],
     ) -> u32;
@@ -73,6 +77,8 @@ unsafe extern "C" {
         marks_length: usize,
         entries: *const u32,
         entries_length: usize,
+        pins: *const u32,
+        pins_length: usize,
         answer: *mut [i64; 5],
     ) -> u32;
     fn pw_mask(
@@ -214,10 +220,23 @@ pub fn targets(mode: Mode, first: u8, fields: [i32; 3], position: u32) -> Answer
     answered(|values| unsafe { pw_targets(mode, position, first, a, b, c, values) })
 }
 
-pub fn start(image: &[u8], marks: &mut [u8], entries: &[u32]) -> Answer {
+pub fn start(image: &[u8], marks: &mut [u8], entries: &[u32], pins: &[u32]) -> Answer {
     let (at, n) = (marks.as_mut_ptr(), marks.len());
     let (list, count) = (entries.as_ptr(), entries.len());
-    answered(|values| unsafe { pw_start(image.as_ptr(), image.len(), at, n, list, count, values) })
+    let (off, some) = (pins.as_ptr(), pins.len());
+    answered(|values| unsafe {
+        pw_start(
+            image.as_ptr(),
+            image.len(),
+            at,
+            n,
+            list,
+            count,
+            off,
+            some,
+            values,
+        )
+    })
 }
 
 pub fn step(mode: Mode, image: &[u8], marks: &mut [u8], position: u32) -> Answer {
@@ -233,6 +252,7 @@ pub fn run(
     marks: &mut [u8],
     order: &mut [u32],
     entries: &[u32],
+    pins: &[u32],
     limit: u32,
 ) -> Answer {
     answered(|values| unsafe {
@@ -246,13 +266,15 @@ pub fn run(
             order.len(),
             entries.as_ptr(),
             entries.len(),
+            pins.as_ptr(),
+            pins.len(),
             limit,
             values,
         )
     })
 }
 
-pub fn sweep(mode: Mode, image: &[u8], marks: &mut [u8], entries: &[u32]) -> Answer {
+pub fn sweep(mode: Mode, image: &[u8], marks: &mut [u8], entries: &[u32], pins: &[u32]) -> Answer {
     let (mode, (at, n)) = (number(mode), (marks.as_mut_ptr(), marks.len()));
     let (list, count) = (entries.as_ptr(), entries.len());
     answered(|values| unsafe {
@@ -264,6 +286,8 @@ pub fn sweep(mode: Mode, image: &[u8], marks: &mut [u8], entries: &[u32]) -> Ans
             n,
             list,
             count,
+            pins.as_ptr(),
+            pins.len(),
             values,
         )
     })

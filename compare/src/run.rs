@@ -9,6 +9,7 @@ use crate::tally::{Call, Judge, Tally};
 use crate::views;
 use crate::wrapping;
 use compare::answer::Answer;
+use compare::images;
 use compare::original::traced;
 use compare::paper::{Mode, tracer, views as plain};
 use compare::random::Random;
@@ -20,6 +21,7 @@ struct Given<'a> {
     marks: Lent<u8>,
     order: Lent<u32>,
     entries: &'a [u32],
+    pins: Vec<u32>,
     limit: u32,
 }
 
@@ -33,7 +35,7 @@ struct Outcome {
 }
 
 /// A function that runs, ours or document 01's.
-type Run = fn(Mode, &[u8], &mut [u8], &mut [u32], &[u32], u32) -> Answer;
+type Run = fn(Mode, &[u8], &mut [u8], &mut [u32], &[u32], &[u32], u32) -> Answer;
 
 pub fn one(tally: &mut Tally, random: &mut Random, image: &[u8], entries: &[u32]) {
     let mut given = Given::new(random, image, entries);
@@ -63,6 +65,7 @@ pub fn one(tally: &mut Tally, random: &mut Random, image: &[u8], entries: &[u32]
     judge_as(judge, tally, &given, &expected, &ours);
     sweeps::of_trace(tally, random, image, entries, told.as_ref());
     wrapping::of_trace(tally, random, image, entries);
+    pinned(tally, random, image, entries);
     if let Some(graph) = told.and_then(|told| told.graph) {
         views::of_trace(tally, random, image, entries, &graph);
     }
@@ -82,6 +85,24 @@ pub fn wrapping(tally: &mut Tally, random: &mut Random, image: &[u8], entries: &
         judge_alike(tally, &given, &unwrapped, &ours);
     }
     tally.wrapping.runs += u64::from(unwrapped.marks != ours.marks);
+}
+
+/// With pins, which the original does not have, in either mode.
+fn pinned(tally: &mut Tally, random: &mut Random, image: &[u8], entries: &[u32]) {
+    let mut given = Given::new(random, image, entries);
+    given.limit = u32::MAX;
+    let (mode, judge) = random.pick(&[
+        (Mode::Unwrapped, Judge::Document),
+        (Mode::Wrapping, Judge::Wrapping),
+    ]);
+    let whole = given.run(tracer::run, mode, None);
+    let taken = given.taken(&whole);
+    given.pins = images::pins(image, entries, whole.order.part(), random);
+    given.limit = limit(random, image, taken);
+    let expected = given.run(tracer::run, mode, None);
+    let ours = given.run(ours::run, mode, None);
+    judge_as(judge, tally, &given, &expected, &ours);
+    sweeps::with_pins(tally, random, (mode, image, entries), &given.pins);
 }
 
 /// Where nothing that is taken up leaves memory, both modes answer and leave the same.
@@ -153,6 +174,7 @@ impl<'a> Given<'a> {
             marks: Lent::filled(lent(random, image), random, |mixed| mixed as u8),
             order: Lent::filled(lent(random, image), random, |mixed| mixed as u32),
             entries,
+            pins: vec![],
             limit: 0,
         }
     }
@@ -176,8 +198,16 @@ impl<'a> Given<'a> {
     fn run(&self, run: Run, mode: Mode, known: Option<bool>) -> Outcome {
         let (mut marks, mut order) = (self.marks.clone(), self.order.clone());
         let (image, entries) = (self.image, self.entries);
-        let limit = self.limit;
-        let answer = run(mode, image, marks.lend(), order.lend(), entries, limit);
+        let (pins, limit) = (&self.pins, self.limit);
+        let answer = run(
+            mode,
+            image,
+            marks.lend(),
+            order.lend(),
+            entries,
+            pins,
+            limit,
+        );
         let seen = known.map(|known| {
             let marks = &marks.part()[..image.len()];
             Seen::of(&answer, marks, order.part(), known)
@@ -193,7 +223,9 @@ impl<'a> Given<'a> {
     fn shown(&self) -> String {
         let (length, limit) = (self.image.len(), self.limit);
         let beginning = &self.image[..length.min(48)];
-        let entries = self.entries;
-        format!("run of {length} bytes {beginning:02X?} entries {entries:?} limit {limit}")
+        let (entries, pins) = (self.entries, &self.pins);
+        format!(
+            "run of {length} bytes {beginning:02X?} entries {entries:?} pins {pins:?} limit {limit}"
+        )
     }
 }

@@ -112,18 +112,27 @@ struct Outcome(Answer, Lent<u8>);
 
 fn start(tally: &mut Tally, random: &mut Random, image: &[u8]) {
     let entries = images::entries(image.len(), random);
+    let pins = match random.below(2) {
+        0 => vec![],
+        _ => images::pins(image, &entries, &[], random),
+    };
     let mut ours = marks(random, image);
     let mut expected = ours.clone();
-    let answer = tracer::start(image, expected.lend(), &entries);
+    let answer = tracer::start(image, expected.lend(), &entries, &pins);
     let expected = Outcome(answer, expected);
-    let answer = ours::start(image, ours.lend(), &entries);
+    let answer = ours::start(image, ours.lend(), &entries, &pins);
     let what = (Call::Start, Judge::Document);
     tally.judge(
         what,
         None,
         (expected.0.number, &expected),
         &Outcome(answer, ours),
-        || format!("start of {} entries {entries:?}", shown(image)),
+        || {
+            format!(
+                "start of {} entries {entries:?} pins {pins:?}",
+                shown(image)
+            )
+        },
     );
 }
 
@@ -231,7 +240,7 @@ fn walk(tally: &mut Tally, random: &mut Random) {
         return;
     }
     let mut marks = vec![0xFF; length];
-    ours::start(&image, &mut marks, &entries);
+    ours::start(&image, &mut marks, &entries, &[]);
     if !images::has_flash(&image) {
         while let Some(position) = any_waiting(&marks, random) {
             ours::step(Mode::Unwrapped, &image, &mut marks, position);
@@ -261,12 +270,20 @@ fn walk_round(tally: &mut Tally, random: &mut Random) {
     let length = image.len();
     let (mut expected, mut order) = (vec![0; length], vec![0; length]);
     let mode = Mode::Wrapping;
-    let ran = tracer::run(mode, &image, &mut expected, &mut order, &entries, u32::MAX);
+    let ran = tracer::run(
+        mode,
+        &image,
+        &mut expected,
+        &mut order,
+        &entries,
+        &[],
+        u32::MAX,
+    );
     if images::has_flash(&image) || !ran.done() || ran.values[1] > MOST_STEPS {
         return;
     }
     let mut marks = vec![0xFF; length];
-    ours::start(&image, &mut marks, &entries);
+    ours::start(&image, &mut marks, &entries, &[]);
     for _ in 0..length {
         let Some(position) = any_waiting(&marks, random) else {
             break;

@@ -55,6 +55,7 @@ struct Given<'a> {
     mode: Mode,
     image: &'a [u8],
     entries: &'a [u32],
+    pins: &'a [u32],
     marks: Lent<u8>,
 }
 
@@ -70,7 +71,7 @@ struct AsRun {
 }
 
 /// A function that sweeps, ours or the plain one.
-type Sweep = fn(Mode, &[u8], &mut [u8], &[u32]) -> Answer;
+type Sweep = fn(Mode, &[u8], &mut [u8], &[u32], &[u32]) -> Answer;
 
 /// An image whose run is compared too.
 pub fn of_trace(
@@ -118,6 +119,18 @@ pub fn compare(tally: &mut Tally, random: &mut Random) {
     }
 }
 
+/// With pins: a mode, an image and entries.
+pub fn with_pins(
+    tally: &mut Tally,
+    random: &mut Random,
+    (mode, image, entries): (Mode, &[u8], &[u32]),
+    pins: &[u32],
+) {
+    let mut given = Given::new(random, image, entries);
+    (given.mode, given.pins) = (mode, pins);
+    given.compare(tally, None);
+}
+
 /// Refusals 1 and 2, and both at once, on both sides of each limit.
 fn lengths(tally: &mut Tally, random: &mut Random) {
     for length in [0, 1, 2, 300, 65_535, 65_536, 65_537, 65_540] {
@@ -129,6 +142,7 @@ fn lengths(tally: &mut Tally, random: &mut Random) {
                 mode: Mode::Unwrapped,
                 image,
                 entries,
+                pins: &[],
                 marks,
             };
             given.compare(tally, None);
@@ -169,6 +183,7 @@ impl<'a> Given<'a> {
             mode: Mode::Unwrapped,
             image,
             entries,
+            pins: &[],
             marks,
         }
     }
@@ -220,7 +235,7 @@ impl<'a> Given<'a> {
 
     fn swept(&self, sweep: Sweep, mode: Mode) -> Outcome {
         let mut marks = self.marks.clone();
-        let answer = sweep(mode, self.image, marks.lend(), self.entries);
+        let answer = sweep(mode, self.image, marks.lend(), self.entries, self.pins);
         Outcome(answer, marks)
     }
 
@@ -253,7 +268,15 @@ impl<'a> Given<'a> {
     fn compare_with_run(&self, tally: &mut Tally, swept: &Outcome) {
         let (mut marks, mut order) = (self.marks.clone(), vec![0; self.image.len()]);
         let (image, entries, limit) = (self.image, self.entries, self.image.len() as u32);
-        let answer = ours::run(self.mode, image, marks.lend(), &mut order, entries, limit);
+        let answer = ours::run(
+            self.mode,
+            image,
+            marks.lend(),
+            &mut order,
+            entries,
+            self.pins,
+            limit,
+        );
         let finished = answer.done();
         if images::has_flash(image) {
             if self.mode == Mode::Unwrapped {

@@ -96,7 +96,7 @@ pub fn wrapping(tally: &mut Tally, random: &mut Random, image: &[u8], entries: &
 /// Our run without a limit: its answer, the marks, and the positions noted.
 fn ran(mode: Mode, image: &[u8], entries: &[u32]) -> (Answer, (Vec<u8>, Vec<u32>)) {
     let (mut marks, mut order) = (vec![0; image.len()], vec![0; image.len()]);
-    let answer = ours::run(mode, image, &mut marks, &mut order, entries, u32::MAX);
+    let answer = ours::run(mode, image, &mut marks, &mut order, entries, &[], u32::MAX);
     order.truncate(answer.values[2] as usize);
     (answer, (marks, order))
 }

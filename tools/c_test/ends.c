@@ -47,9 +47,9 @@ static void stepping(void)
 
     ANSWERS(PW_DONE, pw_step(mode, longest(), LENGTH, marks, LENGTH, 0, answer), PW_TRACED, BY_MODE(0, 1));
     HOLDS(same(marks, marked(2, BY_MODE(0, 1), 0), LENGTH));
-    marks = marked(4, 0, 1);
+    marks = marked(5, 0, 1);
     ANSWERS(BY_MODE(PW_DONE, PW_DAMAGED), pw_step(mode, longest(), LENGTH, marks, LENGTH, NOP_AT, answer), BY_MODE(PW_TRACED, 0));
-    HOLDS(same(marks, marked(4, 0, BY_MODE(2, 1)), LENGTH));
+    HOLDS(same(marks, marked(5, 0, BY_MODE(2, 1)), LENGTH));
 }
 
 static void running(void)
@@ -60,7 +60,7 @@ static void running(void)
     uint32_t *entries = LIST(uint32_t, 0);
     int64_t steps = BY_MODE(1, 3);
 
-    ANSWERS(PW_DONE, pw_run(mode, longest(), LENGTH, marks, LENGTH, order, LENGTH, entries, 1, LENGTH, answer), PW_FINISHED, steps, steps);
+    ANSWERS(PW_DONE, pw_run(mode, longest(), LENGTH, marks, LENGTH, order, LENGTH, entries, 1, NO_PINS, LENGTH, answer), PW_FINISHED, steps, steps);
     HOLDS(same(marks, marked(2, BY_MODE(0, 2), BY_MODE(0, 2)), LENGTH));
     LEFT(order, uint32_t, 0, BY_MODE(0, BZ_AT), BY_MODE(0, NOP_AT), 0);
 }
@@ -70,7 +70,7 @@ static void sweeping(void)
     uint8_t *marks = filled(9);
     uint32_t *entries = LIST(uint32_t, BZ_AT);
 
-    ANSWERS(PW_DONE, pw_sweep(mode, longest(), LENGTH, marks, LENGTH, entries, 1, answer), BY_MODE(2, 3), BY_MODE(2, 3));
+    ANSWERS(PW_DONE, pw_sweep(mode, longest(), LENGTH, marks, LENGTH, entries, 1, NO_PINS, answer), BY_MODE(2, 3), BY_MODE(2, 3));
     HOLDS(same(marks, marked(BY_MODE(0, 2), 2, 2), LENGTH));
 }
 

@@ -62,7 +62,7 @@ static void updating(void)
     LEFT(words, uint64_t, 0x60, 9);
     ANSWERS(PW_LONG_IMAGE, pw_map_update(too_long, TOO_LONG, SAMPLE_MARKS, 8, words, 2, 5, answer), TOO_LONG);
     ANSWERS(PW_SHORT_MARKS, pw_map_update(SAMPLE, SAMPLE_LENGTH, SAMPLE_MARKS, 7, words, 2, 5, answer), 7);
-    ANSWERS(PW_DAMAGED, pw_map_update(SAMPLE, SAMPLE_LENGTH, BYTES(0, 0, 0, 0, 0, 2, 0, 4), 8, words, 2, 5, answer), 7);
+    ANSWERS(PW_DAMAGED, pw_map_update(SAMPLE, SAMPLE_LENGTH, BYTES(0, 0, 0, 0, 0, 2, 0, 5), 8, words, 2, 5, answer), 7);
     ANSWERS(PW_NO_ROOM, pw_map_update(SAMPLE, SAMPLE_LENGTH, SAMPLE_MARKS, 8, words, 0, 1, answer), 1);
     ANSWERS(PW_OUTSIDE, pw_map_update(SAMPLE, SAMPLE_LENGTH, SAMPLE_MARKS, 8, words, 2, 1, answer), 1);
     ANSWERS(PW_OUTSIDE, pw_map_update(SAMPLE, SAMPLE_LENGTH, SAMPLE_MARKS, 8, words, 2, 8, answer), 8);

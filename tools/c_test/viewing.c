@@ -62,7 +62,7 @@ static void finding_arrivals(void)
     ANSWERS(PW_DONE, pw_arrivals(mode, FLASH, FLASH_LENGTH, BYTES(2, 0, 3, 0, 0), FLASH_LENGTH, 0, room, 3, answer), 0);
     ANSWERS(PW_LONG_IMAGE, pw_arrivals(mode, too_long, TOO_LONG, SAMPLE_MARKS, 8, 0, room, 3, answer), TOO_LONG);
     ANSWERS(PW_SHORT_MARKS, pw_arrivals(mode, SAMPLE, SAMPLE_LENGTH, SAMPLE_MARKS, 0, 0, room, 3, answer), 0);
-    ANSWERS(PW_DAMAGED, pw_arrivals(mode, SAMPLE, SAMPLE_LENGTH, BYTES(2, 0, 0, 0, 0, 0, 0, 4), 8, 0, room, 3, answer), 7);
+    ANSWERS(PW_DAMAGED, pw_arrivals(mode, SAMPLE, SAMPLE_LENGTH, BYTES(2, 0, 0, 0, 0, 0, 0, 5), 8, 0, room, 3, answer), 7);
     ANSWERS(PW_NO_ROOM, pw_arrivals(mode, SAMPLE, SAMPLE_LENGTH, SAMPLE_MARKS, SAMPLE_LENGTH, 0, room, 0, answer), 1);
     LEFT(room, uint32_t, 0, 2, 9);
 }

@@ -50,7 +50,7 @@ static void targets(void)
     }
 }
 
-static void start(void) { pw_start(IMAGE, marks, PW_IMAGE_LIMIT, input.entries, input.count, answer); }
+static void start(void) { pw_start(IMAGE, marks, PW_IMAGE_LIMIT, input.entries, input.count, input.entries, 0, answer); }
 static void step(void)
 {
     EACH_MODE for (size_t index = 0; index <= input.count; index++) {
@@ -61,9 +61,9 @@ static void step(void)
 }
 static void run(void)
 {
-    EACH_MODE pw_run(mode, IMAGE, marks, PW_IMAGE_LIMIT, places, PW_IMAGE_LIMIT, input.entries, input.count, PW_IMAGE_LIMIT, answer);
+    EACH_MODE pw_run(mode, IMAGE, marks, PW_IMAGE_LIMIT, places, PW_IMAGE_LIMIT, input.entries, input.count, input.entries, 0, PW_IMAGE_LIMIT, answer);
 }
-static void sweep(void) { EACH_MODE pw_sweep(mode, IMAGE, marks, PW_IMAGE_LIMIT, input.entries, input.count, answer); }
+static void sweep(void) { EACH_MODE pw_sweep(mode, IMAGE, marks, PW_IMAGE_LIMIT, input.entries, input.count, input.entries, 0, answer); }
 static void mask(void) { pw_mask(IMAGE, MARKS, bytes, TEXT_ROOM, answer); }
 static void target_marks(void) { EACH_MODE pw_target_marks(mode, IMAGE, MARKS, bytes, TEXT_ROOM, answer); }
 static void overlaps(void) { pw_overlaps(IMAGE, MARKS, input.position, places, PW_MOST_OVERLAPS, answer); }

@@ -51,7 +51,7 @@ static void trace(void)
 {
     int64_t answer[5];
     done("pw_run", pw_run(PW_UNWRAPPED, input.image, input.length, input.marks, input.length, order, PW_IMAGE_LIMIT, input.entries,
-                          input.count, PW_IMAGE_LIMIT, answer));
+                          input.count, input.entries, 0, PW_IMAGE_LIMIT, answer));
     done("pw_listing", pw_listing(PW_UNWRAPPED, input.image, input.length, input.marks, input.length, PW_ARRIVALS_CHOSEN, input.listing,
                                   TEXT_ROOM, answer));
     input.listed = (size_t)answer[0];

@@ -1,4 +1,4 @@
-//! Prints answers of the original, of the plain engine that sweeps, and of both in wrapping mode, one case a line, for a
+//! Prints answers of the original, of the plain engine that sweeps, of both in wrapping mode and with pins, one case a line, for a
 //! program of the repository to replay.
 //!
 //! A line is a letter for the call and eleven fields: five inputs, the number of the answer and its
@@ -18,7 +18,9 @@
 //! - `O`, `S`, `P`: a whole trace, sweeps, and one step over the end of memory, given and told in the same way. The image
 //!   has 65,536 bytes, all Ret but the ten given, which are its last five and then its first five. So are the ten
 //!   positions of the order list and of the marks. The step is at the first entry, after a start from both.
-//! - `r`, `t`, `g`, `w`, `o`, `s`, `p`: the same as the large letter, in wrapping mode.
+//! - `N`, `U`: a whole trace and sweeps with a pin, given and told in the same way, but for the second entry, which is the
+//!   pin. The entry and the pin are each told twice.
+//! - `r`, `t`, `g`, `w`, `o`, `s`, `p`, `n`, `u`: the same as the large letter, in wrapping mode.
 //!
 //! The cases are those that the original answers: no register out of range, no field that encode is to
 //! refuse, no room too short, no base above 65,536, no target below 0. Of a trace it tells how it ends,
@@ -32,6 +34,8 @@ mod decoded;
 mod encoded;
 #[path = "vectors/packed.rs"]
 mod packed;
+#[path = "vectors/pinned.rs"]
+mod pinned;
 #[path = "vectors/resolved.rs"]
 mod resolved;
 #[path = "vectors/swept.rs"]
@@ -81,6 +85,7 @@ fn main() {
     traced::cases(&mut lines);
     swept::cases(&mut lines);
     wrapped::cases(&mut lines);
+    pinned::cases(&mut lines);
     print!("{}", lines.text);
     let count = lines.seen.len();
     eprintln!("{count} answers, made by 'compare/run --vectors SRC'");

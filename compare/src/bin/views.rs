@@ -99,7 +99,7 @@ fn main() {
         let graph = told.graph.expect("none is cut off");
         let (mut marks, mut order) = (vec![0; image.len()], vec![0; image.len()]);
         let mode = Mode::Unwrapped;
-        tracer::run(mode, image, &mut marks, &mut order, entries, u32::MAX);
+        tracer::run(mode, image, &mut marks, &mut order, entries, &[], u32::MAX);
         lines.of_trace(image, &marks, positions, &graph);
     }
     for (image, marks, position, room) in ALONE {

@@ -34,7 +34,7 @@ pub fn marks(input: &Input) -> Result<Vec<u8>, Answer> {
     let length = input.image.len();
     let (mut marks, mut order) = (vec![0; length], vec![0; length]);
     let (image, entries, limit) = (&input.image, &input.entries, length as u32);
-    let answer = tracer::run(PROGRAM, image, &mut marks, &mut order, entries, limit);
+    let answer = tracer::run(PROGRAM, image, &mut marks, &mut order, entries, &[], limit);
     if answer.done() {
         Ok(marks)
     } else {

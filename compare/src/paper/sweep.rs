@@ -3,8 +3,8 @@
 use super::{Mode, tracer};
 use crate::answer::Answer;
 
-pub fn sweep(mode: Mode, image: &[u8], marks: &mut [u8], entries: &[u32]) -> Answer {
-    let started = tracer::start(image, marks, entries);
+pub fn sweep(mode: Mode, image: &[u8], marks: &mut [u8], entries: &[u32], pins: &[u32]) -> Answer {
+    let started = tracer::start(image, marks, entries, pins);
     if !started.done() {
         return started;
     }

@@ -1,4 +1,4 @@
-//! Document 01's start, step and run, in both modes of document 02, written out a second time and plainly.
+//! Document 01's start, step and run, in both modes of document 02 and with its pins, written out a second time and plainly.
 
 use super::{Mode, flow};
 use crate::answer::Answer;
@@ -10,6 +10,7 @@ const UNTOUCHED: u8 = 0;
 const WAITING: u8 = 1;
 const TRACED: u8 = 2;
 pub(super) const UNFOLLOWED: u8 = 3;
+pub(super) const PINNED: u8 = 4;
 
 fn length(number: u32, length: usize) -> Option<Answer> {
     Some(Answer::new(number, &[length as i64]))
@@ -48,16 +49,19 @@ fn note(image: &[u8], marks: &mut [u8], positions: impl IntoIterator<Item = i64>
     noted
 }
 
-fn clear_and_note(image: &[u8], marks: &mut [u8], entries: &[u32]) -> Vec<u32> {
+fn clear_and_note(image: &[u8], marks: &mut [u8], entries: &[u32], pins: &[u32]) -> Vec<u32> {
     marks[..image.len()].fill(UNTOUCHED);
+    for pin in pins.iter().filter(|pin| (**pin as usize) < image.len()) {
+        marks[*pin as usize] = PINNED;
+    }
     note(image, marks, entries.iter().map(|entry| i64::from(*entry)))
 }
 
-pub fn start(image: &[u8], marks: &mut [u8], entries: &[u32]) -> Answer {
+pub fn start(image: &[u8], marks: &mut [u8], entries: &[u32], pins: &[u32]) -> Answer {
     if let Some(refusal) = sizes(image, marks) {
         return refusal;
     }
-    let set = clear_and_note(image, marks, entries).len();
+    let set = clear_and_note(image, marks, entries, pins).len();
     Answer::new(Answer::DONE, &[set as i64])
 }
 
@@ -98,7 +102,7 @@ fn take_up(mode: Mode, image: &[u8], marks: &mut [u8], at: usize) -> (u8, Vec<u3
 
 /// The damage that a step finds beside its position.
 fn damage(mode: Mode, image: &[u8], marks: &[u8], at: usize) -> Option<usize> {
-    let damaged = |at: &usize| marks[*at] > UNFOLLOWED;
+    let damaged = |at: &usize| marks[*at] > PINNED;
     let before = after_flash(image, at).then(|| at - 2).filter(damaged);
     let inside = |target: &i64| (0..image.len() as i64).contains(target);
     let targets = targets(mode, image, marks, at).into_iter().filter(inside);
@@ -111,7 +115,7 @@ pub fn step(mode: Mode, image: &[u8], marks: &mut [u8], position: u32) -> Answer
     }
     let at = position as usize;
     let mark = if at < image.len() { marks[at] } else { 0 };
-    if mark > UNFOLLOWED {
+    if mark > PINNED {
         return Answer::new(Answer::DAMAGED, &[i64::from(position)]);
     }
     if mark != WAITING {
@@ -133,6 +137,7 @@ pub fn run(
     marks: &mut [u8],
     order: &mut [u32],
     entries: &[u32],
+    pins: &[u32],
     limit: u32,
 ) -> Answer {
     let short = order.len() < image.len();
@@ -140,7 +145,7 @@ pub fn run(
     if let Some(refusal) = sizes(image, marks).or_else(|| short.then(short_order).flatten()) {
         return refusal;
     }
-    let mut noted = clear_and_note(image, marks, entries);
+    let mut noted = clear_and_note(image, marks, entries, pins);
     let mut steps = 0;
     let answer = loop {
         let counts = |finished| [finished, steps as i64, noted.len() as i64];

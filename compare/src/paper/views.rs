@@ -2,7 +2,7 @@
 
 use super::Mode;
 use super::flow::{self, Flow};
-use super::tracer::{self, UNFOLLOWED};
+use super::tracer::{self, PINNED, UNFOLLOWED};
 use crate::answer::Answer;
 
 /// The longest data run.
@@ -13,7 +13,7 @@ const JMPF: u8 = 0x21;
 fn is_damaged(image: &[u8], marks: &[u8], at: usize) -> bool {
     let mark = marks[at];
     let cut = tracer::is_traced(mark) && tracer::cut_off(image, at).is_some();
-    mark > UNFOLLOWED || cut || mark == UNFOLLOWED && image[at] != JMPF
+    mark > PINNED || cut || mark == UNFOLLOWED && image[at] != JMPF
 }
 
 /// Refusals 1, 2 and 6.

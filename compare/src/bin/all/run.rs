@@ -30,7 +30,7 @@ struct Outcome {
 }
 
 /// A function that runs, ours or document 01's.
-type Run = fn(Mode, &[u8], &mut [u8], &mut [u32], &[u32], u32) -> Answer;
+type Run = fn(Mode, &[u8], &mut [u8], &mut [u32], &[u32], &[u32], u32) -> Answer;
 
 pub fn one(sums: &mut Sums, image: &[u8], entries: &[u32]) -> Ran {
     let plain = outcome(tracer::run, image, entries);
@@ -65,7 +65,7 @@ fn outcome(run: Run, image: &[u8], entries: &[u32]) -> Outcome {
         vec![OLD_PLACE; image.len() + 1],
     );
     let mode = Mode::Unwrapped;
-    let answer = run(mode, image, &mut marks, &mut order, entries, u32::MAX);
+    let answer = run(mode, image, &mut marks, &mut order, entries, &[], u32::MAX);
     Outcome {
         answer,
         marks,

@@ -96,7 +96,7 @@ fn turning(random: &mut Random) -> (Vec<u8>, [u32; 2]) {
         let kind = random.pick(&[Kind::Branching, Kind::Flashing]);
         let image = images::image(kind, length, random);
         let entries = [0, 1].map(|_| random.below(length as u64) as u32);
-        let answer = sweep::sweep(MODE, &image, &mut [OLD_MARK; LONGEST], &entries);
+        let answer = sweep::sweep(MODE, &image, &mut [OLD_MARK; LONGEST], &entries, &[]);
         if answer.values[0] > 2 {
             return (image, entries);
         }
@@ -106,7 +106,7 @@ fn turning(random: &mut Random) -> (Vec<u8>, [u32; 2]) {
 /// The plain engine sweeps as the table says.
 fn by_hand() {
     let mut marks = [OLD_MARK; BY_HAND.len()];
-    tracer::start(&BY_HAND, &mut marks, &[0]);
+    tracer::start(&BY_HAND, &mut marks, &[0], &[]);
     assert_eq!(marks, SWEEP_BY_SWEEP[0].0, "after the start");
     for (expected, taken) in &SWEEP_BY_SWEEP[1..] {
         assert_eq!(sweep::once(MODE, &BY_HAND, &mut marks), *taken, "a sweep");
@@ -117,7 +117,7 @@ fn by_hand() {
 fn one(lines: &mut Lines, image: &[u8], listed: &[u32]) {
     let entries = packed::entries(listed);
     let mut marks = [OLD_MARK; LONGEST];
-    let answer = sweep::sweep(MODE, image, &mut marks, &entries);
+    let answer = sweep::sweep(MODE, image, &mut marks, &entries, &[]);
     assert!(answer.number == Answer::DONE, "ten marks are enough");
     if !images::has_flash(image) {
         as_traced(image, entries, &marks[..image.len()]);

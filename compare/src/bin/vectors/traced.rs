@@ -76,7 +76,7 @@ fn one(lines: &mut Lines, image: &[u8], listed: &[u32]) {
     let entries = packed::entries(listed);
     let (mut marks, mut order) = ([OLD_MARK; LONGEST], [OLD_PLACE; LONGEST]);
     let mode = Mode::Unwrapped;
-    let answer = tracer::run(mode, image, &mut marks, &mut order, &entries, NO_LIMIT);
+    let answer = tracer::run(mode, image, &mut marks, &mut order, &entries, &[], NO_LIMIT);
     let told = traced::trace(&entries, image, ENOUGH).expect("few visits are enough");
     let known = told.unfollowed.is_some();
     let seen = Seen::of(&answer, &marks[..image.len()], &order, known);

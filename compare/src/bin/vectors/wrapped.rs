@@ -209,10 +209,10 @@ impl Left {
         let lent = image.len().max(LONGEST);
         let (mut marks, mut order) = (vec![OLD_MARK; lent], vec![OLD_PLACE; lent]);
         let answer = match call {
-            Call::Run => tracer::run(mode, image, &mut marks, &mut order, &entries, NO_LIMIT),
-            Call::Sweep => sweep::sweep(mode, image, &mut marks, &entries),
+            Call::Run => tracer::run(mode, image, &mut marks, &mut order, &entries, &[], NO_LIMIT),
+            Call::Sweep => sweep::sweep(mode, image, &mut marks, &entries, &[]),
             Call::Step => {
-                tracer::start(image, &mut marks, &entries);
+                tracer::start(image, &mut marks, &entries, &[]);
                 tracer::step(mode, image, &mut marks, entries[0])
             }
         };
