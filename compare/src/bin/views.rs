@@ -52,7 +52,7 @@ type Alone = (&'static [u8], &'static [u8], u32, usize);
 
 /// What the original has no answer for.
 const ALONE: [Alone; 10] = [
-    // a byte over 3, a 2 on a cut-off instruction, a 3 on one, a 3 off a Jmpf: the lowest is named
+    // a byte over 4, a 2 on a cut-off instruction, a 3 on one, a 3 off a Jmpf: the lowest is named
     (&[0xA0, 0x00, 0xA0], &[2, 4, 255], 0, LONGEST),
     (&[0x00, 0x68, 0x00], &[2, 2, 9], 0, LONGEST),
     (&[0xA0, 0x21], &[2, 3], 0, LONGEST),

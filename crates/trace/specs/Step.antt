@@ -1,5 +1,5 @@
 -- What a step answers and leaves. Document 01, 'Marks and steps' and the order of refusals: 1, 2, 4, 6 at p, 5, 6 at p - 2 (read only for
--- a Jmpf with B8 0D before it), 6 at the targets in their order. In a step, damage is a byte over 3 that it reads.
+-- a Jmpf with B8 0D before it), 6 at the targets in their order. In a step, damage is a byte over 4 (document 02, W8) that it reads.
 -- Assumes nothing.
 use Prim.Native.Nat.{ℕ, _-_}
 use mathlib.Core.Bool.{Bool, not, _&&_, _||_}

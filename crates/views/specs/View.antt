@@ -25,7 +25,7 @@ offJmpf image v p = eqb v flash && not (eqb (formHere image p) (formNamed "Jmpf"
 unfoldable pub misplaced : List ℕ → ℕ → ℕ → Bool
 misplaced image v p = (tracedMark v && not (fitsHere image p)) || offJmpf image v p
 
--- damage in a view: a byte over 3, or a mark misplaced
+-- damage in a view: a byte over 4, or a mark misplaced
 unfoldable pub damagedHere : List ℕ → List ℕ → ℕ → Bool
 damagedHere image m p = damaged (getD m p 0) || misplaced image (getD m p 0) p
 
