@@ -25,20 +25,19 @@ use Rattle.instruction.specs.declared.mode.Mode.{Mode}
 use Rattle.targets.proofs.AskedAlone.{found}
 use Rattle.targets.proofs.HereIs.{answer, whole-here}
 use Rattle.targets.proofs.Within.{within}
-use Rattle.reach.specs.ClaimsOrder.{Final}
 use Rattle.reach.specs.Mark.{tracedMark}
-use Rattle.reach.specs.Pins.{table}
+use Rattle.reach.proofs.Arrived.{arrived}
+use Rattle.reach.proofs.Told.{Told, bare}
 use Rattle.marks.specs.Refusals.{damaged}
 use Rattle.marks.specs.Tracer.{tracerOf}
-use Rattle.trace.specs.Run.{outcomeOf}
-use Rattle.trace_laws.proofs.ClaimsImagesOrder.{image-run-final}
+use Rattle.trace.specs.Run.{runMarks}
+use Rattle.trace_laws.specs.ClaimsJoin.{by-run}
+use Rattle.trace_laws.proofs.Ends.{ends}
 use Rattle.views.specs.Positions.{tracedAt}
 use Rattle.views.specs.View.{offJmpf, misplaced, damagedHere}
 use Rattle.views.proofs.TracedAt.{traced-inside}
 use Rattle.views_laws.specs.ClaimsCode.{Reachable}
 use Rattle.views_laws.proofs.ClaimsCodeBytes.{traced-reached, reached-traced}
-use Rattle.trace_laws.proofs.Finished.{sized, covered, marks-are, ended}
-use Rattle.views_laws.proofs.Reached.{plainly, over, reached-inside}
 use Rattle.listing.specs.Hex.{hex4, hexes}
 use Rattle.listing.specs.Line.{line}
 use Rattle.listing.specs.Lines.{hereLine, instrText}
@@ -78,23 +77,17 @@ traced-shown mode image m B l U p t =
       shown = ap (hereLine mode image p) (sym (whole-here image p h i (sym a))) ∙ ap (lineBy image p i) g;
     }
 
--- marks that are final
-module _ (mode : Mode) (image marks entries pins m : List ℕ) (l : length image ≤ length marks) (F : Final (tracerOf mode image) (table (length image) pins marks) entries m) (p : ℕ) where
+-- marks of a trace to the end
+module _ (mode : Mode) (image entries pins m : List ℕ) (T : Told (tracerOf mode image) (bare (length image) pins) entries m) (p : ℕ) where
   there : tracedAt image m p ≡ true → Reachable mode image entries pins p × (fitsHere image p ≡ true)
-  there t =
-      let h = traced-inside image m p t in
-      let r = traced-reached mode image marks entries pins m l F p h (second-part (ltb p (length image)) _ t) in
-      (plainly (tracerOf mode image) (waysHere mode image) marks entries pins l (r .0), r .1)
+  there t = traced-reached mode image entries pins m T p (traced-inside image m p t) (second-part (ltb p (length image)) _ t)
 
   back : Reachable mode image entries pins p → fitsHere image p ≡ true → tracedAt image m p ≡ true
   back r g =
-      let h = reached-inside r .inside in
-      both (ltb p (length image)) (tracedMark (getD m p 0)) (lt-ltb p (length image) h)
-      (reached-traced mode image marks entries pins m l F p h (over (tracerOf mode image) (waysHere mode image) marks entries pins l r) g)
+      let h = arrived r .inside in
+      both (ltb p (length image)) (tracedMark (getD m p 0)) (lt-ltb p (length image) h) (reached-traced mode image entries pins m T p h r g)
 
 pub traced-reachable : TracedReachable
 traced-reachable mode image marks order entries pins limit s B C a f p =
-    let m : List ℕ = outcomeOf mode image marks entries pins limit .marks in
-    let l : length image ≤ length marks = covered mode image marks order entries pins limit (sized mode image marks order entries pins limit s a) in
-    let F : Final (tracerOf mode image) (table (length image) pins marks) entries m = image-run-final mode image marks entries pins limit B C l (ended mode image marks order entries pins limit s a f) in
-    rw (marks-are mode image marks order entries pins limit s a) (there mode image marks entries pins m l F p, back mode image marks entries pins m l F p)
+    let T = ends mode image entries pins (runMarks mode image marks order entries pins limit) B C (by-run marks order limit s a f refl) in
+    (there mode image entries pins _ T p, back mode image entries pins _ T p)

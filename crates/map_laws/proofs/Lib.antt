@@ -3,3 +3,4 @@ pub mod Built
 pub mod ClaimsMapAnswers
 pub mod Stepped
 pub mod ClaimsMapUpdate
+pub mod ClaimsJoinMap

@@ -1,2 +1,3 @@
 pub mod ClaimsMap
 pub mod ClaimsAnswers
+pub mod ClaimsJoinMap

@@ -24,7 +24,6 @@ pub mod Arrived
 pub mod MarkKinds
 pub mod Between
 pub mod Order
-pub mod Join
 pub mod Pin
 pub mod Pins
 pub mod Once
@@ -58,3 +57,6 @@ pub mod Came
 pub mod Sample
 pub mod SweepSample
 pub mod Table
+pub mod Told
+pub mod Join
+pub mod JoinSample

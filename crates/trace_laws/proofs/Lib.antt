@@ -17,3 +17,5 @@ pub mod SameHere
 pub mod ClaimsModesAlike
 pub mod ClaimsPinsNone
 pub mod ClaimsPinsKept
+pub mod Ends
+pub mod ClaimsJoinImages

@@ -6,3 +6,4 @@ pub mod ClaimsMissing
 pub mod ClaimsSweeps
 pub mod ClaimsModesAlike
 pub mod ClaimsPins
+pub mod ClaimsJoin

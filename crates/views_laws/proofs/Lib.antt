@@ -1,8 +1,9 @@
 pub mod ClaimsViewsApart
 pub mod Somes
-pub mod Reached
+pub mod MaskedBy
 pub mod ClaimsCodeBytes
 pub mod Edges
 pub mod ClaimsSoundRun
 pub mod ClaimsSoundSteps
 pub mod ClaimsModesViews
+pub mod ClaimsJoinViews

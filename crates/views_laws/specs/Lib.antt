@@ -3,3 +3,4 @@ pub mod ClaimsViews
 pub mod Edges
 pub mod ClaimsSound
 pub mod ClaimsModesViews
+pub mod ClaimsJoinViews
