@@ -6,6 +6,7 @@ mod changed;
 mod decode;
 mod edits;
 mod encode;
+mod joined;
 mod lent;
 mod list_text;
 mod listing;
@@ -55,6 +56,7 @@ fn main() -> ExitCode {
     list_text::compare(&mut tally, &mut random);
     sweeps::compare(&mut tally, &mut random);
     wrapping::compare(&mut tally, &mut random);
+    joined::compare(&mut tally, &mut random);
     match tally.report() {
         true => ExitCode::SUCCESS,
         false => ExitCode::FAILURE,

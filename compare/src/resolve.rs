@@ -26,28 +26,30 @@ const ENDS: [RangeInclusive<u32>; 4] = [
 ];
 
 pub fn compare(tally: &mut Tally, random: &mut Random) {
-    let mut compared = Comparison::new(tally, Mode::Unwrapped);
-    for form in 0..original::FORMS {
-        compared.limits(form, random);
-        if let Some(last) = address_of(form) {
-            compared.every_address(form, last);
-            compared.every_base(form, last);
-        }
-    }
-    compared.random(random, RANDOM_CALLS);
+    in_mode(Mode::Unwrapped, tally, random, RANDOM_CALLS);
 }
 
 pub fn compare_wrapping(tally: &mut Tally, random: &mut Random) {
-    let mut compared = Comparison::new(tally, Mode::Wrapping);
+    in_mode(Mode::Wrapping, tally, random, WRAPPING_CALLS);
+}
+
+fn in_mode(mode: Mode, tally: &mut Tally, random: &mut Random, calls: u64) {
+    let mut compared = Comparison {
+        tally,
+        mode,
+        resolver: Resolver::new(),
+    };
     for form in 0..original::FORMS {
         compared.limits(form, random);
         if let Some(last) = address_of(form) {
             compared.every_address(form, last);
             compared.every_base(form, last);
-            compared.ends(form, last);
+            if mode == Mode::Wrapping {
+                compared.ends(form, last);
+            }
         }
     }
-    compared.random(random, WRAPPING_CALLS);
+    compared.random(random, calls);
 }
 
 /// The place of the operand that is an address: the last one.
@@ -64,14 +66,6 @@ struct Comparison<'a> {
 }
 
 impl Comparison<'_> {
-    fn new(tally: &mut Tally, mode: Mode) -> Comparison<'_> {
-        Comparison {
-            tally,
-            mode,
-            resolver: Resolver::new(),
-        }
-    }
-
     /// Each list of operand numbers at each of the bases, under any first byte of the form.
     fn limits(&mut self, form: usize, random: &mut Random) {
         let firsts = original::firsts(form);

@@ -97,12 +97,30 @@ fn pinned(tally: &mut Tally, random: &mut Random, image: &[u8], entries: &[u32])
     ]);
     let whole = given.run(tracer::run, mode, None);
     let taken = given.taken(&whole);
-    given.pins = images::pins(image, entries, whole.order.part(), random);
+    let pins = images::pins(image, entries, whole.order.part(), random);
     given.limit = limit(random, image, taken);
+    let without = given.run(tracer::run, mode, None);
+    given.pins = pins;
     let expected = given.run(tracer::run, mode, None);
     let ours = given.run(ours::run, mode, None);
     judge_as(judge, tally, &given, &expected, &ours);
+    count_pinned(tally, &given, &without, &expected);
     sweeps::with_pins(tally, random, (mode, image, entries), &given.pins);
+}
+
+/// Counts a run that was given a pin, and whether it traces others than without, beside the pins.
+fn count_pinned(tally: &mut Tally, given: &Given, without: &Outcome, expected: &Outcome) {
+    if given.pins.is_empty() {
+        return;
+    }
+    tally.pinned.runs += 1;
+    if given.is_refused() {
+        return;
+    }
+    let (before, after) = (without.marks.part(), expected.marks.part());
+    let is_traced = |mark: u8| mark == 2 || mark == 3;
+    let is_other = |at: usize| after[at] != 4 && is_traced(before[at]) != is_traced(after[at]);
+    tally.pinned.other += u64::from((0..given.image.len()).any(is_other));
 }
 
 /// Where nothing that is taken up leaves memory, both modes answer and leave the same.

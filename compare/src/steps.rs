@@ -116,6 +116,7 @@ fn start(tally: &mut Tally, random: &mut Random, image: &[u8]) {
         0 => vec![],
         _ => images::pins(image, &entries, &[], random),
     };
+    tally.pinned.starts += u64::from(!pins.is_empty());
     let mut ours = marks(random, image);
     let mut expected = ours.clone();
     let answer = tracer::start(image, expected.lend(), &entries, &pins);

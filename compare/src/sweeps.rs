@@ -129,6 +129,7 @@ pub fn with_pins(
     let mut given = Given::new(random, image, entries);
     (given.mode, given.pins) = (mode, pins);
     given.compare(tally, None);
+    tally.pinned.sweeps += u64::from(!pins.is_empty());
 }
 
 /// Refusals 1 and 2, and both at once, on both sides of each limit.
@@ -300,8 +301,9 @@ impl<'a> Given<'a> {
     }
 
     fn shown(&self) -> String {
-        let (mode, image, entries) = (self.mode, steps::shown(self.image), self.entries);
-        format!("{mode:?} sweeps of {image} entries {entries:?}")
+        let (mode, image) = (self.mode, steps::shown(self.image));
+        let (entries, pins) = (self.entries, self.pins);
+        format!("{mode:?} sweeps of {image} entries {entries:?} pins {pins:?}")
     }
 }
 

@@ -32,9 +32,11 @@ pub enum Call {
     MapUpdate,
     /// What our unwrapped mode says of our wrapping one, where nothing leaves memory.
     ModesAlike,
+    /// What our traces from two entry lists say of ours from the lists joined, where no B8 0D 21 stands.
+    Joined,
 }
 
-const CALLS: [(Call, &str); 24] = [
+const CALLS: [(Call, &str); 25] = [
     (Call::Decode, "decode"),
     (Call::Encode, "encode"),
     (Call::Resolve, "resolve"),
@@ -59,6 +61,7 @@ const CALLS: [(Call, &str); 24] = [
     (Call::MapFirstData, "map first data"),
     (Call::MapUpdate, "map update"),
     (Call::ModesAlike, "modes alike"),
+    (Call::Joined, "joined lists"),
 ];
 
 impl Call {
@@ -67,7 +70,8 @@ impl Call {
         match self {
             Call::Sweep | Call::SweepAsRun => "document 02",
             Call::ReadBack | Call::MapBuild | Call::MapTest | Call::MapCount => "document 02",
-            Call::MapFirstData | Call::MapUpdate | Call::ModesAlike => "document 02",
+            Call::MapFirstData | Call::MapUpdate => "document 02",
+            Call::ModesAlike | Call::Joined => "document 02",
             _ => "document 01",
         }
     }
@@ -149,6 +153,30 @@ pub struct Wrapping {
     pub malformed: u64,
 }
 
+/// What the calls with at least one pin came to.
+#[derive(Default)]
+pub struct Pinned {
+    pub starts: u64,
+    pub runs: u64,
+    pub sweeps: u64,
+    /// Runs that trace another position than without the pins, or leave one out that is not pinned itself.
+    pub other: u64,
+}
+
+/// What the pairs of entry lists came to.
+#[derive(Default)]
+pub struct Joined {
+    pub pairs: u64,
+    /// With at least one pin.
+    pub pinned: u64,
+    /// Where each list traces a position that the other does not.
+    pub each: u64,
+    /// With a position left waiting.
+    pub waiting: u64,
+    /// In wrapping mode, with other marks than unwrapped.
+    pub wrapped: u64,
+}
+
 /// The lines of the listings, by their letters.
 #[derive(Default)]
 struct Listings {
@@ -183,6 +211,8 @@ pub struct Tally {
     pub traces: Traces,
     pub sweeps: Sweeps,
     pub wrapping: Wrapping,
+    pub pinned: Pinned,
+    pub joined: Joined,
     taken: [u64; FORMS],
     listed: [u64; FORMS],
     listings: Listings,
@@ -199,6 +229,8 @@ impl Tally {
             traces: Traces::default(),
             sweeps: Sweeps::default(),
             wrapping: Wrapping::default(),
+            pinned: Pinned::default(),
+            joined: Joined::default(),
             taken: [0; FORMS],
             listed: [0; FORMS],
             listings: Listings::default(),
@@ -291,6 +323,8 @@ impl Tally {
         self.backs.report();
         self.texts.report();
         self.wrapping.report();
+        self.pinned.report();
+        self.joined.report();
         let all = &self.all;
         let (alone, alone_differ) = (all.alone, all.alone_differ);
         let (wrapping, wrapping_differ) = (all.wrapping, all.wrapping_differ);
@@ -394,6 +428,36 @@ impl Wrapping {
     }
 }
 
+impl Pinned {
+    fn report(&self) {
+        let Pinned {
+            starts,
+            runs,
+            sweeps,
+            other,
+        } = self;
+        println!(
+            "with pins: starts {starts}, runs {runs}, sweeps {sweeps}; runs with other marks than without pins {other}"
+        );
+    }
+}
+
+impl Joined {
+    fn report(&self) {
+        let Joined {
+            pairs,
+            pinned,
+            each,
+            waiting,
+            wrapped,
+        } = self;
+        println!(
+            "joined entry lists: pairs {pairs}, with pins {pinned}, where both lists trace what the other does not {each}, with positions waiting {waiting}"
+        );
+        println!("joined entry lists: wrapping, with other marks than unwrapped {wrapped}");
+    }
+}
+
 impl Listings {
     fn report(&self) {
         let [labels, overlaps, arrivals, instructions, data] = self.lines;
@@ -432,7 +496,8 @@ impl Texts {
         let (listed, cut_off, malformed) = (self.listed, self.cut_off, self.malformed);
         let (longest, most) = (self.longest, self.most);
         println!(
-            "texts of the listing program: listed {listed}, cut off {cut_off}, malformed {malformed}; the longest has {longest} bytes, the most printed are {most}"
+            "texts of the listing program: listed {listed}, cut off {cut_off}, malformed {malformed}; \
+             the longest has {longest} bytes, the most printed are {most}"
         );
     }
 }

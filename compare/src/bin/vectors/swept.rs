@@ -32,7 +32,7 @@ const SWEEP_BY_SWEEP: [([u8; 8], usize); 4] = [
 ];
 
 /// Images, each with lists of entries.
-const NAMED: [(&[u8], &[&[u32]]); 16] = [
+const NAMED: [(&[u8], &[&[u32]]); 17] = [
     (&BY_HAND, &[&[0], &[7, 2]]),
     // nothing to take
     (&[], &[&[], &[0]]),
@@ -59,6 +59,11 @@ const NAMED: [(&[u8], &[&[u32]]); 16] = [
     (
         &[0xB8, 0x0D, 0x21, 0x00, 0x00],
         &[&[2, 0], &[0, 2], &[0], &[2]],
+    ),
+    // two lists and both joined: 4 is traced for the second alone. A sweep goes upward, whatever their order
+    (
+        &[0xB8, 0x0D, 0x21, 0x00, 0x04],
+        &[&[0], &[2], &[0, 2], &[2, 0]],
     ),
     (
         &[0xB8, 0x0D, 0x21, 0x00, 0x07, 0x80, 0xF9, 0xA0],

@@ -17,9 +17,14 @@ const BY_CHANCE: usize = 12;
 const SEED: u64 = 1;
 
 /// Images, each with lists of entries.
-const NAMED: [(&[u8], &[&[u32]]); 24] = [
+const NAMED: [(&[u8], &[&[u32]]); 25] = [
     (
         &[0xB8, 0x0D, 0x21, 0x00, 0x00],
+        &[&[0], &[2], &[0, 2], &[2, 0]],
+    ),
+    // two lists and both joined: what is traced then is not what is traced for the one or the other, and their order matters
+    (
+        &[0xB8, 0x0D, 0x21, 0x00, 0x04],
         &[&[0], &[2], &[0, 2], &[2, 0]],
     ),
     (
