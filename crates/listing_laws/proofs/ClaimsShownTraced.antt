@@ -27,17 +27,15 @@ use Rattle.targets.proofs.HereIs.{answer, whole-here}
 use Rattle.targets.proofs.Within.{within}
 use Rattle.reach.specs.Mark.{tracedMark}
 use Rattle.reach.proofs.Arrived.{arrived}
-use Rattle.reach.proofs.Told.{Told, bare}
+use Rattle.reach.proofs.Mark.{traced-test}
 use Rattle.marks.specs.Refusals.{damaged}
-use Rattle.marks.specs.Tracer.{tracerOf}
 use Rattle.trace.specs.Run.{runMarks}
 use Rattle.trace_laws.specs.ClaimsJoin.{by-run}
-use Rattle.trace_laws.proofs.Ends.{ends}
+use Rattle.trace_laws.proofs.ClaimsBetweenImages.{clean-agree}
+use Rattle.trace_laws.proofs.Ends.{between}
 use Rattle.views.specs.Positions.{tracedAt}
 use Rattle.views.specs.View.{offJmpf, misplaced, damagedHere}
 use Rattle.views.proofs.TracedAt.{traced-inside}
-use Rattle.views_laws.specs.ClaimsCode.{Reachable}
-use Rattle.views_laws.proofs.ClaimsCodeBytes.{traced-reached, reached-traced}
 use Rattle.listing.specs.Hex.{hex4, hexes}
 use Rattle.listing.specs.Line.{line}
 use Rattle.listing.specs.Lines.{hereLine, instrText}
@@ -77,17 +75,11 @@ traced-shown mode image m B l U p t =
       shown = ap (hereLine mode image p) (sym (whole-here image p h i (sym a))) ∙ ap (lineBy image p i) g;
     }
 
--- marks of a trace to the end
-module _ (mode : Mode) (image entries pins m : List ℕ) (T : Told (tracerOf mode image) (bare (length image) pins) entries m) (p : ℕ) where
-  there : tracedAt image m p ≡ true → Reachable mode image entries pins p × (fitsHere image p ≡ true)
-  there t = traced-reached mode image entries pins m T p (traced-inside image m p t) (second-part (ltb p (length image)) _ t)
-
-  back : Reachable mode image entries pins p → fitsHere image p ≡ true → tracedAt image m p ≡ true
-  back r g =
-      let h = arrived r .inside in
-      both (ltb p (length image)) (tracedMark (getD m p 0)) (lt-ltb p (length image) h) (reached-traced mode image entries pins m T p h r g)
-
 pub traced-reachable : TracedReachable
 traced-reachable mode image marks order entries pins limit s B C a f p =
-    let T = ends mode image entries pins (runMarks mode image marks order entries pins limit) B C (by-run marks order limit s a f refl) in
-    (there mode image entries pins _ T p, back mode image entries pins _ T p)
+    let m = runMarks mode image marks order entries pins limit in
+    let b = between mode image entries pins m (by-run marks order limit s a f refl) in (
+      λ t. b .traced-only p (traced-inside image m p t) (traced-test (getD m p 0) .0 (second-part (ltb p (length image)) _ t)),
+      λ r g. both (ltb p (length image)) (tracedMark (getD m p 0)) (lt-ltb p (length image) (arrived r .inside))
+      (traced-test (getD m p 0) .1 (b .traced-all p (clean-agree mode image entries pins true B C p g r) g)),
+    )

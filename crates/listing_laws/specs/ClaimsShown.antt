@@ -23,7 +23,7 @@ use Rattle.targets.specs.Targets.{targetsAnswer}
 use Rattle.trace.specs.Run.{RunResult, runAnswer, runMarks}
 use Rattle.trace_laws.specs.ClaimsImages.{Clean}
 use Rattle.views.specs.Positions.{tracedAt}
-use Rattle.views_laws.specs.ClaimsCode.{Reachable}
+use Rattle.trace_laws.specs.Reachable.{Reachable}
 use Rattle.views_laws.specs.ClaimsSound.{Undamaged}
 use Rattle.listing.specs.Hex.{hex4, hexes}
 use Rattle.listing.specs.Line.{line}

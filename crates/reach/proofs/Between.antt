@@ -1,15 +1,16 @@
 -- Every order ends between what is reached by the targets followed in any case and what is reached by those that may be. Assumes nothing.
 use Prim.Native.Nat.{ℕ, _<_}
+use native.Mathlib.Omega.{arith}
 use mathlib.Core.Bool.{true, false}
 use mathlib.Core.Path.{_≡_, sym, subst, _∙_}
-use mathlib.Core.Logic.{_⊎_, inl, inr, _≢_}
+use mathlib.Core.Logic.{_⊎_, inl, inr, _≢_, _↔_}
 use mathlib.Core.List.{List}
 use lib.ListN.{getD}
 use Rattle.reach.specs.Mark.{waiting, IsTraced}
 use Rattle.reach.specs.Tracer.{Tracer}
 use Rattle.reach.specs.Takes.{Ended, Base, ToEnd}
 use Rattle.reach.specs.Reach.{Reach, entry, target}
-use Rattle.reach.specs.ClaimsBetween.{Between, EndsBetween, SameTraced}
+use Rattle.reach.specs.ClaimsBetween.{Between, Beyond, EndsBetween, Agree, SameTraced, SameWaiting}
 use Rattle.reach.proofs.Cases.{yes-or-no, not-both}
 use Rattle.reach.proofs.Took.{mark-traced}
 use Rattle.reach.proofs.Sound.{Why, of-base, waits, done, Sound}
@@ -42,17 +43,46 @@ module _ (G : Tracer) (lo hi : ℕ → List ℕ) (base entries m : List ℕ) (B 
     traced-only = λ q h t. traced-why G hi base entries m B q h t (S .why q);
     waiting-all = λ q r f. left-over r f (S .why q);
     waiting-only = λ q h w. (waiting-why G hi base entries m B q h w (S .why q), cut q h w (yes-or-no (G .fits q)));
-    others = λ q n. unreached-why G hi base entries m B q n (S .why q);
-    long = S .long;
+    others = λ q h n. unreached-why G hi base entries m B q n (S .why q);
   }
 
+  beyond : Beyond (G .size) base m
+  beyond = record { stay = λ q h. unreached-why G hi base entries m B q (λ r. omega (arith, arrived r .inside)) (S .why q); long = S .long }
+
 pub ends-between : EndsBetween
-ends-between G lo hi W base entries m B T = between G lo hi base entries m B (reached-sound G lo hi base entries W B (T .takes)) (T .ended)
+ends-between G lo hi W base entries m B T =
+    let S = reached-sound G lo hi base entries W B (T .takes) in
+    (between G lo hi base entries m B S (T .ended), beyond G lo hi base entries m B S (T .ended))
+
+-- what a mark X means under a condition C: only what Hi says has it, and all that Lo says
+pub record Meant (X C Hi Lo : Type 0) : Type 0 where
+  pub only : X → Hi × C
+  pub all : Lo → C → X
+
+module _ {G : Tracer} {lo hi : ℕ → List ℕ} {base entries m : List ℕ} (b : Between G lo hi base entries m) (q : ℕ) (h : q < G .size) where
+  pub traced-meant : Meant (IsTraced (getD m q 0)) (G .fits q ≡ true) (Reach G hi base entries q) (Reach G lo base entries q)
+  traced-meant = record { only = b .traced-only q h; all = b .traced-all q }
+
+  pub waiting-meant : Meant (getD m q 0 ≡ waiting) (G .fits q ≡ false) (Reach G hi base entries q) (Reach G lo base entries q)
+  waiting-meant = record { only = b .waiting-only q h; all = b .waiting-all q }
+
+-- where what Hi says of one mark, Lo says of another, the one gives the other
+pub carried : {X Y C Hi Lo Hi′ Lo′ : Type 0} → Meant X C Hi Lo → (C → Hi → Lo′) → Meant Y C Hi′ Lo′ → X → Y
+carried x a y e = let r = x .only e in y .all (a (r .1) (r .0)) (r .1)
+
+-- so two tables that lie between, where the sets agree, have the same positions traced, and the same waiting
+module _ {G : Tracer} {lo hi : ℕ → List ℕ} {base entries m m′ : List ℕ}
+    (b : Between G lo hi base entries m) (b′ : Between G lo hi base entries m′) (q : ℕ) (h : q < G .size) where
+  pub agreed-traced : Agree G lo hi base entries true → IsTraced (getD m q 0) ↔ IsTraced (getD m′ q 0)
+  agreed-traced a = let x = traced-meant b q h in let y = traced-meant b′ q h in (carried x (a q) y, carried y (a q) x)
+
+  pub agreed-waiting : Agree G lo hi base entries false → (getD m q 0 ≡ waiting) ↔ (getD m′ q 0 ≡ waiting)
+  agreed-waiting a = let x = waiting-meant b q h in let y = waiting-meant b′ q h in (carried x (a q) y, carried y (a q) x)
 
 pub same-traced : SameTraced
-same-traced G lo hi W base entries m m′ B equal T T′ q h = (one-way m m′ T T′, one-way m′ m T′ T)
-  where
-    one-way : (a b : List ℕ) → ToEnd G base entries a → ToEnd G base entries b → IsTraced (getD a q 0) → IsTraced (getD b q 0)
-    one-way a b A A′ t =
-        let r = ends-between G lo hi W base entries a B A .traced-only q h t in
-        ends-between G lo hi W base entries b B A′ .traced-all q (equal q (r .0)) (r .1)
+same-traced G lo hi W base entries m m′ B a T T′ q h =
+    agreed-traced (ends-between G lo hi W base entries m B T .0) (ends-between G lo hi W base entries m′ B T′ .0) q h a
+
+pub same-waiting : SameWaiting
+same-waiting G lo hi W base entries m m′ B a T T′ q h =
+    agreed-waiting (ends-between G lo hi W base entries m B T .0) (ends-between G lo hi W base entries m′ B T′ .0) q h a

@@ -1,21 +1,21 @@
 -- Entry lists joined (request W9): what is reached from the joined list is reached from the one or from the other. Assumes nothing.
 use Prim.Native.Nat.{ℕ, _<_}
+use mathlib.Core.Bool.{true, false}
 use mathlib.Core.Logic.{_⊎_, inl, inr, ⊎-elim, _↔_}
 use mathlib.Core.List.{List, _++_, List·Memᴰ as Among, List·Memᴰ·append-cases, Memᴰ·append-left, Memᴰ·append-right}
 use Rattle.reach.specs.Tracer.{Tracer}
 use Rattle.reach.specs.Reach.{Reach, entry, target}
 use Rattle.reach.specs.Mark.{IsTraced}
+use Rattle.reach.specs.ClaimsBetween.{Between, Agree}
 use Rattle.reach.specs.ClaimsOrder.{Final}
 use Rattle.reach.specs.ClaimsJoin.{IsWaiting, Joined, JoinedEntries, SamePositions, SameEntries}
 use Rattle.reach.proofs.Order.{any-order, one-final}
-use Rattle.reach.proofs.Told.{Told, told, traced-is}
+use Rattle.reach.proofs.Between.{ends-between, Meant, traced-meant, waiting-meant, carried}
+use Rattle.reach.proofs.ReachMore.{more-entries}
+use Rattle.reach.proofs.Within.{plain-within}
+use Rattle.reach.proofs.Told.{Told}
 
 module _ {G : Tracer} {follow : ℕ → List ℕ} {base : List ℕ} where
-  -- from more entries no less is reached
-  pub more-entries : {e e′ : List ℕ} → ((q : ℕ) → Among q e → Among q e′) → {q : ℕ} → Reach G follow base e q → Reach G follow base e′ q
-  more-entries s (entry {q = q} i o) = entry (s q i) o
-  more-entries s (target r f i o) = target (more-entries s r) f i o
-
   pub part : (e₁ e₂ : List ℕ) {q : ℕ} → Reach G follow base (e₁ ++ e₂) q → Reach G follow base e₁ q ⊎ Reach G follow base e₂ q
   part e₁ e₂ (entry i o) = ⊎-elim (λ j. inl (entry j o)) (λ j. inr (entry j o)) (List·Memᴰ·append-cases e₁ i)
   part e₁ e₂ (target r f i o) = ⊎-elim (λ x. inl (target x f i o)) (λ x. inr (target x f i o)) (part e₁ e₂ r)
@@ -24,25 +24,29 @@ module _ {G : Tracer} {follow : ℕ → List ℕ} {base : List ℕ} where
   join e₁ e₂ (inl r) = more-entries (λ q i. Memᴰ·append-left e₂ i) r
   join e₁ e₂ (inr r) = more-entries (λ q i. Memᴰ·append-right e₁ i) r
 
--- a mark that means "reached, and C" in each table is joined as reaching is
-joined : {X X₁ X₂ R R₁ R₂ C : Type 0} → X ↔ (R × C) → X₁ ↔ (R₁ × C) → X₂ ↔ (R₂ × C)
-    → (R → R₁ ⊎ R₂) → (R₁ ⊎ R₂ → R) → X ↔ (X₁ ⊎ X₂)
-joined x x₁ x₂ apart together = (
-  λ e. let w = x .0 e in ⊎-elim (λ r. inl (x₁ .1 (r, w .1))) (λ r. inr (x₂ .1 (r, w .1))) (apart (w .0)),
-  ⊎-elim (λ e. let w = x₁ .0 e in x .1 (together (inl (w .0)), w .1)) (λ e. let w = x₂ .0 e in x .1 (together (inr (w .0)), w .1)),
+-- marks are joined as reaching is, where for each list all that may be reached is reached in any case
+joined : {X X₁ X₂ C Hi Hi₁ Hi₂ Lo Lo₁ Lo₂ : Type 0} → Meant X C Hi Lo → Meant X₁ C Hi₁ Lo₁ → Meant X₂ C Hi₂ Lo₂
+    → (Hi → Hi₁ ⊎ Hi₂) → (Lo₁ ⊎ Lo₂ → Lo) → (C → Hi₁ → Lo₁) → (C → Hi₂ → Lo₂) → X ↔ (X₁ ⊎ X₂)
+joined x x₁ x₂ apart together a₁ a₂ = (
+  λ e. let w = x .only e in ⊎-elim (λ r. inl (x₁ .all (a₁ (w .1) r) (w .1))) (λ r. inr (x₂ .all (a₂ (w .1) r) (w .1))) (apart (w .0)),
+  ⊎-elim (carried x₁ (λ c r. together (inl (a₁ c r))) x) (carried x₂ (λ c r. together (inr (a₂ c r))) x),
 )
 
--- marks told for the two lists and for the joined one
-pub told-joined : {G : Tracer} {base e₁ e₂ m₁ m₂ m : List ℕ} → Told G base e₁ m₁ → Told G base e₂ m₂ → Told G base (e₁ ++ e₂) m
-    → (q : ℕ) → q < G .size → Joined IsTraced m₁ m₂ m q × Joined IsWaiting m₁ m₂ m q
-told-joined {e₁ = e₁} {e₂ = e₂} T₁ T₂ T q h = (
-  joined (traced-is T q h) (traced-is T₁ q h) (traced-is T₂ q h) (part e₁ e₂) (join e₁ e₂),
-  joined (T .one q h) (T₁ .one q h) (T₂ .one q h) (part e₁ e₂) (join e₁ e₂),
-)
+module _ {G : Tracer} {lo hi : ℕ → List ℕ} {base e₁ e₂ m₁ m₂ m : List ℕ}
+    (b₁ : Between G lo hi base e₁ m₁) (b₂ : Between G lo hi base e₂ m₂) (b : Between G lo hi base (e₁ ++ e₂) m) (q : ℕ) (h : q < G .size) where
+  pub joined-traced : Agree G lo hi base e₁ true → Agree G lo hi base e₂ true → Joined IsTraced m₁ m₂ m q
+  joined-traced a₁ a₂ = joined (traced-meant b q h) (traced-meant b₁ q h) (traced-meant b₂ q h) (part e₁ e₂) (join e₁ e₂) (a₁ q) (a₂ q)
+
+  pub joined-waiting : Agree G lo hi base e₁ false → Agree G lo hi base e₂ false → Joined IsWaiting m₁ m₂ m q
+  joined-waiting a₁ a₂ = joined (waiting-meant b q h) (waiting-meant b₁ q h) (waiting-meant b₂ q h) (part e₁ e₂) (join e₁ e₂) (a₁ q) (a₂ q)
 
 pub joined-entries : JoinedEntries
-joined-entries G P base e₁ e₂ m₁ m₂ m B T₁ T₂ T =
-    told-joined (told B (any-order G P base e₁ m₁ B T₁)) (told B (any-order G P base e₂ m₂ B T₂)) (told B (any-order G P base (e₁ ++ e₂) m B T))
+joined-entries G P base e₁ e₂ m₁ m₂ m B T₁ T₂ T q h =
+    let W = plain-within G P in
+    let b₁ = ends-between G (G .ways) (G .ways) W base e₁ m₁ B T₁ .0 in
+    let b₂ = ends-between G (G .ways) (G .ways) W base e₂ m₂ B T₂ .0 in
+    let b = ends-between G (G .ways) (G .ways) W base (e₁ ++ e₂) m B T .0 in
+    (joined-traced b₁ b₂ b q h (λ k f r. r) (λ k f r. r), joined-waiting b₁ b₂ b q h (λ k f r. r) (λ k f r. r))
 
 -- ---- the same entries
 

@@ -58,5 +58,7 @@ pub mod Sample
 pub mod SweepSample
 pub mod Table
 pub mod Told
+pub mod ReachMore
 pub mod Join
+pub mod BetweenLike
 pub mod JoinSample

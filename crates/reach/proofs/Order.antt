@@ -3,7 +3,7 @@ use Prim.Native.Nat.{ℕ, _<_, _≤_}
 use native.Mathlib.Omega.{arith}
 use mathlib.Core.Bool.{true, false}
 use mathlib.Core.Path.{_≡_, sym, subst, _∙_}
-use mathlib.Core.Logic.{_⊎_, inl, inr}
+use mathlib.Core.Logic.{_⊎_, inl, inr, ⊎-elim}
 use lib.ListN.{getD}
 use lib.Seq.{ext-getD}
 use Rattle.reach.specs.Mark.{waiting, traced, IsTraced}
@@ -26,12 +26,13 @@ pub any-order : AnyOrder
 any-order G P base entries m B T =
     let W = plain-within G P in
     let S = reached-sound G (G .ways) (G .ways) base entries W B (T .takes) in
-    let b = ends-between G (G .ways) (G .ways) W base entries m B T in
+    let e = ends-between G (G .ways) (G .ways) W base entries m B T in
+    let b = e .0 in
     record {
       two = λ q h. (λ e. b .traced-only q h (inl e), λ w. is-two q h (b .traced-all q (w .0) (w .1)) (S .why q));
       one = λ q h. (λ e. b .waiting-only q h e, λ w. b .waiting-all q (w .0) (w .1));
-      others = b .others;
-      long = b .long;
+      others = λ q n. ⊎-elim (λ h. b .others q h n) (λ h. e .1 .stay q h) (lt-or-le q (G .size));
+      long = e .1 .long;
     }
   where
     is-two : (q : ℕ) → q < G .size → IsTraced (getD m q 0) → Why G (G .ways) base entries m q → getD m q 0 ≡ traced

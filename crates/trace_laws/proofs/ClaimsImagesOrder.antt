@@ -81,7 +81,7 @@ began image marks entries pins k e =
       marks-are = ap (λ (r : Answer ℕ). after r (note (length image) entries (table (length image) pins marks)) marks) e;
     }
 
-to-end : (mode : Mode) (image marks entries pins m : List ℕ) → claims.StepsToEnd mode image marks entries pins m → ToEnd (tracerOf mode image) (table (length image) pins marks) entries m
+pub to-end : (mode : Mode) (image marks entries pins m : List ℕ) → claims.StepsToEnd mode image marks entries pins m → ToEnd (tracerOf mode image) (table (length image) pins marks) entries m
 to-end mode image marks entries pins m T =
     let s = began image marks entries pins (T .count) (T .started) in
     let t : Takes (tracerOf mode image) (note (length image) entries (table (length image) pins marks)) (T .order) m = subst (λ (x : List ℕ). Takes (tracerOf mode image) x (T .order) m) (s .marks-are) (takes mode image (T .steps)) in

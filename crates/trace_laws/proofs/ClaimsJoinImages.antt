@@ -1,17 +1,22 @@
--- Entry lists joined, for images: what is reached from the joined list is reached from the one or from the other.
+-- Entry lists joined, for images without B8 0D 21: all that may be reached is reached in any case.
 -- Assumes nothing.
 use Prim.Native.Nat.{ℕ}
+use mathlib.Core.Bool.{true, false}
 use mathlib.Core.List.{List, [], _++_, List·Memᴰ as Among, List·Memᴰ·append-cases, Memᴰ·append-left, Memᴰ·append-right}
 use mathlib.Core.Logic.{_⊎_, inl, inr, ⊎-elim, _↔_}
 use Rattle.reach.specs.ClaimsJoin.{SamePositions}
-use Rattle.reach.proofs.Join.{told-joined, told-entries}
+use Rattle.reach.proofs.Join.{told-entries}
 use Rattle.reach.proofs.Told.{told-same}
 use Rattle.trace_laws.specs.ClaimsJoin as claims
+use Rattle.trace_laws.proofs.ClaimsBetweenImages.{clean-agree}
+use Rattle.trace_laws.proofs.ClaimsBetweenJoinImages.{agreed-joined, agreed-joined-waiting}
 use Rattle.trace_laws.proofs.Ends.{ends}
 
 pub image-joined : claims.ImageJoined
-image-joined mode image e₁ e₂ pins m₁ m₂ m B C T₁ T₂ T =
-    told-joined (ends mode image e₁ pins m₁ B C T₁) (ends mode image e₂ pins m₂ B C T₂) (ends mode image (e₁ ++ e₂) pins m B C T)
+image-joined mode image e₁ e₂ pins m₁ m₂ m B C T₁ T₂ T q h = (
+  agreed-joined mode image e₁ e₂ pins m₁ m₂ m (clean-agree mode image e₁ pins true B C) (clean-agree mode image e₂ pins true B C) T₁ T₂ T q h,
+  agreed-joined-waiting mode image e₁ e₂ pins m₁ m₂ m (clean-agree mode image e₁ pins false B C) (clean-agree mode image e₂ pins false B C) T₁ T₂ T q h,
+)
 
 pub image-same-entries : claims.ImageSameEntries
 image-same-entries mode image e e′ pins m m′ B C s T T′ =

@@ -18,4 +18,6 @@ pub mod ClaimsModesAlike
 pub mod ClaimsPinsNone
 pub mod ClaimsPinsKept
 pub mod Ends
+pub mod ClaimsBetweenImages
+pub mod ClaimsBetweenJoinImages
 pub mod ClaimsJoinImages

@@ -44,7 +44,7 @@ module _ (image : List ℕ) (B : Bytes image) (C : Clean image) (p : ℕ) where
       let b : p - 2 + 2 ≡ p = omega arith in
       C (p - 2) (omega arith) (f .1) (ap (λ (q : ℕ). getD image q 0) a ∙ f .2) (ap (λ (q : ℕ). getD image q 0) b ∙ f .0)
 
-  unflashed : flashHere image p ≡ false
+  pub unflashed : flashHere image p ≡ false
   unflashed = by (flashHere image p) refl
     where
       by : (t : Bool) → flashHere image p ≡ t → flashHere image p ≡ false

@@ -7,3 +7,6 @@ pub mod ClaimsSweeps
 pub mod ClaimsModesAlike
 pub mod ClaimsPins
 pub mod ClaimsJoin
+pub mod Reachable
+pub mod ClaimsBetween
+pub mod ClaimsBetweenJoin

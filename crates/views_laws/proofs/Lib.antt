@@ -1,6 +1,7 @@
 pub mod ClaimsViewsApart
 pub mod Somes
 pub mod MaskedBy
+pub mod ClaimsBetweenViews
 pub mod ClaimsCodeBytes
 pub mod Edges
 pub mod ClaimsSoundRun

@@ -4,3 +4,4 @@ pub mod Edges
 pub mod ClaimsSound
 pub mod ClaimsModesViews
 pub mod ClaimsJoinViews
+pub mod ClaimsBetweenViews
