@@ -4,7 +4,7 @@ use mathlib.Core.Path.{_≡_, refl, sym, ap, _∙_}
 use mathlib.Core.Bool.{Bool, true, false, not, _&&_, _||_}
 use mathlib.Core.List.{List, _∷_}
 use Prim.Native.Char.{code}
-use Prim.Native.Nat.{ℕ, _<_, _≤_}
+use Prim.Native.Nat.{ℕ, _<_}
 use native.Mathlib.Omega.{arith}
 use lib.Dec.{ltb}
 use lib.IntN.{ℤ}
@@ -18,10 +18,9 @@ use Rattle.instruction.specs.Forms.{sizeOf}
 use Rattle.instruction.specs.Mnemonic.{mnemonicOf}
 use Rattle.instruction.specs.Parts.{partsOf}
 use Rattle.instruction.specs.declared.instr.Instr.{Instr}
-use Rattle.targets.specs.At.{fitsHere, instrHere, waysHere}
+use Rattle.targets.specs.At.{fitsHere, instrHere}
 use Rattle.targets.specs.Targets.{nextOf, targetsIn, targetsAnswer}
 use Rattle.instruction.proofs.Ands.{both, second-part}
-use Rattle.instruction.specs.declared.mode.Mode.{Mode}
 use Rattle.targets.proofs.AskedAlone.{found}
 use Rattle.targets.proofs.HereIs.{answer, whole-here}
 use Rattle.targets.proofs.Within.{within}
@@ -33,7 +32,6 @@ use Rattle.trace.specs.Run.{runMarks}
 use Rattle.trace_laws.specs.ClaimsJoin.{by-run}
 use Rattle.trace_laws.proofs.ClaimsBetweenImages.{clean-agree}
 use Rattle.trace_laws.proofs.Ends.{between}
-use Rattle.views.specs.Positions.{tracedAt}
 use Rattle.views.specs.View.{offJmpf, misplaced, damagedHere}
 use Rattle.views.proofs.TracedAt.{traced-inside}
 use Rattle.listing.specs.Hex.{hex4, hexes}
@@ -81,5 +79,5 @@ traced-reachable mode image marks order entries pins limit s B C a f p =
     let b = between mode image entries pins m (by-run marks order limit s a f refl) in (
       λ t. b .traced-only p (traced-inside image m p t) (traced-test (getD m p 0) .0 (second-part (ltb p (length image)) _ t)),
       λ r g. both (ltb p (length image)) (tracedMark (getD m p 0)) (lt-ltb p (length image) (arrived r .inside))
-      (traced-test (getD m p 0) .1 (b .traced-all p (clean-agree mode image entries pins true B C p g r) g)),
+          (traced-test (getD m p 0) .1 (b .traced-all p (clean-agree mode image entries pins true B C p g r) g)),
     )

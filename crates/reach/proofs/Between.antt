@@ -8,7 +8,7 @@ use mathlib.Core.List.{List}
 use lib.ListN.{getD}
 use Rattle.reach.specs.Mark.{waiting, IsTraced}
 use Rattle.reach.specs.Tracer.{Tracer}
-use Rattle.reach.specs.Takes.{Ended, Base, ToEnd}
+use Rattle.reach.specs.Takes.{Ended, Base}
 use Rattle.reach.specs.Reach.{Reach, entry, target}
 use Rattle.reach.specs.ClaimsBetween.{Between, Beyond, EndsBetween, Agree, SameTraced, SameWaiting}
 use Rattle.reach.proofs.Cases.{yes-or-no, not-both}

@@ -1,7 +1,7 @@
 -- Marks that lie between two reachable sets do so over every base that is alike inside the image: so the lent marks are not in the way.
 -- Assumes nothing.
 use Prim.Native.Nat.{ℕ, _≤_}
-use mathlib.Core.Path.{_≡_, refl, sym, _∙_}
+use mathlib.Core.Path.{refl, sym, _∙_}
 use mathlib.Core.List.{List}
 use lib.ListN.{length}
 use Rattle.reach.specs.Pins.{table}

@@ -2,8 +2,8 @@
 -- Assumes nothing.
 use Prim.Native.Nat.{ℕ}
 use mathlib.Core.Bool.{Bool, true, false, cond}
-use mathlib.Core.List.{List, [], List·Memᴰ as Among, List·Memᴰ·not-nil}
-use mathlib.Core.Path.{_≡_, refl, sym, ap, subst}
+use mathlib.Core.List.{[], List·Memᴰ as Among, List·Memᴰ·not-nil}
+use mathlib.Core.Path.{sym, subst}
 use Rattle.targets.specs.At.{waysHere, flashHere}
 use Rattle.reach.proofs.Between.{agreed-traced, agreed-waiting}
 use Rattle.reach.proofs.ReachMore.{more-targets}

@@ -2,8 +2,6 @@
 -- Assumes nothing.
 use Prim.Native.Nat.{ℕ}
 use mathlib.Core.List.{List, _++_}
-use mathlib.Core.Logic.{_⊎_, _↔_}
-use Rattle.instruction.specs.declared.mode.Mode.{Mode}
 use Rattle.reach.specs.Reach.{Reach}
 use Rattle.reach.specs.Tracer.{Tracer}
 use Rattle.reach.proofs.Between.{agreed-traced}

@@ -3,7 +3,7 @@
 use Prim.Native.Nat.{ℕ}
 use mathlib.Core.Bool.{true, false}
 use mathlib.Core.List.{List, [], _++_, List·Memᴰ as Among, List·Memᴰ·append-cases, Memᴰ·append-left, Memᴰ·append-right}
-use mathlib.Core.Logic.{_⊎_, inl, inr, ⊎-elim, _↔_}
+use mathlib.Core.Logic.{_⊎_, ⊎-elim}
 use Rattle.reach.specs.ClaimsJoin.{SamePositions}
 use Rattle.reach.proofs.Join.{told-entries}
 use Rattle.reach.proofs.Told.{told-same}

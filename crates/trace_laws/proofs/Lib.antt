@@ -21,3 +21,6 @@ pub mod Ends
 pub mod ClaimsBetweenImages
 pub mod ClaimsBetweenJoinImages
 pub mod ClaimsJoinImages
+pub mod SampleSets
+pub mod SampleEnds
+pub mod ClaimsBetweenComputed

@@ -10,3 +10,4 @@ pub mod ClaimsJoin
 pub mod Reachable
 pub mod ClaimsBetween
 pub mod ClaimsBetweenJoin
+pub mod ClaimsBetweenSamples

@@ -8,3 +8,4 @@ pub mod ClaimsSoundRun
 pub mod ClaimsSoundSteps
 pub mod ClaimsModesViews
 pub mod ClaimsJoinViews
+pub mod ClaimsBetweenMasks

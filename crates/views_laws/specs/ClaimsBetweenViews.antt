@@ -1,12 +1,15 @@
 -- Which bytes are code in images that do hold B8 0D 21. Document 02, W13, for the bytes: document 01, 'Views'.
--- Proved in proofs/ClaimsBetweenViews.antt. Assumes nothing.
+-- Proved in proofs/ClaimsBetweenViews.antt, the computed example in proofs/ClaimsBetweenMasks.antt. Assumes nothing.
 use Prim.Native.Nat.{ℕ, _<_}
 use mathlib.Core.Bool.{true}
-use mathlib.Core.List.{List}
+use mathlib.Core.List.{List, [], _∷_, _++_}
 use mathlib.Core.Path.{_≡_}
 use lib.ListN.{length, getD}
 use Rattle.instruction.specs.declared.mode.Mode.{Mode}
+use Rattle.instruction.specs.declared.mode.Mode.the-variants.{Unwrapped}
+use Rattle.trace.specs.Run.{runMarks}
 use Rattle.trace_laws.specs.ClaimsBetween.{SetsAgree}
+use Rattle.trace_laws.specs.ClaimsBetweenSamples.{flashTo}
 use Rattle.trace_laws.specs.ClaimsJoin.{TracedToEnd}
 use Rattle.trace_laws.specs.Reachable.{SurelyReachable}
 use Rattle.views.specs.Mask.{maskOf}
@@ -34,3 +37,13 @@ abbrev pub AgreedSameMask : Type 0
 AgreedSameMask =
     (mode : Mode) (image entries pins m m′ : List ℕ) → SetsAgree mode image entries pins true
     → TracedToEnd mode image entries pins m → TracedToEnd mode image entries pins m′ → maskOf image m ≡ maskOf image m′
+
+-- Not1(0x10D, 0), a Jmpf to 5 and a Ret there
+abbrev pub flashRet : List ℕ
+flashRet = flashTo 5 ++ (0xA0 ∷ [])
+
+-- where they do not, masks can differ: B8 0D 21 00 05 A0 with entries 0 and 2, by runs. As 0, 2 the Ret at 5 is not code, as 2, 0 it is
+abbrev pub MasksDiffer : Type 0
+MasksDiffer =
+    (maskOf flashRet (runMarks Unwrapped flashRet flashRet flashRet (0 ∷ 2 ∷ []) [] 6) ≡ 1 ∷ 1 ∷ 1 ∷ 1 ∷ 1 ∷ 0 ∷ [])
+    × (maskOf flashRet (runMarks Unwrapped flashRet flashRet flashRet (2 ∷ 0 ∷ []) [] 6) ≡ 1 ∷ 1 ∷ 1 ∷ 1 ∷ 1 ∷ 1 ∷ [])
