@@ -10,24 +10,14 @@ use lib.ListN.{length, getD}
 use borrow.Author.Tests.{ne-eqb}
 use Rattle.instruction.specs.declared.mode.Mode.{Mode}
 use Rattle.targets.specs.At.{waysHere}
-use Rattle.targets.specs.Ways.{isWhole, placesIn, placesNamed}
-use Rattle.targets.specs.declared.place.Places.{Places}
-use Rattle.targets.specs.declared.place.Places.the-variants.{Nothing, First, Both}
-use Rattle.targets.proofs.WaysAre.{two-at-most}
+use Rattle.targets.specs.Ways.{isWhole}
+use Rattle.targets.proofs.WaysAre.{ways-few}
 use Rattle.reach.specs.Mark.{flash}
 use Rattle.reach.specs.Tracer.{held}
 use Rattle.views.specs.Positions.{some, tracedAt}
 use Rattle.views.proofs.Ors.{or-start}
 use Rattle.arrivals.specs.Arrivals.{heldAt, arrives}
 use Rattle.arrivals.specs.Index.{targetOf}
-
-places-few : (ps : Places) → length (placesIn ps) ≤ 2
-places-few Nothing = omega arith
-places-few (First a) = omega arith
-places-few (Both a b) = omega arith
-
-ways-few : (mode : Mode) (image : List ℕ) (q : ℕ) → length (waysHere mode image q) ≤ 2
-ways-few mode image q = omega (arith, ap length (two-at-most mode image q), places-few (placesNamed (waysHere mode image q)))
 
 pub held-few : (mode : Mode) (image m : List ℕ) (q : ℕ) → length (heldAt mode image m q) ≤ 2
 unfolding heldAt held

@@ -34,6 +34,7 @@ pub mod Went
 pub mod WentOn
 pub mod Ran
 pub mod Run
+pub mod RunFull
 pub mod RunNotes
 pub mod Cut
 pub mod SweptAt
@@ -58,6 +59,10 @@ pub mod Sample
 pub mod SweepSample
 pub mod Table
 pub mod Told
+pub mod IsAmong
+pub mod HowMany
+pub mod ManyFew
+pub mod Distinct
 pub mod ReachMore
 pub mod Join
 pub mod BetweenLike

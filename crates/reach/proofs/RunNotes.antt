@@ -5,7 +5,7 @@ use mathlib.Core.Path.{_≡_}
 use mathlib.Core.Logic.{⊎-elim}
 use lib.ListN.{length}
 use lib.Seq.{length-sets}
-use Rattle.reach.specs.Note.{note}
+use Rattle.reach.specs.Note.{note, fresh}
 use Rattle.reach.specs.ClaimsRun.{RunNoting, RunOrdering}
 use Rattle.reach.specs.Run.{noted, runOf}
 use Rattle.reach.proofs.Mark.{waits-not}
@@ -15,8 +15,10 @@ use Rattle.reach.proofs.TakesOnce.{takes-once}
 use Rattle.reach.proofs.Sets.{take-sets, drop-sets}
 use Rattle.reach.proofs.Once.{once-append}
 use Rattle.reach.proofs.Ran.{ran, length-noted, noted-le}
+use Rattle.reach.proofs.RunFull.{run-full}
 
 pub run-noting : RunNoting
+unfolding runOf
 run-noting limit G entries base B =
     let W = ran limit G entries base B in
     let L = W .line in
@@ -32,7 +34,10 @@ run-noting limit G entries base B =
       left-waiting = λ q. (λ i. (L .inside q i, L .waits q i), λ w. L .all q (w .0) (w .1));
       sum = length-noted limit G entries base B;
       in-image = noted-le limit G entries base B;
-      in-twice = λ t. omega (arith, W .twice t, length-noted limit G entries base B);
+      in-twice = λ t.
+          omega (arith, run-full G t limit (fresh (G .size) entries base) (note (G .size) entries base) .most, length-noted limit G entries base B);
+      two-each = λ t e.
+          run-full G t limit (fresh (G .size) entries base) (note (G .size) entries base) .each (omega (arith, e, length-noted limit G entries base B));
     }
 
 pub run-ordering : RunOrdering

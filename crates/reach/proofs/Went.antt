@@ -28,7 +28,6 @@ pub record Went (limit : ℕ) (G : Tracer) (queue m : List ℕ) (out : Outcome) 
   pub short : out .end ≡ stopped → (steps out ≡ limit) × (0 < length (out .left))
   pub broken : (p : ℕ) → out .end ≡ cutOff p → CutNext G (out .left) p
   pub sum : steps out + length (out .left) + count touched (take (G .size) m) ≡ length queue + count touched (take (G .size) (out .marks))
-  pub twice : ((p : ℕ) → length (G .ways p) ≤ 2) → length (out .left) ≤ length queue + steps out
 
 module _ (G : Tracer) (m : List ℕ) where
   -- nothing waiting
@@ -41,7 +40,6 @@ module _ (G : Tracer) (m : List ℕ) where
     short = λ e. let z : _≡_ {A = ℕ} 0 1 = cc in absurd (omega arith);
     broken = λ p e. let z : _≡_ {A = ℕ} 0 1 = cc in absurd (omega arith);
     sum = omega arith;
-    twice = λ w. zero-le;
   })
 
   module _ (p : ℕ) (queue : List ℕ) (L : Line G m (p ∷ queue)) where
@@ -55,7 +53,6 @@ module _ (G : Tracer) (m : List ℕ) where
       short = λ e. (refl, omega arith);
       broken = λ q e. let z : _≡_ {A = ℕ} 0 1 = cc in absurd (omega arith);
       sum = omega arith;
-      twice = λ w. omega arith;
     })
 
     -- instruction cut off
@@ -68,5 +65,4 @@ module _ (G : Tracer) (m : List ℕ) where
       short = λ e. let z : _≡_ {A = ℕ} 0 1 = cc in absurd (omega arith);
       broken = λ q e. let x : p ≡ q = cc in subst (λ (y : ℕ). CutNext G (p ∷ queue) y) x (record { cut = f; queue = queue; next = refl });
       sum = omega arith;
-      twice = λ w. omega arith;
     })

@@ -11,7 +11,7 @@ use Rattle.reach.specs.Takes.{up}
 use Rattle.reach.specs.Run.{runFrom}
 use Rattle.reach.proofs.Cases.{yes-or-no}
 use Rattle.reach.proofs.Took.{length-took}
-use Rattle.reach.proofs.Found.{found-short, touched-took}
+use Rattle.reach.proofs.Found.{touched-took}
 use Rattle.reach.proofs.RunLaws.{run-on}
 use Rattle.reach.proofs.Line.{Line}
 use Rattle.reach.proofs.LineNext.{line-next}
@@ -34,7 +34,6 @@ went-on G m p queue L limit l f W =
       short = λ e. (omega (arith, W .short e .0), W .short e .1);
       broken = W .broken;
       sum = omega (arith, W .sum, a, touched-took G m p l h (λ z. omega arith));
-      twice = λ t. omega (arith, W .twice t, a, found-short G m p, t p);
     })
 
 pub went : (limit : ℕ) (G : Tracer) (queue m : List ℕ) → G .size ≤ length m → Line G m queue → Went limit G queue m (runFrom limit G queue m)

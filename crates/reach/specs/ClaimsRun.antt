@@ -51,7 +51,8 @@ RunFinal =
     → Final G base entries (runOf limit G entries base .marks)
 
 -- Each position noted stands once in the order; those taken up are the traced ones, those left are the waiting ones; there are at most as
--- many as the image is long, and, where no instruction has more than two targets, as were set by the entries and two for each step
+-- many as the image is long, and, where no instruction has more than two targets, as were set by the entries and two for each step; so many
+-- only where each one taken up has two
 pub record RunNotes (G : Tracer) (entries base : List ℕ) (out : Outcome) : Type 0 where
   pub once : Once (noted out)
   pub taken-traced : (q : ℕ) → Among q (out .taken) ↔ ((q < G .size) × IsTraced (getD (out .marks) q 0))
@@ -59,6 +60,8 @@ pub record RunNotes (G : Tracer) (entries base : List ℕ) (out : Outcome) : Typ
   pub sum : length (noted out) ≡ steps out + length (out .left)
   pub in-image : length (noted out) ≤ G .size
   pub in-twice : ((p : ℕ) → length (G .ways p) ≤ 2) → length (noted out) ≤ length (fresh (G .size) entries base) + 2 * steps out
+  pub two-each : ((p : ℕ) → length (G .ways p) ≤ 2) → length (noted out) ≡ length (fresh (G .size) entries base) + 2 * steps out
+      → (q : ℕ) → Among q (out .taken) → length (G .ways q) ≡ 2
 
 -- so notes every run
 abbrev pub RunNoting : Type 0

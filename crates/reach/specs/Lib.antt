@@ -7,6 +7,7 @@ pub mod Run
 pub mod Queue
 pub mod Sweep
 pub mod Pins
+pub mod HowMany
 pub mod ClaimsTests
 pub mod ClaimsBetween
 pub mod ClaimsOrder

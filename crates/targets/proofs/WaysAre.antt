@@ -46,6 +46,14 @@ pub two-at-most : (mode : Mode) (image : List ℕ) (p : ℕ) → placesIn (place
 unfolding waysHere targetsIn
 two-at-most mode image p = by-flow (flowOf (partsOf (instrHere image p) .form)) (addressIn mode (p + sizeHere image p) (instrHere image p)) (inMode mode (pos (p + sizeHere image p)))
 
+places-few : (ps : Places) → length (placesIn ps) ≤ 2
+places-few Nothing = omega arith
+places-few (First a) = omega arith
+places-few (Both a b) = omega arith
+
+pub ways-few : (mode : Mode) (image : List ℕ) (q : ℕ) → length (waysHere mode image q) ≤ 2
+ways-few mode image q = omega (arith, ap length (two-at-most mode image q), places-few (placesNamed (waysHere mode image q)))
+
 module _ (image : List ℕ) (p : ℕ) where
   module _ (inside : p < length image) where
     here-is : (h : Here) → h ≡ hereOf image p → (t : Bool) → fitsHere image p ≡ t → h ≡ cond t (Whole (instrHere image p)) (Cut (cutAt image p))

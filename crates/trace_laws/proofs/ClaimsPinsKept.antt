@@ -6,7 +6,6 @@ use mathlib.Core.List.{List, List·Memᴰ as Among}
 use mathlib.Core.Logic.{inl, inr}
 use mathlib.Core.Path.{_≡_, sym, ap, subst, _∙_}
 use lib.ListN.{length, getD}
-use Rattle.instruction.specs.Answer.{Answer, accepted, after}
 use Rattle.instruction.specs.declared.mode.Mode.{Mode}
 use Rattle.reach.specs.Mark.{IsTraced}
 use Rattle.reach.specs.Note.{Open, note}
@@ -21,12 +20,12 @@ use Rattle.reach.proofs.SweepTakes.{sweeps-take}
 use Rattle.reach.proofs.Table.{table-base, length-table, table-pinned, table-only}
 use Rattle.reach.proofs.Took.{Moved, itself, kept, called, moved, mark-traced, length-took}
 use Rattle.marks.specs.Tracer.{tracerOf}
-use Rattle.trace.specs.Run.{runJudged, runMarks, outcomeOf}
+use Rattle.trace.specs.Run.{outcomeOf}
 use Rattle.trace_laws.specs.ClaimsPins.{FoursAt, StartFours, RunFours, SweepFours, StepFours, PinnedUnreached}
 use Rattle.trace_laws.proofs.Accepted.{went}
 use Rattle.trace_laws.proofs.ClaimsImagesOrder.{began}
 use Rattle.trace_laws.proofs.ClaimsSweepsImages.{leaves-sweeps, small-image, long-marks}
-use Rattle.trace_laws.proofs.Finished.{covered}
+use Rattle.trace_laws.proofs.Finished.{covered, marks-left}
 
 -- one taking up: 4 stays, and does not come
 module _ (G : Tracer) (m : List ℕ) (p q : ℕ) (l : G .size ≤ length m) (h : p < G .size) (w : getD m p 0 ≡ 1) where
@@ -87,11 +86,10 @@ start-fours image marks entries pins k e =
     subst (FoursAt image pins) (sym (s .marks-are)) (begun-fours image marks entries pins (s .room))
 
 pub run-fours : RunFours
-unfolding outcomeOf runMarks
+unfolding outcomeOf
 run-fours mode image marks order entries pins limit j =
     let l = covered mode image marks order entries pins limit j in
-    let r = ap (λ (x : Answer (Unit {0})). after x (outcomeOf mode image marks entries pins limit .marks) marks) j in
-    subst (FoursAt image pins) (sym r)
+    subst (FoursAt image pins) (sym (marks-left mode image marks order entries pins limit j))
     (after-fours image marks entries pins l mode (run-takes limit (tracerOf mode image) entries (table (length image) pins marks) (table-base (tracerOf mode image) pins marks l) .takes))
 
 pub sweep-fours : SweepFours

@@ -4,9 +4,7 @@ use mathlib.Core.Path.{_≡_, refl, sym, ap, _∙_}
 use mathlib.Core.Bool.{Bool, true, false}
 use mathlib.Core.List.{List}
 use Prim.Native.Nat.{ℕ, _≤_}
-use native.Mathlib.Omega.{arith}
 use lib.Dec.{ltb}
-use lib.IntN.{ℤ}
 use lib.ListN.{length}
 use borrow.Author.Tests.{ltb-false}
 use Rattle.instruction.proofs.Accepting.{differ}
@@ -24,6 +22,11 @@ module _ (mode : Mode) (image marks order entries pins : List ℕ) (limit : ℕ)
   abbrev out : Outcome
   out = outcomeOf mode image marks entries pins limit
 
+  -- the marks are those of the definition's run wherever no size is refused
+  pub marks-left : judged ≡ accepted tt → runMarks mode image marks order entries pins limit ≡ out .marks
+  unfolding runMarks
+  marks-left j = ap (λ (q : Answer (Unit {0})). after q (out .marks) marks) j
+
   module _ (s : RunResult) (a : runAnswer mode image marks order entries pins limit ≡ accepted s) where
     passed : (r : Answer (Unit {0})) → judged ≡ r → (r ≡ accepted tt) × (ranAnswer image out ≡ accepted s)
     unfolding runAnswer
@@ -35,8 +38,16 @@ module _ (mode : Mode) (image marks order entries pins : List ℕ) (limit : ℕ)
     sized = passed judged refl .0
 
     pub marks-are : runMarks mode image marks order entries pins limit ≡ out .marks
-    unfolding runMarks
-    marks-are = ap (λ (q : Answer (Unit {0})). after q (out .marks) marks) sized
+    marks-are = marks-left sized
+
+    -- the steps and the positions noted are the run's
+    pub counts-are : (s .steps ≡ steps out) × (s .noted ≡ length (noted out))
+    counts-are = by (out .end) (passed judged refl .1)
+      where
+        by : (e : End) → endOf image e (steps out) (length (noted out)) ≡ accepted s → (s .steps ≡ steps out) × (s .noted ≡ length (noted out))
+        by finished r = (cc, cc)
+        by stopped r = (cc, cc)
+        by (cutOff p) r = absurd (differ r)
 
     pub ended : s .finished ≡ true → out .end ≡ finished
     ended f = by (out .end) refl (passed judged refl .1)

@@ -24,3 +24,6 @@ pub mod ClaimsJoinImages
 pub mod SampleSets
 pub mod SampleEnds
 pub mod ClaimsBetweenComputed
+pub mod CeilingsOf
+pub mod ClaimsCeilingsRun
+pub mod ClaimsCeilingsComputed

@@ -11,3 +11,4 @@ pub mod Reachable
 pub mod ClaimsBetween
 pub mod ClaimsBetweenJoin
 pub mod ClaimsBetweenSamples
+pub mod ClaimsCeilings

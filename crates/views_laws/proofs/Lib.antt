@@ -9,3 +9,7 @@ pub mod ClaimsSoundSteps
 pub mod ClaimsModesViews
 pub mod ClaimsJoinViews
 pub mod ClaimsBetweenMasks
+pub mod Crossing
+pub mod SetByOne
+pub mod ClaimsCeilingsViews
+pub mod ClaimsCeilingsShown

@@ -5,3 +5,4 @@ pub mod ClaimsSound
 pub mod ClaimsModesViews
 pub mod ClaimsJoinViews
 pub mod ClaimsBetweenViews
+pub mod ClaimsCeilingsViews
