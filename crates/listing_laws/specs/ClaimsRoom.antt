@@ -21,6 +21,7 @@ pub record ViewRooms (mode : Mode) (image m : List ℕ) : Type 0 where
   pub overlaps : (p : ℕ) → length (overlapsOf image m p) ≤ 3
   pub arrivals : (p : ℕ) → length (arrivalsOf mode image m p) ≤ length image
 
+-- so it is for every image
 abbrev pub ViewsBound : Type 0
 ViewsBound = (mode : Mode) (image m : List ℕ) → Bytes image → ViewRooms mode image m
 

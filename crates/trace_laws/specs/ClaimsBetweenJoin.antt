@@ -32,6 +32,7 @@ pub record UnionBetween (mode : Mode) (image e₁ e₂ pins m : List ℕ) : Type
   pub traced-only : (q : ℕ) → q < length image → IsTraced (getD m q 0)
       → (Reachable mode image e₁ pins q ⊎ Reachable mode image e₂ pins q) × (fitsHere image q ≡ true)
 
+-- so it is however the joined list was traced to its end
 abbrev pub JoinedBetween : Type 0
 JoinedBetween =
     (mode : Mode) (image e₁ e₂ pins m : List ℕ) → TracedToEnd mode image (e₁ ++ e₂) pins m → UnionBetween mode image e₁ e₂ pins m

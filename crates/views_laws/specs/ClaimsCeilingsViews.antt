@@ -43,11 +43,12 @@ LabelsFull =
     (mode : Mode) (image m : List ℕ) → length image ≤ 65536 → length image ≤ length m → howManySet (labelsOf mode image m) ≡ tracedMarks image m
     → (q : ℕ) → q < length image → IsTraced (getD m q 0) → namedFrom mode image m q < length image
 
--- Over the marks of a run, finished or stopped, with the steps that it answers
+-- so many steps are a ceiling on the views of the marks m: three times as many on the mask, and as many on the target marks
 pub record ViewCeilings (mode : Mode) (image m : List ℕ) (steps : ℕ) : Type 0 where
   pub mask : howManySet (maskOf image m) ≤ 3 * steps
   pub labels : howManySet (labelsOf mode image m) ≤ steps
 
+-- so it is with the marks of a run, finished or stopped, and the steps that it answers
 abbrev pub RunViewCeilings : Type 0
 RunViewCeilings =
     (mode : Mode) (image marks order entries pins : List ℕ) (limit : ℕ) (s : RunResult) → Bytes image
