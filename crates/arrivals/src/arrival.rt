@@ -33,7 +33,7 @@ fn has(ps: Places, p: u32) -> bool
 }
 
 // Whether control came from q to p.
-fn arrives(mode: Mode, image: &[u8], marks: &[u8], p: u32, q: u32) -> bool
+pub fn arrives(mode: Mode, image: &[u8], marks: &[u8], p: u32, q: u32) -> bool
     ensures { λ r. ⌜ r ≡ arrives mode (now (image .entry)) (now (marks .entry)) p q ⌝ }
 {
     if image.len() <= p as usize {

@@ -7,6 +7,7 @@ pub mod index_fill;
 pub mod index_lookup;
 
 pub use arrival::arrivals;
+pub use arrival::arrives;
 pub use index_fill::index_into;
 pub use index_lookup::first;
 pub use index_lookup::next;

@@ -1,6 +1,6 @@
 // The packed map, one bit for each image byte: a word and its bits, building the map, keeping it up, and asking it.
 pub mod ask;
-mod bits;
+pub mod bits;
 pub mod build;
 mod cover;
 mod find;

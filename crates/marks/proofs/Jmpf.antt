@@ -12,12 +12,12 @@ use Rattle.instruction.proofs.Every.{holds}
 use Rattle.instruction.proofs.Ands.{first-part}
 use Rattle.targets.specs.At.{flashHere}
 
-same : Bool → Bool → Bool
+unfoldable pub same : Bool → Bool → Bool
 same true b = b
 same false true = false
 same false false = true
 
-same-is : (a b : Bool) → T (same a b) → a ≡ b
+pub same-is : (a b : Bool) → T (same a b) → a ≡ b
 unfolding same
 same-is true true t = refl
 same-is true false t = absurd t

@@ -1,0 +1,46 @@
+use Rattle.replay.proofs.Logs.{totals-told, refusal-told, held-19, held-20, held-21, held-18}
+use borrow.Author.Needs.{needs}
+use Rattle.replay.proofs.log.Log.told.Statement.{statement}
+use Rattle.replay.proofs.log.Log.told.Tie as tie
+use Rattle.replay.proofs.log.Log.told.Reads as reads
+use Rattle.replay.proofs.log.Log.told.Lts as lts
+use Rattle.replay.proofs.log.one_more.Reads as one-more-reads
+
+-- src/answer.rt:80:13
+returns : tie.Need-returns
+returns c = totals-told (c .before .args .self) (c .if1 .taken)
+
+-- src/answer.rt:86:13
+one-more-requires : tie.Need-one-more-requires
+one-more-requires c κs = search needs
+
+-- src/answer.rt:88:13
+returns-2 : tie.Need-returns-2
+returns-2 c =
+    let o = c .before in
+    let e = o .before in
+    refusal-told (e .before .args .self) 19 _ (e .if1 .left) (o .one-more .ensures) (held-19 _ (c .if2 .taken))
+
+-- src/answer.rt:91:13
+returns-3 : tie.Need-returns-3
+returns-3 c =
+    let o = c .before .before in
+    let e = o .before in
+    refusal-told (e .before .args .self) 20 _ (e .if1 .left) (o .one-more .ensures) (held-20 _ (c .if3 .taken))
+
+-- src/answer.rt:94:13
+returns-4 : tie.Need-returns-4
+returns-4 c =
+    let o = c .before .before .before in
+    let e = o .before in
+    refusal-told (e .before .args .self) 21 _ (e .if1 .left) (o .one-more .ensures) (held-21 _ (c .if4 .taken))
+
+-- src/answer.rt:75:5
+returns-5 : tie.Need-returns-5
+returns-5 c =
+    let o = c .before .before .before in
+    let e = o .before in
+    refusal-told (e .before .args .self) 18 _ (e .if1 .left) (o .one-more .ensures) (held-18 _ (c .before .before .if2 .left) (c .before .if3 .left) (c .if4 .left))
+
+pub told-spec : {M : Type 1} → statement M
+told-spec = tie.close (tie.spec returns one-more-requires returns-2 returns-3 returns-4 returns-5)

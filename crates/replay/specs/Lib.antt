@@ -1,0 +1,9 @@
+pub mod Line
+pub mod Entry
+pub mod Moves
+pub mod Log
+pub mod Take
+pub mod Answers
+pub mod Block
+pub mod Replay
+pub mod Back

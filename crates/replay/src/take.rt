@@ -1,0 +1,84 @@
+// The lines of a log, one after another.
+ghost use mathlib.Core.Path.{_≡_};
+ghost use Prim.Native.Nat.{_≤_, _<_};
+ghost use lib.ListN.{length};
+ghost use Rattle.map.specs.Words.{codeAt};
+ghost use Rattle.replay.specs.Take.{moveNow, takenAt, feedOf, State, state};
+use crate::keep;
+use crate::line;
+use crate::log::Log;
+use crate::moves;
+use crate::moves::Move;
+use instruction::Mode;
+use targets::Image;
+
+// How control comes to p: the first line is no move.
+fn move_now(log: Log, mode: Mode, image: &[u8], marks: &[u8], table: &[u64], p: u32) -> Move
+    requires { ⌜ (length (now table) ≡ 1024) × (p < 65536) ⌝ }
+    ensures { λ r. ⌜ r ≡ moveNow mode (now (image .entry)) (now (marks .entry)) (codeAt (now (table .entry))) log p ⌝ }
+{
+    if log.lines == 0 {
+        return Move::Target;
+    }
+    moves::move_to(mode, image, marks, table, log.last, p)
+}
+
+// A line that tells p, or 65,536 where it is none, taken or refused.
+pub fn take_line(
+    log: Log,
+    mode: Mode,
+    image: &[u8],
+    marks: &[u8],
+    table: &[u64],
+    counts: &mut [u64],
+    p: u32,
+) -> Log
+    requires { ⌜ (length (now table) ≡ 1024) × (length (now image) ≤ 65536) × (length (now image) ≤ length (now counts)) × (p ≤ 65536) ⌝ }
+    ensures { λ r. ⌜ state r (now (counts .exit))
+        ≡ takenAt mode (now (image .entry)) (now (marks .entry)) (codeAt (now (table .entry))) (state log (now (counts .entry))) p ⌝ }
+{
+    if p == Image::NOWHERE {
+        return log.refuse(18);
+    }
+    let at = p as usize;
+    if !views::is_traced_at(image, marks, at) {
+        return log.refuse(19);
+    }
+    let by = move_now(log, mode, image, marks, table, p);
+    if by.is_forbidden() {
+        return log.refuse(20);
+    }
+    let count = counts[at];
+    if count == 0xFFFF_FFFF_FFFF_FFFF {
+        return log.refuse(21);
+    }
+    counts[at] = count + 1;
+    log.go_on(p, by)
+}
+
+// A text that begins where a line does: its lines, up to the first that is refused, and what is left of it.
+pub fn take_lines(
+    log: Log,
+    mode: Mode,
+    text: &[u8],
+    image: &[u8],
+    marks: &[u8],
+    table: &[u64],
+    counts: &mut [u64],
+) -> Log
+    requires { ⌜ (length (now table) ≡ 1024) × (length (now image) ≤ 65536) × (length (now image) ≤ length (now counts)) ⌝ }
+    ensures { λ r. ⌜ state r (now (counts .exit))
+        ≡ feedOf mode (now (image .entry)) (now (marks .entry)) (codeAt (now (table .entry))) (state log (now (counts .entry))) (now (text .entry)) ⌝ }
+{
+    let mut after = log;
+    let mut at: usize = 0;
+    while line::LENGTH <= text.len() - at {
+        let p = line::position_of(&text[at..at + line::LENGTH]);
+        after = take_line(after, mode, image, marks, table, counts, p);
+        if after.refusal != 0 {
+            return after;
+        }
+        at += line::LENGTH;
+    }
+    keep::keep(after, &text[at..])
+}
