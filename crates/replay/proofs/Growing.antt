@@ -66,7 +66,7 @@ module _ (mode : Mode) (image m : List ℕ) (isEntry : ℕ → Bool) (text c₀ 
   unfolding going
   more s p h f g G =
       let j : ℕ = s .log .lines in
-      let e : oneMore j ≡ suc j = sym (more-next j (λ z. omega arith)) ∙ (let y : j + 1 ≡ suc j = omega arith in y) in
+      let e : oneMore j ≡ suc j = sym (more-next j (omega arith)) ∙ (let y : j + 1 ≡ suc j = omega arith in y) in
       let c : List ℕ = set (s .counts) p (getD (s .counts) p 0 + 1) in
       let d : c ≡ set (s .counts) (told text j) (getD (s .counts) (told text j) 0 + 1) = ap (λ (q : ℕ). set (s .counts) q (getD (s .counts) q 0 + 1)) f in
       let k : told text j < length (s .counts) = subst (λ (q : ℕ). q < length (s .counts)) f h in (
@@ -106,7 +106,7 @@ module _ (mode : Mode) (image m : List ℕ) (isEntry : ℕ → Bool) (text c₀ 
   next-place s p rest e h =
       ap (drop 7) e ∙ drop-drop 7 (7 * s .log .lines) text
       ∙ ap (λ (n : ℕ). drop n text)
-      (let f : s .log .lines + 1 ≡ oneMore (s .log .lines) = more-next (s .log .lines) (λ z. omega arith) in
+      (let f : s .log .lines + 1 ≡ oneMore (s .log .lines) = more-next (s .log .lines) (omega arith) in
       let g : 7 * s .log .lines + 7 ≡ 7 * oneMore (s .log .lines) = omega arith in g)
 
   -- after one line, those that are left

@@ -1,27 +1,27 @@
 -- Totals that stop at the top, and the record after a line.
 -- Assumes nothing.
-use Prim.Native.Nat.{ℕ, _+_}
+use Prim.Native.Nat.{ℕ, _+_, _<_, _≤_, min}
 use mathlib.Core.Path.{_≡_, refl, sym, ap, _∙_}
 use mathlib.Core.Bool.{Bool, true, false, cond, not, _&&_}
 use mathlib.Core.List.{[], _∷_}
 use lib.Dec.{eqb}
 use lib.IntN.{pos}
-use borrow.Author.Tests.{eq-eqb, ne-eqb}
+use borrow.Author.Tests.{eq-eqb, ne-eqb, le-leb, lt-leb}
 use Rattle.instruction.specs.Answer.{Answer, accepted, refused}
-use Rattle.replay.specs.Log.{top, oneMore, moreIf, going}
+use Rattle.replay.specs.Log.{highest, oneMore, moreIf, going}
 use Rattle.replay.specs.Moves.{isInterrupt, isFree}
 use Rattle.replay.specs.Answers.{toldOf, closedOf, numberHeld}
 use Rattle.replay.specs.declared.log.Log.{Log}
 use Rattle.replay.specs.declared.moves.Move.{Move}
 use Rattle.replay.specs.declared.answer.Totals.{Totals}
 
-pub more-top : (n : ℕ) → n ≡ top → n ≡ oneMore n
+pub more-top : (n : ℕ) → highest ≤ n → highest ≡ oneMore n
 unfolding oneMore
-more-top n e = e ∙ sym (ap (λ b. cond b top (n + 1)) (eq-eqb n top e))
+more-top n h = rw (le-leb highest n h) refl
 
-pub more-next : (n : ℕ) → (n ≡ top → ⊥) → n + 1 ≡ oneMore n
+pub more-next : (n : ℕ) → n < highest → n + 1 ≡ oneMore n
 unfolding oneMore
-more-next n e = sym (ap (λ b. cond b top (n + 1)) (ne-eqb n top e))
+more-next n h = rw (lt-leb highest n h) refl
 
 pub going-is : (l : Log) (p : ℕ) (by : Move) (a x y : ℕ) (i f : Bool) → a ≡ oneMore (l .lines) → i ≡ isInterrupt by → x ≡ moreIf (l .interrupts) i
     → f ≡ isFree by → y ≡ moreIf (l .free) f
@@ -31,9 +31,10 @@ going-is l p by a x y i f ea ei ex ef ey = rw (ea, ex, ey, ei, ef) refl
 
 -- ---- what is told
 
-pub totals-told : (l : Log) → l .refusal ≡ 0 → _≡_ {A = Answer Totals} (accepted (record { lines = l .lines; interrupts = l .interrupts; free = l .free })) (toldOf l)
+pub totals-told : (l : Log) (a b c : ℕ) → l .refusal ≡ 0 → a ≡ min (l .lines) highest → b ≡ min (l .interrupts) highest → c ≡ min (l .free) highest
+    → _≡_ {A = Answer Totals} (accepted (record { lines = a; interrupts = b; free = c })) (toldOf l)
 unfolding toldOf
-totals-told l e = rw (eq-eqb (l .refusal) 0 e) refl
+totals-told l a b c e f g h = rw (eq-eqb (l .refusal) 0 e, f, g, h) refl
 
 -- a refusal that is held, by its number
 pub refusal-told : (l : Log) (n line : ℕ) → (l .refusal ≡ 0 → ⊥) → line ≡ oneMore (l .lines) → numberHeld (l .refusal) ≡ n

@@ -1,13 +1,16 @@
 -- From one line to the next, test after test. Ret's first byte is A0, Reti's B0, and no other byte is one: one test at each byte, which antt
 -- computes.
 -- Assumes nothing.
-use Prim.Native.Nat.{ℕ, _<_}
+use Prim.Native.Nat.{ℕ, _<_, _≤_, min}
+use native.Mathlib.Omega.{arith}
 use mathlib.Core.Path.{_≡_, refl, sym, ap, _∙_}
 use mathlib.Core.Bool.{Bool, true, false, cond, _&&_, _||_}
-use mathlib.Core.List.{List}
+use mathlib.Core.List.{List, []}
+use mathlib.Core.Logic.{_⊎_, inl, inr}
 use lib.Dec.{eqb}
 use lib.ListN.{length, getD}
-use borrow.Author.Tests.{eq-eqb, ne-eqb}
+use borrow.Author.Tests.{eq-eqb, ne-eqb, le-ltb}
+use Rattle.reach.proofs.Cases.{lt-or-le}
 use Rattle.instruction.specs.Forms.{forms, formOf, formNamed}
 use Rattle.instruction.specs.Pattern.{pattern, patternBytes, onto, bitsGiven, nextBracket}
 use Rattle.instruction.proofs.Every.{holds}
@@ -16,7 +19,7 @@ use Rattle.targets.specs.At.{formHere}
 use Rattle.reach.specs.Mark.{flash}
 use Rattle.marks.proofs.Jmpf.{same, same-is, jmpf-by-byte}
 use Rattle.views.specs.Positions.{tracedAt}
-use Rattle.arrivals.specs.Arrivals.{arrives}
+use Rattle.arrivals.specs.Arrivals.{heldAt, arrives}
 use Rattle.replay.specs.Moves.{freeAfter, moveBy}
 use Rattle.replay.specs.Take.{moveNow}
 use Rattle.replay.specs.declared.log.Log.{Log}
@@ -68,11 +71,30 @@ pub moved-by : (mode : Mode) (image m : List ℕ) (isEntry : ℕ → Bool) (q p 
 unfolding moveBy
 moved-by mode image m isEntry q p a b c e f g = rw (e, f, g) refl
 
+-- positions outside memory are one: from none of them does control go anywhere
+none-held : (mode : Mode) (image m : List ℕ) (q : ℕ) → length image ≤ q → heldAt mode image m q ≡ []
+unfolding heldAt
+none-held mode image m q h = rw (le-ltb q (length image) h) refl
+
+far : (mode : Mode) (image m : List ℕ) (isEntry : ℕ → Bool) (q r p : ℕ) → length image ≤ q → length image ≤ r
+    → moveBy mode image m isEntry q p ≡ moveBy mode image m isEntry r p
+unfolding moveBy arrives freeAfter
+far mode image m isEntry q r p h k =
+    rw (none-held mode image m q h, none-held mode image m r k, le-ltb q (length image) h, le-ltb r (length image) k) refl
+
+same-last : (mode : Mode) (image m : List ℕ) (isEntry : ℕ → Bool) (last q p : ℕ) → length image ≤ 65536 → q ≡ min last 65536
+    → moveBy mode image m isEntry q p ≡ moveBy mode image m isEntry last p
+same-last mode image m isEntry last q p h e = by (lt-or-le last 65536)
+  where
+    by : (last < 65536) ⊎ (65536 ≤ last) → moveBy mode image m isEntry q p ≡ moveBy mode image m isEntry last p
+    by (inl l) = ap (λ (x : ℕ). moveBy mode image m isEntry x p) (let g : q ≡ last = omega arith in g)
+    by (inr l) = far mode image m isEntry q last p (omega arith) (omega arith)
+
 module _ (mode : Mode) (image m : List ℕ) (isEntry : ℕ → Bool) (l : Log) (p : ℕ) where
   pub first-move : l .lines ≡ 0 → Target ≡ moveNow mode image m isEntry l p
   unfolding moveNow
   first-move e = rw (eq-eqb (l .lines) 0 e) refl
 
-  pub later-move : (l .lines ≡ 0 → ⊥) → moveBy mode image m isEntry (l .last) p ≡ moveNow mode image m isEntry l p
+  pub later-move : (l .lines ≡ 0 → ⊥) → length image ≤ 65536 → (q : ℕ) → q ≡ min (l .last) 65536 → moveBy mode image m isEntry q p ≡ moveNow mode image m isEntry l p
   unfolding moveNow
-  later-move e = rw (ne-eqb (l .lines) 0 e) refl
+  later-move e h q f = same-last mode image m isEntry (l .last) q p h f ∙ rw (ne-eqb (l .lines) 0 e) refl

@@ -1,7 +1,7 @@
 -- What a replay answers. Document 02, W10 and W11: the lines, interrupts and free moves; 1, 2, 6 and 11 before the first line, then 18 to 21
 -- with the line's number, from 1.
 -- Assumes nothing.
-use Prim.Native.Nat.{ℕ}
+use Prim.Native.Nat.{ℕ, min}
 use mathlib.Core.Bool.{Bool, true, false, cond, not, _&&_}
 use mathlib.Core.List.{List, [], _∷_, _++_}
 use lib.Dec.{eqb, ltb}
@@ -9,7 +9,7 @@ use lib.IntN.{pos}
 use lib.ListN.{length}
 use Rattle.instruction.specs.Answer.{Answer, accepted, refused, Refusal, refuse, judge}
 use Rattle.views.specs.View.{viewRefusals}
-use Rattle.replay.specs.Log.{oneMore}
+use Rattle.replay.specs.Log.{highest, oneMore}
 use Rattle.replay.specs.declared.log.Log.{Log}
 use Rattle.replay.specs.declared.answer.Totals.{Totals}
 use Rattle.replay.specs.declared.answer.Replayed.{Replayed}
@@ -58,10 +58,14 @@ orElse (refused n vs) a = refused n vs
 abbrev pub numberHeld : ℕ → ℕ
 numberHeld n = cond (eqb n 19) 19 (cond (eqb n 20) 20 (cond (eqb n 21) 21 18))
 
+-- the totals; a record that no call made may hold more than the highest
+abbrev pub totalsOf : Log → Totals
+totalsOf l = record { lines = min (l .lines) highest; interrupts = min (l .interrupts) highest; free = min (l .free) highest }
+
 -- the refusal that is held, of the line after those taken, or else the totals
 unfoldable pub toldOf : Log → Answer Totals
 toldOf l =
-    cond (eqb (l .refusal) 0) (accepted (record { lines = l .lines; interrupts = l .interrupts; free = l .free }))
+    cond (eqb (l .refusal) 0) (accepted (totalsOf l))
     (refused (numberHeld (l .refusal)) (pos (oneMore (l .lines)) ∷ []))
 
 -- at the end of the log, where a partial line is malformed

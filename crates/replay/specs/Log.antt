@@ -3,20 +3,24 @@
 use Prim.Native.Nat.{ℕ, zero, suc, _+_, _*_, _/_, _%_, min}
 use mathlib.Core.Bool.{Bool, cond}
 use mathlib.Core.List.{List, [], _∷_}
-use lib.Dec.{eqb}
+use lib.Dec.{eqb, leb}
 use lib.ListN.{length}
 use Rattle.views.specs.Positions.{some}
 use Rattle.replay.specs.Moves.{isInterrupt, isFree}
 use Rattle.replay.specs.declared.moves.Move.{Move}
 use Rattle.replay.specs.declared.log.Log.{Log}
 
--- the highest number of 64 bits
+-- the highest count
 abbrev pub top : ℕ
 top = 18446744073709551615
 
+-- the highest total: what a value of an answer holds
+abbrev pub highest : ℕ
+highest = 9223372036854775807
+
 -- a total at the top stays there
 unfoldable pub oneMore : ℕ → ℕ
-oneMore n = cond (eqb n top) top (n + 1)
+oneMore n = cond (leb highest n) highest (n + 1)
 
 abbrev pub moreIf : ℕ → Bool → ℕ
 moreIf n b = cond b (oneMore n) n

@@ -78,9 +78,9 @@ impl Log {
         let number = self.refusal;
         if number == 0 {
             return Replayed::Told(Totals {
-                lines: self.lines,
-                interrupts: self.interrupts,
-                free: self.free,
+                lines: log::at_most(self.lines),
+                interrupts: log::at_most(self.interrupts),
+                free: log::at_most(self.free),
             });
         }
         let line = log::one_more(self.lines);

@@ -53,7 +53,7 @@ pub fn keep(log: Log, rest: &[u8]) -> Log
         free: log.free,
         last: log.last,
         refusal: 0,
-        held: rest.len() as u32,
+        held: rest.len() as u64,
         part: number_of(rest),
     }
 }

@@ -1,6 +1,6 @@
 // The lines of a log, one after another.
 ghost use mathlib.Core.Path.{_≡_};
-ghost use Prim.Native.Nat.{_≤_, _<_};
+ghost use Prim.Native.Nat.{_≤_, _<_, min};
 ghost use lib.ListN.{length};
 ghost use Rattle.map.specs.Words.{codeAt};
 ghost use Rattle.replay.specs.Take.{moveNow, takenAt, feedOf, State, state};
@@ -12,15 +12,25 @@ use crate::moves::Move;
 use instruction::Mode;
 use targets::Image;
 
+// A position as a record holds it: all that lie outside memory are one.
+fn position(last: u64) -> u32
+    ensures { λ r. ⌜ r ≡ min last 65536 ⌝ }
+{
+    if Image::NOWHERE as u64 <= last {
+        return Image::NOWHERE;
+    }
+    last as u32
+}
+
 // How control comes to p: the first line is no move.
 fn move_now(log: Log, mode: Mode, image: &[u8], marks: &[u8], table: &[u64], p: u32) -> Move
-    requires { ⌜ (length (now table) ≡ 1024) × (p < 65536) ⌝ }
+    requires { ⌜ (length (now table) ≡ 1024) × (length (now image) ≤ 65536) × (p < 65536) ⌝ }
     ensures { λ r. ⌜ r ≡ moveNow mode (now (image .entry)) (now (marks .entry)) (codeAt (now (table .entry))) log p ⌝ }
 {
     if log.lines == 0 {
         return Move::Target;
     }
-    moves::move_to(mode, image, marks, table, log.last, p)
+    moves::move_to(mode, image, marks, table, position(log.last), p)
 }
 
 // A line that tells p, or 65,536 where it is none, taken or refused.

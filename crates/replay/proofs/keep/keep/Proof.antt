@@ -24,10 +24,6 @@ returns c =
     let h = t .before in
     c .refuse .ensures ∙ keep-refused (h .before .before .args .log) (h .before .before .args .rest .now) (sym (h .has-end .ensures) ∙ t .if1 .taken)
 
--- src/keep.rt:54:15
-cast-t5 : tie.Need-cast-t5
-cast-t5 c = search needs
-
 -- src/keep.rt:55:15
 number-of-requires : tie.Need-number-of-requires
 number-of-requires c κs = search needs
@@ -42,4 +38,4 @@ returns-2 c =
 pub keep-spec : {M : Type 1} → statement M
 keep-spec =
     tie.close
-    (tie.spec has-end-requires refuse-requires returns cast-t5 number-of-requires returns-2)
+    (tie.spec has-end-requires refuse-requires returns number-of-requires returns-2)

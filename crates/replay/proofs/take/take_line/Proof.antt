@@ -69,7 +69,7 @@ move-now-requires : tie.Need-move-now-requires
 move-now-requires c κs =
     let e = c .before .before in
     let s = start (e .before) in
-    let h = e .if1 .left in (s .pre .0, (let g = s .pre .3 in omega arith))
+    let h = e .if1 .left in (s .pre .0, s .pre .1, (let g = s .pre .3 in omega arith))
 
 -- src/take.rt:48:8
 is-forbidden-requires : tie.Need-is-forbidden-requires

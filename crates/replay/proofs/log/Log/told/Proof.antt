@@ -4,11 +4,28 @@ use Rattle.replay.proofs.log.Log.told.Statement.{statement}
 use Rattle.replay.proofs.log.Log.told.Tie as tie
 use Rattle.replay.proofs.log.Log.told.Reads as reads
 use Rattle.replay.proofs.log.Log.told.Lts as lts
+use Rattle.replay.proofs.log.at_most.Reads as at-most-reads
 use Rattle.replay.proofs.log.one_more.Reads as one-more-reads
+
+-- src/answer.rt:81:24
+at-most-requires : tie.Need-at-most-requires
+at-most-requires c κs = search needs
+
+-- src/answer.rt:82:29
+at-most-requires-2 : tie.Need-at-most-requires-2
+at-most-requires-2 c κs = search needs
+
+-- src/answer.rt:83:23
+at-most-requires-3 : tie.Need-at-most-requires-3
+at-most-requires-3 c κs = search needs
 
 -- src/answer.rt:80:13
 returns : tie.Need-returns
-returns c = totals-told (c .before .args .self) (c .if1 .taken)
+returns c =
+    let b = c .before in
+    let a = b .before in
+    let t = a .before in
+    totals-told (t .before .args .self) _ _ _ (t .if1 .taken) (a .at-most .ensures) (b .at-most2 .ensures) (c .at-most3 .ensures)
 
 -- src/answer.rt:86:13
 one-more-requires : tie.Need-one-more-requires
@@ -43,4 +60,15 @@ returns-5 c =
     refusal-told (e .before .args .self) 18 _ (e .if1 .left) (o .one-more .ensures) (held-18 _ (c .before .before .if2 .left) (c .before .if3 .left) (c .if4 .left))
 
 pub told-spec : {M : Type 1} → statement M
-told-spec = tie.close (tie.spec returns one-more-requires returns-2 returns-3 returns-4 returns-5)
+told-spec =
+    tie.close
+    (tie.spec
+    at-most-requires
+    at-most-requires-2
+    at-most-requires-3
+    returns
+    one-more-requires
+    returns-2
+    returns-3
+    returns-4
+    returns-5)
