@@ -5,12 +5,12 @@ use native.Mathlib.Omega.{arith}
 use mathlib.Core.Path.{_≡_, refl, sym, ap, subst, _∙_}
 use mathlib.Core.List.{List}
 use lib.ListN.{length, getD, set, take, drop}
-use Rattle.replay.specs.Line.{positionOf}
-use Rattle.replay.specs.Back.{told, less, takenBack, Counted}
+use Rattle.replay.specs.Line.{positionOf, positionAt}
+use Rattle.replay.specs.Back.{less, takenBack, Counted}
 
 module _ (text : List ℕ) (k : ℕ) (h : 0 < k) where
   abbrev p : ℕ
-  p = told text (k - 1)
+  p = positionAt text (k - 1)
 
   one-less : k ≡ suc (k - 1)
   one-less = omega arith

@@ -11,10 +11,10 @@ use lib.Seq.{getD-set-same, drop-drop}
 use borrow.Author.Tests.{ne-eqb}
 use Rattle.instruction.specs.declared.mode.Mode.{Mode}
 use Rattle.views.proofs.TracedAt.{traced-inside}
-use Rattle.replay.specs.Line.{positionOf}
+use Rattle.replay.specs.Line.{positionOf, positionAt}
 use Rattle.views.specs.Positions.{some}
 use Rattle.replay.specs.Log.{top, begun, oneMore, numberOf, refusing, going, keeping, partial, bytesIn}
-use Rattle.replay.specs.Back.{told, less, takenBack, Counted}
+use Rattle.replay.specs.Back.{less, takenBack, Counted}
 use Rattle.replay.specs.Take.{State, state, moveNow, takenAt, linesOf, feedOf, blockOf}
 use Rattle.replay.proofs.How.{How, stopped, went, how}
 use Rattle.replay.proofs.Logs.{more-next}
@@ -37,20 +37,20 @@ pub record Grown (text c₀ : List ℕ) (s : State) : Type 0 where
   pub before : takenBack text (s .log .lines) (s .counts) ≡ c₀
 
 -- a line more at its position
-module _ (text c : List ℕ) (j : ℕ) (h : told text j < length c) where
+module _ (text c : List ℕ) (j : ℕ) (h : positionAt text j < length c) where
   abbrev grown : List ℕ
-  grown = set c (told text j) (getD c (told text j) 0 + 1)
+  grown = set c (positionAt text j) (getD c (positionAt text j) 0 + 1)
 
   counted-more : Counted text j c → Counted text (suc j) grown
   counted-more w = (
-    subst (λ (n : ℕ). told text j < n) (sym (length-set c (told text j) _)) h,
-    rw (getD-set-same c (told text j) (getD c (told text j) 0 + 1) 0 h) (omega arith),
-    subst (Counted text j) (sym (less-more c (told text j) h)) w,
+    subst (λ (n : ℕ). positionAt text j < n) (sym (length-set c (positionAt text j) _)) h,
+    rw (getD-set-same c (positionAt text j) (getD c (positionAt text j) 0 + 1) 0 h) (omega arith),
+    subst (Counted text j) (sym (less-more c (positionAt text j) h)) w,
   )
 
   back-more : takenBack text (suc j) grown ≡ takenBack text j c
   unfolding takenBack
-  back-more = ap (takenBack text j) (less-more c (told text j) h)
+  back-more = ap (takenBack text j) (less-more c (positionAt text j) h)
 
 module _ (mode : Mode) (image m : List ℕ) (isEntry : ℕ → Bool) (text c₀ : List ℕ) (fits : length text < 18446744073709551616) where
   abbrev Step : State → State → Type 0
@@ -61,15 +61,15 @@ module _ (mode : Mode) (image m : List ℕ) (isEntry : ℕ → Bool) (text c₀ 
   unfolding refusing
   stay s n G = (record { within = G .within; back = G .back; before = G .before }, refl)
 
-  more : (s : State) (p : ℕ) → p < length (s .counts) → p ≡ told text (s .log .lines) → 7 * s .log .lines + 7 ≤ length text → Grown text c₀ s
+  more : (s : State) (p : ℕ) → p < length (s .counts) → p ≡ positionAt text (s .log .lines) → 7 * s .log .lines + 7 ≤ length text → Grown text c₀ s
       → Step s (state (going (s .log) p (moveNow mode image m isEntry (s .log) p)) (set (s .counts) p (getD (s .counts) p 0 + 1)))
   unfolding going
   more s p h f g G =
       let j : ℕ = s .log .lines in
       let e : oneMore j ≡ suc j = sym (more-next j (omega arith)) ∙ (let y : j + 1 ≡ suc j = omega arith in y) in
       let c : List ℕ = set (s .counts) p (getD (s .counts) p 0 + 1) in
-      let d : c ≡ set (s .counts) (told text j) (getD (s .counts) (told text j) 0 + 1) = ap (λ (q : ℕ). set (s .counts) q (getD (s .counts) q 0 + 1)) f in
-      let k : told text j < length (s .counts) = subst (λ (q : ℕ). q < length (s .counts)) f h in (
+      let d : c ≡ set (s .counts) (positionAt text j) (getD (s .counts) (positionAt text j) 0 + 1) = ap (λ (q : ℕ). set (s .counts) q (getD (s .counts) q 0 + 1)) f in
+      let k : positionAt text j < length (s .counts) = subst (λ (q : ℕ). q < length (s .counts)) f h in (
         record {
           within = rw e (omega arith);
           back = rw (e, d) (counted-more text (s .counts) j k (G .back));
@@ -78,7 +78,7 @@ module _ (mode : Mode) (image m : List ℕ) (isEntry : ℕ → Bool) (text c₀ 
         length-set (s .counts) p _,
       )
 
-  taken-grown : (s t : State) (p : ℕ) → How mode image m isEntry s p t → length image ≤ length (s .counts) → p ≡ told text (s .log .lines)
+  taken-grown : (s t : State) (p : ℕ) → How mode image m isEntry s p t → length image ≤ length (s .counts) → p ≡ positionAt text (s .log .lines)
       → 7 * s .log .lines + 7 ≤ length text → Grown text c₀ s → Step s t
   taken-grown s t p (stopped n d e) h f g G = subst (Step s) (sym e) (stay s n G)
   taken-grown s t p (went a b d e) h f g G = subst (Step s) (sym e) (more s p (let i = traced-inside image m p a in omega arith) f g G)
@@ -115,7 +115,7 @@ module _ (mode : Mode) (image m : List ℕ) (isEntry : ℕ → Bool) (text c₀ 
       → Grown text c₀ s → Grown text c₀ (linesOf mode image m isEntry k s rest)
 
   next-grown : (k : ℕ) → Leads k → (s t : State) (p : ℕ) (rest : List ℕ) → How mode image m isEntry s p t → rest ≡ drop (7 * s .log .lines) text → 7 * suc k ≤ length rest
-      → length image ≤ length (s .counts) → p ≡ told text (s .log .lines) → Grown text c₀ s
+      → length image ≤ length (s .counts) → p ≡ positionAt text (s .log .lines) → Grown text c₀ s
       → Grown text c₀ (cond (eqb (t .log .refusal) 0) (linesOf mode image m isEntry k t (drop 7 rest)) t)
   unfolding refusing going
   next-grown k ih s t p rest (stopped n d e) f g h i G = rw (e, ne-eqb n 0 d) (stay s n G .0)

@@ -1,5 +1,6 @@
+use Rattle.replay.specs.Line.{positionAt}
 use Rattle.replay.proofs.Backing.{back-here, back-next, back-told, back-end}
-use Rattle.replay.specs.Back.{told, less, takenBack, Counted}
+use Rattle.replay.specs.Back.{less, takenBack, Counted}
 use lib.ListN.{getD, length-set}
 use mathlib.Core.List.{List}
 use mathlib.Core.Path.{refl, sym, ap, subst, _∙_}
@@ -26,11 +27,11 @@ start l = l .before .before .before
 abbrev text : tie.In-loop Inv-loop μ-loop → List ℕ
 text i = start (i .before) .args .text .now
 
-place : (c : tie.After-position-of Inv-loop μ-loop) → c .position-of .result ≡ told (text (c .before .before)) (c .before .before .before .loop .k - 1)
+place : (c : tie.After-position-of Inv-loop μ-loop) → c .position-of .result ≡ positionAt (text (c .before .before)) (c .before .before .before .loop .k - 1)
 place c =
     let i = c .before .before in
     let l = i .before in
-    back-told (text i) (l .loop .k) (i .loop-test .taken) _ ((l .loop .k - 1) * 7 + 7 - (l .loop .k - 1) * 7) (omega arith) (c .position-of .ensures)
+    back-positionAt (text i) (l .loop .k) (i .loop-test .taken) _ ((l .loop .k - 1) * 7 + 7 - (l .loop .k - 1) * 7) (omega arith) (c .position-of .ensures)
 
 here : (c : tie.After-position-of Inv-loop μ-loop)
     → (c .position-of .result < length (c .before .before .before .loop .counts)) × (0 < getD (c .before .before .before .loop .counts) (c .position-of .result) 0)
