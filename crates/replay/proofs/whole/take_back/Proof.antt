@@ -31,7 +31,7 @@ place : (c : tie.After-position-of Inv-loop μ-loop) → c .position-of .result 
 place c =
     let i = c .before .before in
     let l = i .before in
-    back-positionAt (text i) (l .loop .k) (i .loop-test .taken) _ ((l .loop .k - 1) * 7 + 7 - (l .loop .k - 1) * 7) (omega arith) (c .position-of .ensures)
+    back-told (text i) (l .loop .k) (i .loop-test .taken) _ ((l .loop .k - 1) * 7 + 7 - (l .loop .k - 1) * 7) (omega arith) (c .position-of .ensures)
 
 here : (c : tie.After-position-of Inv-loop μ-loop)
     → (c .position-of .result < length (c .before .before .before .loop .counts)) × (0 < getD (c .before .before .before .loop .counts) (c .position-of .result) 0)

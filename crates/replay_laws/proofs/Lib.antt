@@ -1,0 +1,10 @@
+pub mod Along
+pub mod ClaimsReplayApart
+pub mod Closing
+pub mod Totals
+pub mod ClaimsReplaySums
+pub mod ClaimsReplayWalk
+pub mod Ten
+pub mod Held
+pub mod Cutting
+pub mod ClaimsBlocksCut

@@ -1,0 +1,2 @@
+pub mod ClaimsReplay
+pub mod ClaimsBlocks
