@@ -5,7 +5,7 @@ use native.Mathlib.Omega.{arith}
 use mathlib.Core.Path.{_≡_, refl, sym, ap, ap₂, subst, _∙_}
 use mathlib.Core.Bool.{Bool}
 use mathlib.Core.List.{List, [], _∷_, _++_}
-use lib.ListN.{length, getD, drop}
+use lib.ListN.{length, getD, take, drop, take-append-drop}
 use lib.Seq.{getD-drop}
 use Rattle.instruction.specs.Bytes.{Bytes}
 use Rattle.instruction.specs.declared.mode.Mode.{Mode}
@@ -77,3 +77,6 @@ bytes-last (b ∷ x) y B = bytes-last x y (λ j. B (suc j))
 
 pub bytes-drop : (n : ℕ) (x : List ℕ) → Bytes x → Bytes (drop n x)
 bytes-drop n x B i = subst (λ (v : ℕ). v < 256) (sym (getD-drop n x i 0)) (B (n + i))
+
+pub bytes-take : (n : ℕ) (x : List ℕ) → Bytes x → Bytes (take n x)
+bytes-take n x B = bytes-first (take n x) (drop n x) (subst Bytes (sym (take-append-drop n x)) B)

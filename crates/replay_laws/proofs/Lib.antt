@@ -8,3 +8,4 @@ pub mod Ten
 pub mod Held
 pub mod Cutting
 pub mod ClaimsBlocksCut
+pub mod ClaimsBlocksBefore
