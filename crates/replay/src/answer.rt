@@ -2,8 +2,8 @@
 ghost use mathlib.Core.Path.{_≡_};
 ghost use Rattle.instruction.specs.Answer.{judge};
 ghost use Rattle.replay.specs.Answers.{isTold, replayedOf, noTotals, lentRefusals, toldOf, closedOf};
-use crate::log;
 use crate::log::Log;
+use crate::next;
 use views::Viewed;
 
 pub struct Totals {
@@ -78,12 +78,12 @@ impl Log {
         let number = self.refusal;
         if number == 0 {
             return Replayed::Told(Totals {
-                lines: log::at_most(self.lines),
-                interrupts: log::at_most(self.interrupts),
-                free: log::at_most(self.free),
+                lines: next::at_most(self.lines),
+                interrupts: next::at_most(self.interrupts),
+                free: next::at_most(self.free),
             });
         }
-        let line = log::one_more(self.lines);
+        let line = next::one_more(self.lines);
         if number == 19 {
             return Replayed::Untraced(line);
         }
@@ -106,6 +106,6 @@ impl Log {
         if self.refusal != 0 {
             return self.told();
         }
-        Replayed::Malformed(log::one_more(self.lines))
+        Replayed::Malformed(next::one_more(self.lines))
     }
 }

@@ -9,6 +9,7 @@ ghost use Rattle.views.specs.Positions.{some};
 ghost use Rattle.replay.specs.Log.{bytesIn, numberOf, partial, keeping};
 use crate::line;
 use crate::log::Log;
+use crate::next;
 use text::cut;
 
 // Whether a byte 10 is among these.
@@ -45,7 +46,7 @@ pub fn keep(log: Log, rest: &[u8]) -> Log
     ensures { λ r. ⌜ r ≡ keeping log (now (rest .entry)) ⌝ }
 {
     if has_end(rest) {
-        return log.refuse(18);
+        return next::refuse(log, 18);
     }
     Log {
         lines: log.lines,

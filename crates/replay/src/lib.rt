@@ -2,10 +2,12 @@
 pub mod answer;
 pub mod block;
 mod entry;
+mod feed;
 mod keep;
 mod line;
 pub mod log;
 mod moves;
+mod next;
 mod take;
 pub mod whole;
 

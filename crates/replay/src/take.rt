@@ -9,6 +9,7 @@ use crate::line;
 use crate::log::Log;
 use crate::moves;
 use crate::moves::Move;
+use crate::next;
 use instruction::Mode;
 use targets::Image;
 
@@ -48,22 +49,22 @@ pub fn take_line(
         ≡ takenAt mode (now (image .entry)) (now (marks .entry)) (codeAt (now (table .entry))) (state log (now (counts .entry))) p ⌝ }
 {
     if p == Image::NOWHERE {
-        return log.refuse(18);
+        return next::refuse(log, 18);
     }
     let at = p as usize;
     if !views::is_traced_at(image, marks, at) {
-        return log.refuse(19);
+        return next::refuse(log, 19);
     }
     let by = move_now(log, mode, image, marks, table, p);
     if by.is_forbidden() {
-        return log.refuse(20);
+        return next::refuse(log, 20);
     }
     let count = counts[at];
     if count == 0xFFFF_FFFF_FFFF_FFFF {
-        return log.refuse(21);
+        return next::refuse(log, 21);
     }
     counts[at] = count + 1;
-    log.go_on(p, by)
+    next::go_on(log, p, by)
 }
 
 // A text that begins where a line does: its lines, up to the first that is refused, and what is left of it.

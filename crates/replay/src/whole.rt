@@ -7,7 +7,7 @@ ghost use Rattle.replay.specs.Back.{takenBack, Counted};
 ghost use Rattle.replay.specs.Replay.{replayAnswer, replayCounts};
 use crate::answer;
 use crate::answer::Replayed;
-use crate::block;
+use crate::feed;
 use crate::line;
 use crate::log::Log;
 use instruction::Mode;
@@ -44,7 +44,7 @@ pub fn replay(
     if !answer.is_told() {
         return answer;
     }
-    let log = block::feed(Log::new(), mode, text, image, marks, entries, counts);
+    let log = feed::feed(Log::new(), mode, text, image, marks, entries, counts);
     let answer = log.close();
     if !answer.is_told() {
         take_back(text, log.lines as usize, counts);

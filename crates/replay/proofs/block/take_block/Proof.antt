@@ -12,7 +12,7 @@ use Rattle.replay.proofs.block.take_block.Reads as reads
 use Rattle.replay.proofs.block.take_block.Lts as lts
 use Rattle.replay.proofs.answer.Replayed.is_told.Reads as is-told-reads
 use Rattle.replay.proofs.answer.check.Reads as check-reads
-use Rattle.replay.proofs.block.feed.Reads as feed-reads
+use Rattle.replay.proofs.feed.feed.Reads as feed-reads
 use Rattle.replay.proofs.log.Log.told.Reads as told-reads
 
 abbrev start : tie.After-struct-known → tie.Start

@@ -7,7 +7,7 @@ use Rattle.replay.proofs.keep.keep.Reads as reads
 use Rattle.replay.proofs.keep.keep.Lts as lts
 use Rattle.replay.proofs.keep.has_end.Reads as has-end-reads
 use Rattle.replay.proofs.keep.number_of.Reads as number-of-reads
-use Rattle.replay.proofs.log.Log.refuse.Reads as refuse-reads
+use Rattle.replay.proofs.next.refuse.Reads as refuse-reads
 
 -- src/keep.rt:45:8
 has-end-requires : tie.Need-has-end-requires

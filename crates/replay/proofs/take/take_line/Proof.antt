@@ -16,8 +16,8 @@ use Rattle.replay.proofs.take.take_line.Statement.{statement}
 use Rattle.replay.proofs.take.take_line.Tie as tie
 use Rattle.replay.proofs.take.take_line.Reads as reads
 use Rattle.replay.proofs.take.take_line.Lts as lts
-use Rattle.replay.proofs.log.Log.go_on.Reads as go-on-reads
-use Rattle.replay.proofs.log.Log.refuse.Reads as refuse-reads
+use Rattle.replay.proofs.next.go_on.Reads as go-on-reads
+use Rattle.replay.proofs.next.refuse.Reads as refuse-reads
 use Rattle.replay.proofs.moves.Move.is_forbidden.Reads as is-forbidden-reads
 use Rattle.replay.proofs.take.move_now.Reads as move-now-reads
 use Rattle.views.proofs.is_traced_at.Reads as is-traced-at-reads

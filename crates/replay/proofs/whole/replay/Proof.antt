@@ -14,7 +14,7 @@ use Rattle.replay.proofs.whole.replay.Reads as reads
 use Rattle.replay.proofs.whole.replay.Lts as lts
 use Rattle.replay.proofs.answer.Replayed.is_told.Reads as is-told-reads
 use Rattle.replay.proofs.answer.check.Reads as check-reads
-use Rattle.replay.proofs.block.feed.Reads as feed-reads
+use Rattle.replay.proofs.feed.feed.Reads as feed-reads
 use Rattle.replay.proofs.log.Log.close.Reads as close-reads
 use Rattle.replay.proofs.log.Log.new.Reads as new-reads
 use Rattle.replay.proofs.whole.take_back.Reads as take-back-reads

@@ -6,7 +6,7 @@ use Rattle.replay.proofs.log.Log.close.Tie as tie
 use Rattle.replay.proofs.log.Log.close.Reads as reads
 use Rattle.replay.proofs.log.Log.close.Lts as lts
 use Rattle.replay.proofs.log.Log.told.Reads as told-reads
-use Rattle.replay.proofs.log.one_more.Reads as one-more-reads
+use Rattle.replay.proofs.next.one_more.Reads as one-more-reads
 
 -- src/answer.rt:104:13
 told-requires : tie.Need-told-requires

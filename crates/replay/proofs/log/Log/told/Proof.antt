@@ -4,8 +4,8 @@ use Rattle.replay.proofs.log.Log.told.Statement.{statement}
 use Rattle.replay.proofs.log.Log.told.Tie as tie
 use Rattle.replay.proofs.log.Log.told.Reads as reads
 use Rattle.replay.proofs.log.Log.told.Lts as lts
-use Rattle.replay.proofs.log.at_most.Reads as at-most-reads
-use Rattle.replay.proofs.log.one_more.Reads as one-more-reads
+use Rattle.replay.proofs.next.at_most.Reads as at-most-reads
+use Rattle.replay.proofs.next.one_more.Reads as one-more-reads
 
 -- src/answer.rt:81:24
 at-most-requires : tie.Need-at-most-requires

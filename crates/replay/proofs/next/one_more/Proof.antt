@@ -1,19 +1,19 @@
 use Rattle.replay.proofs.Logs.{more-top, more-next}
 use borrow.Author.Needs.{needs}
-use Rattle.replay.proofs.log.one_more.Statement.{statement}
-use Rattle.replay.proofs.log.one_more.Tie as tie
-use Rattle.replay.proofs.log.one_more.Reads as reads
-use Rattle.replay.proofs.log.one_more.Lts as lts
+use Rattle.replay.proofs.next.one_more.Statement.{statement}
+use Rattle.replay.proofs.next.one_more.Tie as tie
+use Rattle.replay.proofs.next.one_more.Reads as reads
+use Rattle.replay.proofs.next.one_more.Lts as lts
 
--- src/log.rt:24:9
+-- src/next.rt:24:9
 returns : tie.Need-returns
 returns c = more-top (c .before .args .n) (c .if1 .taken)
 
--- src/log.rt:26:5
+-- src/next.rt:26:5
 add-result : tie.Need-add-result
 add-result c = search needs
 
--- src/log.rt:20:1
+-- src/next.rt:20:1
 returns-2 : tie.Need-returns-2
 returns-2 c = more-next (c .before .args .n) (c .if1 .left)
 

@@ -10,39 +10,39 @@ use lib.Dec.{eqb}
 use mathlib.Core.List.{List}
 use mathlib.Core.Path.{_≡_, sym, ap, _∙_}
 use borrow.Author.Needs.{needs}
-use Rattle.replay.proofs.block.feed.Statement.{statement}
-use Rattle.replay.proofs.block.feed.Tie as tie
-use Rattle.replay.proofs.block.feed.Reads as reads
-use Rattle.replay.proofs.block.feed.Lts as lts
-use Rattle.replay.proofs.block.take_joined.Reads as take-joined-reads
+use Rattle.replay.proofs.feed.feed.Statement.{statement}
+use Rattle.replay.proofs.feed.feed.Tie as tie
+use Rattle.replay.proofs.feed.feed.Reads as reads
+use Rattle.replay.proofs.feed.feed.Lts as lts
+use Rattle.replay.proofs.feed.take_joined.Reads as take-joined-reads
 use Rattle.replay.proofs.entry.enter.Reads as enter-reads
 use Rattle.replay.proofs.entry.table.Reads as table-reads
 
--- src/block.rt:74:21
+-- src/feed.rt:74:21
 table-requires : tie.Need-table-requires
 table-requires c κs = search needs
 
--- src/block.rt:75:18
+-- src/feed.rt:75:18
 slice-aggregate-enter : tie.Need-slice-aggregate-enter
 slice-aggregate-enter c = search needs
 
--- src/block.rt:75:5
+-- src/feed.rt:75:5
 enter-requires : tie.Need-enter-requires
 enter-requires c κs = search needs
 
--- src/block.rt:76:48
+-- src/feed.rt:76:48
 slice-aggregate-take-joined : tie.Need-slice-aggregate-take-joined
 slice-aggregate-take-joined c = search needs
 
--- src/block.rt:76:5
+-- src/feed.rt:76:5
 take-joined-requires : tie.Need-take-joined-requires
 take-joined-requires c κs = search needs
 
--- src/block.rt:61:1
+-- src/feed.rt:61:1
 same-length : tie.Need-same-length
 same-length c = search needs
 
--- src/block.rt:61:1
+-- src/feed.rt:61:1
 returns : tie.Need-returns
 returns c =
     let t = c .before .before in

@@ -1,19 +1,19 @@
 use borrow.Author.Needs.{needs}
-use Rattle.replay.proofs.log.more_if.Statement.{statement}
-use Rattle.replay.proofs.log.more_if.Tie as tie
-use Rattle.replay.proofs.log.more_if.Reads as reads
-use Rattle.replay.proofs.log.more_if.Lts as lts
-use Rattle.replay.proofs.log.one_more.Reads as one-more-reads
+use Rattle.replay.proofs.next.more_if.Statement.{statement}
+use Rattle.replay.proofs.next.more_if.Tie as tie
+use Rattle.replay.proofs.next.more_if.Reads as reads
+use Rattle.replay.proofs.next.more_if.Lts as lts
+use Rattle.replay.proofs.next.one_more.Reads as one-more-reads
 
--- src/log.rt:34:9
+-- src/next.rt:34:9
 one-more-requires : tie.Need-one-more-requires
 one-more-requires c κs = search needs
 
--- src/log.rt:34:9
+-- src/next.rt:34:9
 returns : tie.Need-returns
 returns c = rw (c .before .if1 .taken) (c .one-more .ensures)
 
--- src/log.rt:30:1
+-- src/next.rt:30:1
 returns-2 : tie.Need-returns-2
 returns-2 c = search needs
 
