@@ -1,17 +1,15 @@
-use Rattle.replay.proofs.Bytes.{copy-next, copy-end}
-use lib.Seq.{sets, getD-take, length-take-le}
-use lib.ListN.{getD, set, take, drop, length-set}
-use mathlib.Core.List.{List}
-use mathlib.Core.Path.{refl, sym, ap, subst, _∙_}
-use Prim.Native.Nat.{ℕ, _+_, _-_, _*_, _≤_, _<_}
-use mathlib.Core.Path.{_≡_}
+-- `keep::copy` meets its contract.
+-- Assumes nothing.
+use Prim.Native.Nat.{ℕ, _+_, _-_, _≤_}
 use native.Mathlib.Omega.{arith}
+use mathlib.Core.List.{List}
+use mathlib.Core.Path.{refl, sym, ap, _∙_, _≡_}
+use lib.Seq.{sets, getD-take, length-take-le}
+use lib.ListN.{set, take, drop, length-set, length}
 use borrow.Author.Needs.{needs}
-use lib.ListN.{length}
+use Rattle.replay.proofs.Bytes.{copy-next, copy-end}
 use Rattle.replay.proofs.keep.copy.Statement.{statement}
 use Rattle.replay.proofs.keep.copy.Tie as tie
-use Rattle.replay.proofs.keep.copy.Reads as reads
-use Rattle.replay.proofs.keep.copy.Lts as lts
 
 abbrev Inv-loop : tie.InvT-loop
 Inv-loop text count line₀ at i₀ line i = (i ≤ count) × (length line ≡ length line₀) × (sets line (at + i) (drop i (take count text)) ≡ sets line₀ at (take count text))
@@ -25,32 +23,10 @@ part l = take (l .before .args .count) (l .before .args .text .now)
 long : (l : tie.At-loop Inv-loop μ-loop) → length (part l) ≡ l .before .args .count
 long l = length-take-le (l .before .args .count) (l .before .args .text .now) (l .before .pre .0)
 
--- src/keep.rt:79:5
 loop-holds : tie.Need-loop-holds Inv-loop μ-loop
 loop-holds c =
     (omega arith, refl, ap (λ (j : ℕ). sets (c .args .line .now) j (take (c .args .count) (c .args .text .now))) (let e : c .args .at + 0 ≡ c .args .at = omega arith in e))
 
--- src/keep.rt:80:24
-shared-slice-read-line : tie.Need-shared-slice-read-line Inv-loop μ-loop
-shared-slice-read-line c = search needs
-
--- src/keep.rt:80:14
-add-line : tie.Need-add-line Inv-loop μ-loop
-add-line c = search needs
-
--- src/keep.rt:80:9
-slice-write-line : tie.Need-slice-write-line Inv-loop μ-loop
-slice-write-line c = search needs
-
--- src/keep.rt:81:9
-add-i : tie.Need-add-i Inv-loop μ-loop
-add-i c = search needs
-
--- src/keep.rt:79:5
-loop-less : tie.Need-loop-less Inv-loop μ-loop
-loop-less c = search needs
-
--- src/keep.rt:79:5
 loop-again : tie.Need-loop-again Inv-loop μ-loop
 loop-again c =
     let i = c .before in
@@ -64,11 +40,9 @@ loop-again c =
           ∙ copy-next v (l .loop .line) _ (a .at) (l .loop .i) (omega (arith, long l)) (l .loop .inv .2),
     )
 
--- src/keep.rt:74:1
 same-length : tie.Need-same-length Inv-loop μ-loop
 same-length c = c .before .loop .inv .1
 
--- src/keep.rt:74:1
 returns : tie.Need-returns Inv-loop μ-loop
 returns c =
     let l = c .before in
@@ -82,11 +56,11 @@ copy-spec =
     Inv-loop
     μ-loop
     loop-holds
-    shared-slice-read-line
-    add-line
-    slice-write-line
-    add-i
-    loop-less
+    (λ c. search needs)
+    (λ c. search needs)
+    (λ c. search needs)
+    (λ c. search needs)
+    (λ c. search needs)
     loop-again
     same-length
     returns)

@@ -1,18 +1,14 @@
-use Rattle.replay.proofs.Bytes.{bound-none}
-use Rattle.replay.proofs.Bytes.{number-none, number-more, room, bound-more}
-use Rattle.replay.specs.Log.{numberOf}
-use lib.ListN.{getD, drop}
-use mathlib.Core.Path.{subst}
-use Prim.Native.Nat.{_^_, suc}
-use Prim.Native.Nat.{ℕ, _+_, _-_, _*_, _≤_, _<_}
-use mathlib.Core.Path.{_≡_}
+-- `keep::number_of` meets its contract.
+-- Assumes nothing.
+use Prim.Native.Nat.{_^_, suc, ℕ, _+_, _-_, _*_, _≤_, _<_}
 use native.Mathlib.Omega.{arith}
+use mathlib.Core.Path.{subst, _≡_}
+use lib.ListN.{getD, drop, length}
 use borrow.Author.Needs.{needs}
-use lib.ListN.{length}
+use Rattle.replay.proofs.Bytes.{bound-none, number-none, number-more, room, bound-more}
+use Rattle.replay.specs.Log.{numberOf}
 use Rattle.replay.proofs.keep.number_of.Statement.{statement}
 use Rattle.replay.proofs.keep.number_of.Tie as tie
-use Rattle.replay.proofs.keep.number_of.Reads as reads
-use Rattle.replay.proofs.keep.number_of.Lts as lts
 
 abbrev Inv-loop : tie.InvT-loop
 Inv-loop rest n₀ i₀ n i = (i ≤ length rest) × (n ≡ numberOf (drop i rest)) × (n < 256 ^ (length rest - i))
@@ -27,40 +23,23 @@ small c =
     let r = l .before .pre in
     room (l .loop .n) _ (l .loop .inv .2) (omega arith)
 
--- src/keep.rt:33:5
 loop-holds : tie.Need-loop-holds Inv-loop μ-loop
 loop-holds c = let l = c .args .rest .now in (omega arith, number-none l, bound-none (length l))
 
--- src/keep.rt:34:9
-sub-i : tie.Need-sub-i Inv-loop μ-loop
-sub-i c = search needs
-
--- src/keep.rt:35:13
 mul-n : tie.Need-mul-n Inv-loop μ-loop
 mul-n c = let h = small c in omega arith
 
--- src/keep.rt:35:23
-shared-slice-read-n : tie.Need-shared-slice-read-n Inv-loop μ-loop
-shared-slice-read-n c = search needs
-
--- src/keep.rt:35:23
 cast-n : tie.Need-cast-n Inv-loop μ-loop
 cast-n c =
     let l = c .before .before in
     let k = c .shared-slice-known .given (l .loop .i - 1) .fits in record { fits = omega arith }
 
--- src/keep.rt:35:13
 add-n : tie.Need-add-n Inv-loop μ-loop
 add-n c =
     let h = small (c .before) in
     let l = c .before .before in
     let k = c .shared-slice-known .given (l .loop .i - 1) .fits in omega arith
 
--- src/keep.rt:33:5
-loop-less : tie.Need-loop-less Inv-loop μ-loop
-loop-less c = search needs
-
--- src/keep.rt:33:5
 loop-again : tie.Need-loop-again Inv-loop μ-loop
 loop-again c =
     let i = c .before in
@@ -74,7 +53,6 @@ loop-again c =
           (bound-more (l .loop .n) _ _ (l .loop .inv .2) (c .shared-slice-known .given (l .loop .i - 1) .fits)),
     )
 
--- src/keep.rt:27:1
 returns : tie.Need-returns Inv-loop μ-loop
 returns c =
     let l = c .before in
@@ -89,11 +67,11 @@ number-of-spec =
     Inv-loop
     μ-loop
     loop-holds
-    sub-i
+    (λ c. search needs)
     mul-n
-    shared-slice-read-n
+    (λ c. search needs)
     cast-n
     add-n
-    loop-less
+    (λ c. search needs)
     loop-again
     returns)

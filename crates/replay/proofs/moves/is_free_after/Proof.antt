@@ -1,18 +1,17 @@
-use Rattle.replay.proofs.Moving.{free-untraced, free-ret, free-reti, free-other, free-jmpf}
-use Rattle.views.proofs.TracedAt.{traced-inside, traced-marked}
-use Rattle.views.specs.Positions.{tracedAt}
-use borrow.Author.Tests.{not-true, not-false}
-use lib.ListN.{getD}
+-- `moves::is_free_after` meets its contract.
+-- Assumes nothing.
 use Prim.Native.Nat.{ℕ, _<_}
 use mathlib.Core.List.{List}
 use mathlib.Core.Bool.{true}
 use mathlib.Core.Path.{_≡_, sym, _∙_}
+use lib.ListN.{getD}
+use borrow.Author.Tests.{not-true, not-false}
 use borrow.Author.Needs.{needs}
+use Rattle.views.proofs.TracedAt.{traced-inside, traced-marked}
+use Rattle.views.specs.Positions.{tracedAt}
+use Rattle.replay.proofs.Moving.{free-untraced, free-ret, free-reti, free-other, free-jmpf}
 use Rattle.replay.proofs.moves.is_free_after.Statement.{statement}
 use Rattle.replay.proofs.moves.is_free_after.Tie as tie
-use Rattle.replay.proofs.moves.is_free_after.Reads as reads
-use Rattle.replay.proofs.moves.is_free_after.Lts as lts
-use Rattle.views.proofs.is_traced_at.Reads as is-traced-at-reads
 
 abbrev start : tie.After-is-traced-at → tie.Start
 start c = c .before .before .before
@@ -32,33 +31,24 @@ traced c = sym (c .before .is-traced-at .ensures) ∙ not-false _ (c .if1 .left)
 byte : (c : tie.After-shared-slice-known3) → getD (image (c .before .before)) (q (c .before .before)) 0 < 256
 byte c = c .shared-slice-known3 .given (q (c .before .before)) .fits
 
--- src/moves.rt:75:9
-is-traced-at-requires : tie.Need-is-traced-at-requires
-is-traced-at-requires c κs = search needs
-
--- src/moves.rt:76:9
 returns : tie.Need-returns
 returns c =
     let t = c .before in free-untraced (image t) (marks t) (q t) (sym (t .is-traced-at .ensures) ∙ not-true _ (c .if1 .taken))
 
--- src/moves.rt:78:17
 shared-slice-read-first : tie.Need-shared-slice-read-first
 shared-slice-read-first c = let t = c .before .before in traced-inside (image t) (marks t) (q t) (traced (c .before))
 
--- src/moves.rt:80:9
 returns-2 : tie.Need-returns-2
 returns-2 c =
     let k = c .before in
     let t = k .before .before in free-ret (image t) (marks t) (q t) (traced (k .before)) (byte k) (c .if2 .taken)
 
--- src/moves.rt:83:9
 returns-3 : tie.Need-returns-3
 returns-3 c =
     let e = c .before in
     let k = e .before in
     let t = k .before .before in free-reti (image t) (marks t) (q t) (traced (k .before)) (byte k) (e .if2 .left) (c .if3 .taken)
 
--- src/moves.rt:86:9
 returns-4 : tie.Need-returns-4
 returns-4 c =
     let f = c .before in
@@ -66,13 +56,11 @@ returns-4 c =
     let k = e .before in
     let t = k .before .before in free-other (image t) (marks t) (q t) (traced (k .before)) (byte k) (e .if2 .left) (f .if3 .left) (c .if4 .taken)
 
--- src/moves.rt:88:5
 shared-slice-read-result : tie.Need-shared-slice-read-result
 shared-slice-read-result c =
     let k = c .before .before .before .before in
     let t = k .before .before in traced-marked (image t) (marks t) (q t) (traced (k .before))
 
--- src/moves.rt:71:1
 returns-5 : tie.Need-returns-5
 returns-5 c =
     let g = c .before in
@@ -85,7 +73,7 @@ pub is-free-after-spec : {M : Type 1} → statement M
 is-free-after-spec =
     tie.close
     (tie.spec
-    is-traced-at-requires
+    (λ c κs. search needs)
     returns
     shared-slice-read-first
     returns-2

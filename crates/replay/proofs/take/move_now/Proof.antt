@@ -1,29 +1,17 @@
-use Rattle.replay.proofs.Moving.{first-move, later-move}
-use Rattle.map.specs.Words.{codeAt}
-use mathlib.Core.Path.{sym, _∙_}
+-- `take::move_now` meets its contract.
+-- Assumes nothing.
+use mathlib.Core.Path.{_∙_}
 use borrow.Author.Needs.{needs}
+use Rattle.map.specs.Words.{codeAt}
+use Rattle.replay.proofs.Moving.{first-move, later-move}
 use Rattle.replay.proofs.take.move_now.Statement.{statement}
 use Rattle.replay.proofs.take.move_now.Tie as tie
-use Rattle.replay.proofs.take.move_now.Reads as reads
-use Rattle.replay.proofs.take.move_now.Lts as lts
-use Rattle.replay.proofs.moves.move_to.Reads as move-to-reads
-use Rattle.replay.proofs.take.position.Reads as position-reads
 
--- src/take.rt:31:9
 returns : tie.Need-returns
 returns c =
     let a = c .before .before .before .before .before .args in
     first-move (a .mode) (a .image .now) (a .marks .now) (codeAt (a .table .now)) (a .log) (a .p) (c .if1 .taken)
 
--- src/take.rt:33:47
-position-requires : tie.Need-position-requires
-position-requires c κs = search needs
-
--- src/take.rt:33:5
-move-to-requires : tie.Need-move-to-requires
-move-to-requires c κs = search needs
-
--- src/take.rt:26:1
 returns-2 : tie.Need-returns-2
 returns-2 c =
     let n = c .before in
@@ -34,4 +22,4 @@ returns-2 c =
     ∙ later-move (a .mode) (a .image .now) (a .marks .now) (codeAt (a .table .now)) (a .log) (a .p) (e .if1 .left) (s .pre .1) (n .position .result) (n .position .ensures)
 
 pub move-now-spec : {M : Type 1} → statement M
-move-now-spec = tie.close (tie.spec returns position-requires move-to-requires returns-2)
+move-now-spec = tie.close (tie.spec returns (λ c κs. search needs) (λ c κs. search needs) returns-2)

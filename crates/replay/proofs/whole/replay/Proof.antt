@@ -1,23 +1,16 @@
+-- `whole::replay` meets its contract.
+-- Assumes nothing.
+use Prim.Native.Nat.{_≤_}
+use mathlib.Core.Bool.{true}
+use mathlib.Core.Path.{_≡_, sym, _∙_}
+use lib.ListN.{length}
+use borrow.Author.Tests.{not-true, not-false}
+use borrow.Author.Needs.{needs}
 use Rattle.replay.proofs.Wholes.{whole-lent, can-take-back, whole-told, whole-refused}
 use Rattle.replay.proofs.Lent.{told-is, lent-sizes}
 use Rattle.replay.specs.Answers.{isTold}
-use borrow.Author.Tests.{not-true, not-false}
-use lib.ListN.{length}
-use Prim.Native.Nat.{_≤_}
-use mathlib.Core.List.{List}
-use mathlib.Core.Bool.{true}
-use mathlib.Core.Path.{_≡_, sym, _∙_}
-use borrow.Author.Needs.{needs}
 use Rattle.replay.proofs.whole.replay.Statement.{statement}
 use Rattle.replay.proofs.whole.replay.Tie as tie
-use Rattle.replay.proofs.whole.replay.Reads as reads
-use Rattle.replay.proofs.whole.replay.Lts as lts
-use Rattle.replay.proofs.answer.Replayed.is_told.Reads as is-told-reads
-use Rattle.replay.proofs.answer.check.Reads as check-reads
-use Rattle.replay.proofs.feed.feed.Reads as feed-reads
-use Rattle.replay.proofs.log.Log.close.Reads as close-reads
-use Rattle.replay.proofs.log.Log.new.Reads as new-reads
-use Rattle.replay.proofs.whole.take_back.Reads as take-back-reads
 
 abbrev start : tie.After-check → tie.Start
 start c = c .before .before .before .before .before .before .before
@@ -33,19 +26,6 @@ sizes c =
     let w = told-is (k .check .result) (told c) in
     lent-sizes (a .image .now) (a .marks .now) (a .counts .now) (w .0) (sym (k .check .ensures) ∙ w .1)
 
--- src/whole.rt:43:9
-check-requires : tie.Need-check-requires
-check-requires c κs = search needs
-
--- src/whole.rt:44:9
-is-told-requires : tie.Need-is-told-requires
-is-told-requires c κs = search needs
-
--- src/whole.rt:45:9
-same-length : tie.Need-same-length
-same-length c = search needs
-
--- src/whole.rt:45:9
 returns : tie.Need-returns
 returns c =
     let i = c .before in
@@ -54,23 +34,9 @@ returns c =
     whole-lent (a .mode) (a .text .now) (a .image .now) (a .marks .now) (a .entries .now) (a .counts .now) (k .check .result) (k .check .ensures)
     (sym (i .is-told .ensures) ∙ not-true _ (c .if1 .taken))
 
--- src/whole.rt:47:27
-new-requires : tie.Need-new-requires
-new-requires c κs = search needs
-
--- src/whole.rt:47:9
 feed-requires : tie.Need-feed-requires
 feed-requires c κs = sizes (c .before .before)
 
--- src/whole.rt:48:9
-close-requires : tie.Need-close-requires
-close-requires c κs = search needs
-
--- src/whole.rt:49:9
-is-told-requires-2 : tie.Need-is-told-requires-2
-is-told-requires-2 c κs = search needs
-
--- src/whole.rt:50:9
 take-back-requires : tie.Need-take-back-requires
 take-back-requires c κs =
     let t = c .before in
@@ -84,11 +50,6 @@ take-back-requires c κs =
     can-take-back (a .mode) (a .text .now) (a .image .now) (a .marks .now) (a .entries .now) (a .counts .now) (k .check .result) (k .check .ensures) (told e)
     (n .new .result) (f .feed .result) _ (n .new .ensures) (f .feed .ensures) (s .good .1 .0 .0) (sizes e .1)
 
--- src/whole.rt:30:1
-same-length-2 : tie.Need-same-length-2
-same-length-2 c = search needs
-
--- src/whole.rt:30:1
 returns-2 : tie.Need-returns-2
 returns-2 c =
     let b = c .before .before in
@@ -105,11 +66,6 @@ returns-2 c =
     (n .new .result) (f .feed .result) _ (n .new .ensures) (f .feed .ensures) (o .close .result) (o .close .ensures)
     (sym (i .is-told2 .ensures) ∙ not-true _ (t .if2 .taken)) (s .good .1 .0 .0) (sizes e .1) _ (b .take-back .ensures)
 
--- src/whole.rt:30:1
-same-length-3 : tie.Need-same-length-3
-same-length-3 c = search needs
-
--- src/whole.rt:30:1
 returns-3 : tie.Need-returns-3
 returns-3 c =
     let i = c .before in
@@ -128,16 +84,16 @@ pub replay-spec : {M : Type 1} → statement M
 replay-spec =
     tie.close
     (tie.spec
-    check-requires
-    is-told-requires
-    same-length
+    (λ c κs. search needs)
+    (λ c κs. search needs)
+    (λ c. search needs)
     returns
-    new-requires
+    (λ c κs. search needs)
     feed-requires
-    close-requires
-    is-told-requires-2
+    (λ c κs. search needs)
+    (λ c κs. search needs)
     take-back-requires
-    same-length-2
+    (λ c. search needs)
     returns-2
-    same-length-3
+    (λ c. search needs)
     returns-3)

@@ -1,19 +1,16 @@
+-- `whole::take_back` meets its contract.
+-- Assumes nothing.
+use Prim.Native.Nat.{ℕ, _+_, _-_, _*_, _≤_, _<_}
+use native.Mathlib.Omega.{arith}
+use mathlib.Core.List.{List}
+use mathlib.Core.Path.{refl, sym, subst, _∙_, _≡_}
+use lib.ListN.{getD, length-set, length}
+use borrow.Author.Needs.{needs}
 use Rattle.replay.specs.Line.{positionAt}
 use Rattle.replay.proofs.Backing.{back-here, back-next, back-told, back-end}
 use Rattle.replay.specs.Back.{less, takenBack, Counted}
-use lib.ListN.{getD, length-set}
-use mathlib.Core.List.{List}
-use mathlib.Core.Path.{refl, sym, ap, subst, _∙_}
-use Prim.Native.Nat.{ℕ, _+_, _-_, _*_, _≤_, _<_}
-use mathlib.Core.Path.{_≡_}
-use native.Mathlib.Omega.{arith}
-use borrow.Author.Needs.{needs}
-use lib.ListN.{length}
 use Rattle.replay.proofs.whole.take_back.Statement.{statement}
 use Rattle.replay.proofs.whole.take_back.Tie as tie
-use Rattle.replay.proofs.whole.take_back.Reads as reads
-use Rattle.replay.proofs.whole.take_back.Lts as lts
-use Rattle.replay.proofs.line.position_of.Reads as position-of-reads
 
 abbrev Inv-loop : tie.InvT-loop
 Inv-loop text lines counts₀ k₀ counts k = (k ≤ lines) × (length counts ≡ length counts₀) × Counted text k counts × (takenBack text k counts ≡ takenBack text lines counts₀)
@@ -41,19 +38,9 @@ here c =
     let w = back-here (text i) (l .loop .k) (i .loop-test .taken) (l .loop .counts) (l .loop .inv .2) in
     rw (place c) (w .0, w .1)
 
--- src/whole.rt:21:5
 loop-holds : tie.Need-loop-holds Inv-loop μ-loop
 loop-holds c = let s = c .before .before in (omega arith, refl, s .pre .1, refl)
 
--- src/whole.rt:22:9
-sub-k : tie.Need-sub-k Inv-loop μ-loop
-sub-k c = search needs
-
--- src/whole.rt:23:18
-mul-at : tie.Need-mul-at Inv-loop μ-loop
-mul-at c = search needs
-
--- src/whole.rt:24:45
 add-position-of : tie.Need-add-position-of Inv-loop μ-loop
 add-position-of c =
     let l = c .before in
@@ -62,47 +49,15 @@ add-position-of c =
     let k = l .loop .inv .0 in
     let z = start l .good .0 .0 in record { fits = omega arith }
 
--- src/whole.rt:24:35
-sub-position-of : tie.Need-sub-position-of Inv-loop μ-loop
-sub-position-of c = search needs
-
--- src/whole.rt:24:35
-part-position-of-start : tie.Need-part-position-of-start Inv-loop μ-loop
-part-position-of-start c = search needs
-
--- src/whole.rt:24:35
-part-position-of-end : tie.Need-part-position-of-end Inv-loop μ-loop
-part-position-of-end c = search needs
-
--- src/whole.rt:24:17
-position-of-requires : tie.Need-position-of-requires Inv-loop μ-loop
-position-of-requires c κs = search needs
-
--- src/whole.rt:24:17
-cast-p : tie.Need-cast-p Inv-loop μ-loop
-cast-p c = search needs
-
--- src/whole.rt:25:9
-mul-counts : tie.Need-mul-counts Inv-loop μ-loop
-mul-counts c = search needs
-
--- src/whole.rt:25:9
 slice-read-counts : tie.Need-slice-read-counts Inv-loop μ-loop
 slice-read-counts c = here (c .before) .0
 
--- src/whole.rt:25:9
 sub-counts : tie.Need-sub-counts Inv-loop μ-loop
 sub-counts c = here (c .before) .1
 
--- src/whole.rt:25:9
 slice-write-counts : tie.Need-slice-write-counts Inv-loop μ-loop
 slice-write-counts c = here (c .before) .0
 
--- src/whole.rt:21:5
-loop-less : tie.Need-loop-less Inv-loop μ-loop
-loop-less c = search needs
-
--- src/whole.rt:21:5
 loop-again : tie.Need-loop-again Inv-loop μ-loop
 loop-again c =
     let o = c .before in
@@ -116,11 +71,9 @@ loop-again c =
       subst (λ (p : ℕ). takenBack (text i) (l .loop .k - 1) (less (l .loop .counts) p) ≡ takenBack (text i) (start l .args .lines) (start l .args .counts .now)) (sym (place o)) (back-next (text i) (l .loop .k) h (l .loop .counts) _ (l .loop .inv .3)),
     )
 
--- src/whole.rt:16:1
 same-length : tie.Need-same-length Inv-loop μ-loop
 same-length c = c .before .loop .inv .1
 
--- src/whole.rt:16:1
 returns : tie.Need-returns Inv-loop μ-loop
 returns c =
     let l = c .before in
@@ -134,19 +87,19 @@ take-back-spec =
     Inv-loop
     μ-loop
     loop-holds
-    sub-k
-    mul-at
+    (λ c. search needs)
+    (λ c. search needs)
     add-position-of
-    sub-position-of
-    part-position-of-start
-    part-position-of-end
-    position-of-requires
-    cast-p
-    mul-counts
+    (λ c. search needs)
+    (λ c. search needs)
+    (λ c. search needs)
+    (λ c κs. search needs)
+    (λ c. search needs)
+    (λ c. search needs)
     slice-read-counts
     sub-counts
     slice-write-counts
-    loop-less
+    (λ c. search needs)
     loop-again
     same-length
     returns)

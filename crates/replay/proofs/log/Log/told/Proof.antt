@@ -1,25 +1,10 @@
-use Rattle.replay.proofs.Logs.{totals-told, refusal-told, held-19, held-20, held-21, held-18}
+-- `log::Log::told` meets its contract.
+-- Assumes nothing.
 use borrow.Author.Needs.{needs}
+use Rattle.replay.proofs.Logs.{totals-told, refusal-told, held-19, held-20, held-21, held-18}
 use Rattle.replay.proofs.log.Log.told.Statement.{statement}
 use Rattle.replay.proofs.log.Log.told.Tie as tie
-use Rattle.replay.proofs.log.Log.told.Reads as reads
-use Rattle.replay.proofs.log.Log.told.Lts as lts
-use Rattle.replay.proofs.next.at_most.Reads as at-most-reads
-use Rattle.replay.proofs.next.one_more.Reads as one-more-reads
 
--- src/answer.rt:81:24
-at-most-requires : tie.Need-at-most-requires
-at-most-requires c κs = search needs
-
--- src/answer.rt:82:29
-at-most-requires-2 : tie.Need-at-most-requires-2
-at-most-requires-2 c κs = search needs
-
--- src/answer.rt:83:23
-at-most-requires-3 : tie.Need-at-most-requires-3
-at-most-requires-3 c κs = search needs
-
--- src/answer.rt:80:13
 returns : tie.Need-returns
 returns c =
     let b = c .before in
@@ -27,32 +12,24 @@ returns c =
     let t = a .before in
     totals-told (t .before .args .self) _ _ _ (t .if1 .taken) (a .at-most .ensures) (b .at-most2 .ensures) (c .at-most3 .ensures)
 
--- src/answer.rt:86:13
-one-more-requires : tie.Need-one-more-requires
-one-more-requires c κs = search needs
-
--- src/answer.rt:88:13
 returns-2 : tie.Need-returns-2
 returns-2 c =
     let o = c .before in
     let e = o .before in
     refusal-told (e .before .args .self) 19 _ (e .if1 .left) (o .one-more .ensures) (held-19 _ (c .if2 .taken))
 
--- src/answer.rt:91:13
 returns-3 : tie.Need-returns-3
 returns-3 c =
     let o = c .before .before in
     let e = o .before in
     refusal-told (e .before .args .self) 20 _ (e .if1 .left) (o .one-more .ensures) (held-20 _ (c .if3 .taken))
 
--- src/answer.rt:94:13
 returns-4 : tie.Need-returns-4
 returns-4 c =
     let o = c .before .before .before in
     let e = o .before in
     refusal-told (e .before .args .self) 21 _ (e .if1 .left) (o .one-more .ensures) (held-21 _ (c .if4 .taken))
 
--- src/answer.rt:75:5
 returns-5 : tie.Need-returns-5
 returns-5 c =
     let o = c .before .before .before in
@@ -63,11 +40,11 @@ pub told-spec : {M : Type 1} → statement M
 told-spec =
     tie.close
     (tie.spec
-    at-most-requires
-    at-most-requires-2
-    at-most-requires-3
+    (λ c κs. search needs)
+    (λ c κs. search needs)
+    (λ c κs. search needs)
     returns
-    one-more-requires
+    (λ c κs. search needs)
     returns-2
     returns-3
     returns-4
