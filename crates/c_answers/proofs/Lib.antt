@@ -7,3 +7,4 @@ pub mod Lengths
 pub mod Shown
 pub mod BackBounds
 pub mod MapBounds
+pub mod LogBounds

@@ -8,3 +8,5 @@ pub mod ViewCounts
 pub mod BackCounts
 pub mod MapCounts
 pub mod Modes
+pub mod Logs
+pub mod LogCounts
