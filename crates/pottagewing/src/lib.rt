@@ -3,6 +3,7 @@
 // hands over is worked out in c_answers.
 pub mod codec;
 pub mod listed;
+pub mod logs;
 pub mod mapped;
 pub mod tracing;
 pub mod version;
@@ -15,6 +16,10 @@ pub use codec::pw_targets;
 pub use listed::pw_list_text;
 pub use listed::pw_listing;
 pub use listed::pw_read_back;
+pub use logs::pw_replay;
+pub use logs::pw_replay_block;
+pub use logs::pw_replay_close;
+pub use logs::pw_replay_open;
 pub use mapped::pw_map_build;
 pub use mapped::pw_map_count;
 pub use mapped::pw_map_first_data;
