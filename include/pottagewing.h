@@ -1,11 +1,11 @@
 /* Pottagewing: the instructions of the LC86K, tracing through them, and the
  * listing of what was traced, for C.
  *
- * Every call but pw_version answers a number: 0 where it did what was asked,
- * otherwise the number of the refusal. The values that belong to it stand in
- * answer[0] to answer[4]; those that are not used are 0. `answer` is the
- * answer's own room of five numbers: every call writes all five, also where it
- * refuses, and none reads them.
+ * Every call but pw_version and pw_replay_open answers a number: 0 where it did
+ * what was asked, otherwise the number of the refusal. The values that belong
+ * to it stand in answer[0] to answer[4]; those that are not used are 0.
+ * `answer` is the answer's own room of five numbers: every call that has it
+ * writes all five, also where it refuses, and none reads them.
  *
  * Bytes, and lists of numbers, are lent as a pointer and then how many there
  * are. Every buffer must be at least as long as said, must stay unchanged by
@@ -50,12 +50,24 @@
  * word p / 64. An image of n bytes needs (n + 63) / 64 words. There may be
  * more; those beyond change no answer and stay as they were.
  *
+ * A log from the unit has a line for each executed instruction: `P`, a tab, its
+ * position in four hex digits, upper case, and byte 10. A replay adds up over
+ * the marks how often each position was executed: for each line, 1 more in the
+ * count of its position. There is a count for each position of the image; more
+ * of them are neither read nor written. Each position must be traced. The first
+ * line is no move. From each line to the next, control comes to a target that
+ * the first had in this mode when it was taken up, as in pw_arrivals; failing
+ * that, to one of the entries, which is an interrupt; failing that, after a
+ * `ret`, a `reti` or a `jmpf` with the mark 3, to any traced position, which is
+ * a free move. There is no other move.
+ *
  * Stack: pw_listing, pw_list_text and pw_read_back hold tables for the longest
  * image on the stack, however short the image. A thread that calls pw_listing,
  * with arrivals or without, needs a stack of 1 MiB, of which it holds some 900
- * KiB; one that calls pw_list_text or pw_read_back needs 256 KiB. With too
- * small a stack the program is ended by a fault, and there is no refusal. All
- * other calls need less than 1 KiB. No call allocates memory.
+ * KiB; one that calls pw_list_text or pw_read_back needs 256 KiB. pw_replay and
+ * pw_replay_block hold a table of the entries, and need 16 KiB. With too small a
+ * stack the program is ended by a fault, and there is no refusal. All other
+ * calls need less than 1 KiB. No call allocates memory.
  *
  * The numbers have names, below. The comments of the calls name refusals by
  * their numbers, in the order in which they are judged.
@@ -66,9 +78,9 @@
 #include <stddef.h>
 #include <stdint.h>
 
-/* The version of what is declared here: it changes when a call does. What is
- * linked answers its own by pw_version. */
-#define PW_VERSION 3
+/* The version of what is declared here: it changes when a call does, or when
+ * calls are added. What is linked answers its own by pw_version. */
+#define PW_VERSION 4
 
 /* The number that a call answers: 0, or that of a refusal, here with its values
  * in answer[0] to answer[2]. 13 is answered by none: pw_list_text prints it. */
@@ -95,7 +107,7 @@
 #define PW_TOO_FAR 9
 /* the top four bits differ: the base's, the address's */
 #define PW_OTHER_PAGE 10
-/* no room: the number of bytes, of positions or of words needed */
+/* no room: the number of bytes, of positions, of words or of counts needed */
 #define PW_NO_ROOM 11
 /* nothing to decode: 0 */
 #define PW_NOTHING 12
@@ -112,6 +124,14 @@
  * round, or an update at a position that is not traced: the position, or the
  * stretch's start */
 #define PW_OUTSIDE 17
+/* a line of a log is malformed: its number, from 1 */
+#define PW_MALFORMED_LOG 18
+/* a line's position is not traced: the line's number */
+#define PW_NOT_TRACED 19
+/* the move to a line's position is not allowed: the line's number */
+#define PW_FORBIDDEN_MOVE 20
+/* a count would pass 64 bits: the line's number */
+#define PW_COUNT_FULL 21
 
 /* The mode of calls that use a target. */
 #define PW_UNWRAPPED 0
@@ -144,6 +164,9 @@
 #define PW_RUN_LENGTH 16
 #define PW_MOST_OVERLAPS 3
 #define PW_WORD_BITS 64
+
+/* The numbers of a record that pw_replay_open makes. */
+#define PW_REPLAY_WORDS 7
 
 /* Room for every listing, for each byte of the image: without `A` lines, and
  * with them. */
@@ -424,6 +447,62 @@ uint32_t pw_map_update(const uint8_t *image, size_t image_length,
                        const uint8_t *marks, size_t marks_length,
                        uint64_t *words, size_t words_length,
                        uint32_t position, int64_t answer[5]);
+
+/* Replays a whole log, the text. Entries may be repeated; one that is not
+ * traced allows nothing. No text is a log of 0 lines.
+ * 0: the lines, the interrupts and the free moves. The counts have grown by
+ *    that many lines.
+ * 1, 2, 6, 11 with the image's length where there are fewer counts; then the
+ * first bad line, with its number: 18, 19, 20, 21, in this order for a line. A
+ * last line without its byte 10 is 18. On any of these the counts stay as they
+ * were.
+ */
+uint32_t pw_replay(uint32_t mode, const uint8_t *text, size_t text_length,
+                   const uint8_t *image, size_t image_length,
+                   const uint8_t *marks, size_t marks_length,
+                   const uint32_t *entries, size_t entries_length,
+                   uint64_t *counts, size_t counts_length, int64_t answer[5]);
+
+/* A log that arrives in blocks is replayed with a record, PW_REPLAY_WORDS
+ * numbers of the caller's, and no more of the log is kept than it holds. What
+ * the numbers mean is not told here, and may change. A record is all that one
+ * call hands on to the next: it may be copied and moved, and it holds no
+ * pointer. Other numbers than a call left there give some answer, and no fault.
+ *
+ * Makes a record from which the first block is taken.
+ */
+void pw_replay_open(uint64_t record[PW_REPLAY_WORDS]);
+
+/* Takes the next block of the log, of any bytes or none, cut anywhere. The rest
+ * is lent again with each block. Where it is the same with each, the mode too,
+ * and the counts as the last call left them, the answer to the whole log and
+ * the counts are those of pw_replay; but of a refused log the counts hold the
+ * lines before the refused one. A line is judged at its byte 10 or its seventh
+ * byte.
+ * 0: the lines, the interrupts and the free moves of all blocks up to this one;
+ *    a line that has only begun is not among them. They stop at 2^63 - 1.
+ * First a refusal that the record holds, of a line in an earlier block: it is
+ * answered again, and nothing changes. Then 1, 2, 6, 11 with the image's
+ * length: they refuse this block alone, nothing changes, the record neither,
+ * and the block may be lent again. Then the first bad line, with its number in
+ * the log: 18, 19, 20, 21. The record holds that refusal from then on.
+ */
+uint32_t pw_replay_block(uint32_t mode, uint64_t record[PW_REPLAY_WORDS],
+                         const uint8_t *text, size_t text_length,
+                         const uint8_t *image, size_t image_length,
+                         const uint8_t *marks, size_t marks_length,
+                         const uint32_t *entries, size_t entries_length,
+                         uint64_t *counts, size_t counts_length,
+                         int64_t answer[5]);
+
+/* What the log came to, after its last block. The record stays as it was, and
+ * nothing else is lent.
+ * 0: the lines, the interrupts and the free moves of the log.
+ * 18, 19, 20, 21: the refusal that the record holds; 18, too, with its number,
+ * where the last line lacks its byte 10.
+ */
+uint32_t pw_replay_close(const uint64_t record[PW_REPLAY_WORDS],
+                         int64_t answer[5]);
 
 #ifdef __cplusplus
 }

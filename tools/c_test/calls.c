@@ -10,6 +10,7 @@
 #define SIZES (BIT(PW_LONG_IMAGE) | BIT(PW_SHORT_MARKS))
 #define VIEW (SIZES | BIT(PW_DAMAGED) | BIT(PW_NO_ROOM))
 #define QUERY (BIT(PW_LONG_IMAGE) | BIT(PW_NO_ROOM) | BIT(PW_OUTSIDE))
+#define LOG_LINE (BIT(PW_MALFORMED_LOG) | BIT(PW_NOT_TRACED) | BIT(PW_FORBIDDEN_MOVE) | BIT(PW_COUNT_FULL))
 
 /* Every call that has an answer, with its refusals: each must be seen in each mode, unwrapped and wrapping, and an answer that is none. */
 static struct {
@@ -38,6 +39,9 @@ static struct {
     {"pw_map_count", QUERY, {0, 0}},
     {"pw_map_first_data", QUERY, {0, 0}},
     {"pw_map_update", VIEW | BIT(PW_OUTSIDE), {0, 0}},
+    {"pw_replay", VIEW | LOG_LINE, {0, 0}},
+    {"pw_replay_block", VIEW | LOG_LINE, {0, 0}},
+    {"pw_replay_close", LOG_LINE, {0, 0}},
 };
 
 #define COUNT (sizeof calls / sizeof calls[0])

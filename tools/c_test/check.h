@@ -24,6 +24,8 @@ extern uint32_t mode;
 #define NONE(type) ((type *)lent("", 0))
 /* The pins of a trace that has none. */
 #define NO_PINS NONE(uint32_t), 0
+/* The entries of a replay that has none. */
+#define NO_ENTRIES NONE(uint32_t), 0
 
 /* What was lent holds these numbers now, from its beginning on. */
 #define LEFT(room, type, ...) HOLDS(same(room, (const type[]){__VA_ARGS__}, sizeof(const type[]){__VA_ARGS__}))

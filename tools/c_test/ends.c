@@ -85,6 +85,24 @@ static void viewing_ends(void)
     LEFT(places, uint32_t, BY_MODE(9, BZ_AT), BY_MODE(9, NOP_AT), 9);
 }
 
+/* From the br to the bz, and from the nop to the br. */
+static void replaying_ends(void)
+{
+    static uint64_t none[LENGTH];
+    uint64_t *counts = lent(none, sizeof none);
+    uint8_t *there = lent("P\t0000\nP\tFFFD\n", 14);
+    uint8_t *back = lent("P\tFFFF\nP\t0000\n", 14);
+
+    ANSWERS(BY_MODE(PW_FORBIDDEN_MOVE, PW_DONE),
+            pw_replay(mode, there, 14, longest(), LENGTH, marked(2, 2, 2), LENGTH, NO_ENTRIES, counts, LENGTH, answer), 2);
+    HOLDS(counts[0] == BY_MODE(0, 1) && counts[BZ_AT] == BY_MODE(0, 1));
+    uint64_t record[PW_REPLAY_WORDS];
+    pw_replay_open(record);
+    ANSWERS(BY_MODE(PW_FORBIDDEN_MOVE, PW_DONE),
+            pw_replay_block(mode, record, back, 14, longest(), LENGTH, marked(2, 2, 2), LENGTH, NO_ENTRIES, counts, LENGTH, answer), 2);
+    HOLDS(counts[NOP_AT] == 1 && counts[0] == BY_MODE(0, 2));
+}
+
 /* What is listed in one mode is read back in the same, and malformed in the other where it shows a target. */
 static void listing_ends(void)
 {
@@ -111,5 +129,6 @@ void ends(void)
     running();
     sweeping();
     viewing_ends();
+    replaying_ends();
     listing_ends();
 }

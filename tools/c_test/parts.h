@@ -7,6 +7,8 @@ void tracing(void);
 void viewing(void);
 void listed(void);
 void mapped(void);
+void replayed(void);
+void blocks(void);
 void ends(void);
 
 #endif

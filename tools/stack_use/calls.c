@@ -5,11 +5,12 @@
 /* The image and its marks, as most calls take them. */
 #define IMAGE input.image, input.length
 #define MARKS input.marks, input.length
+#define ENTRIES input.entries, input.count
 
 static int64_t answer[5];
 static uint8_t bytes[TEXT_ROOM], marks[PW_IMAGE_LIMIT], image[PW_IMAGE_LIMIT];
 static uint32_t places[PW_IMAGE_LIMIT];
-static uint64_t words[PW_IMAGE_LIMIT / PW_WORD_BITS];
+static uint64_t words[PW_IMAGE_LIMIT / PW_WORD_BITS], counts[PW_IMAGE_LIMIT], record[PW_REPLAY_WORDS];
 
 /* Each first byte with operands at their highest, and past them. */
 #define EACH_FIRST for (int first = 0; first < 256; first++)
@@ -85,8 +86,26 @@ static void map_count(void)
 }
 static void map_first_data(void) { pw_map_first_data(words, PW_IMAGE_LIMIT / PW_WORD_BITS, (uint32_t)input.length, 1, answer); }
 static void map_update(void) { pw_map_update(IMAGE, MARKS, words, PW_IMAGE_LIMIT / PW_WORD_BITS, input.position, answer); }
+/* A whole log, and a half of it, which ends within a line and is taken back. */
+static void replay(void)
+{
+    EACH_MODE {
+        pw_replay(mode, input.log, input.logged, IMAGE, MARKS, ENTRIES, counts, PW_IMAGE_LIMIT, answer);
+        pw_replay(mode, input.log, input.logged / 2, IMAGE, MARKS, ENTRIES, counts, PW_IMAGE_LIMIT, answer);
+    }
+}
+static void replay_open(void) { pw_replay_open(record); }
+static void replay_block(void)
+{
+    size_t half = input.logged / 2;
+    EACH_MODE {
+        pw_replay_block(mode, record, input.log, half, IMAGE, MARKS, ENTRIES, counts, PW_IMAGE_LIMIT, answer);
+        pw_replay_block(mode, record, input.log + half, input.logged - half, IMAGE, MARKS, ENTRIES, counts, PW_IMAGE_LIMIT, answer);
+    }
+}
+static void replay_close(void) { pw_replay_close(record, answer); }
 
-/* A call is made after those above it: a step after a start, a query after a build. */
+/* A call is made after those above it: a step after a start, a query after a build, a block after a record was opened. */
 const struct call calls[] = {
     {"pw_version", version},
     {"pw_decode", decode},
@@ -112,5 +131,9 @@ const struct call calls[] = {
     {"pw_map_count", map_count},
     {"pw_map_first_data", map_first_data},
     {"pw_map_update", map_update},
+    {"pw_replay", replay},
+    {"pw_replay_open", replay_open},
+    {"pw_replay_block", replay_block},
+    {"pw_replay_close", replay_close},
 };
 const size_t count_calls = sizeof calls / sizeof calls[0];

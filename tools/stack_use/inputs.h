@@ -6,8 +6,11 @@
 
 /* More than the longest listing. */
 #define TEXT_ROOM (PW_ARRIVALS_ROOM * PW_IMAGE_LIMIT)
+/* The lines of a log, and the bytes of one. */
+#define LOG_LINES 1023
+#define LINE_LENGTH 7
 
-/* An image with its entries and marks, a position of it, its listing with arrivals, and an input of the listing program. */
+/* An image with its entries and marks, a position of it, its listing with arrivals, an input of the listing program, and a log. */
 struct input {
     uint8_t image[PW_IMAGE_LIMIT];
     size_t length;
@@ -19,6 +22,8 @@ struct input {
     size_t listed;
     uint8_t text[TEXT_ROOM];
     size_t written;
+    uint8_t log[LOG_LINES * LINE_LENGTH];
+    size_t logged;
 };
 
 /* The one that the calls are given now. */
