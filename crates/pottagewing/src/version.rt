@@ -1,4 +1,4 @@
-// The version of the C face, raised whenever the signature of a call changes: `PW_VERSION` of include/pottagewing.h.
+// The version of the C face, raised whenever the signature of a call changes or calls are added: `PW_VERSION` of include/pottagewing.h.
 ghost use mathlib.Core.Path.{_≡_};
 
 pub struct Version;
