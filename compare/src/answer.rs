@@ -26,6 +26,10 @@ impl Answer {
     pub const MALFORMED: u32 = 15;
     pub const PAST_END: u32 = 16;
     pub const OUTSIDE: u32 = 17;
+    pub const NO_LINE: u32 = 18;
+    pub const UNTRACED: u32 = 19;
+    pub const FORBIDDEN: u32 = 20;
+    pub const FULL: u32 = 21;
 
     /// The values that are not given are 0.
     pub fn new(number: u32, given: &[i64]) -> Answer {

@@ -2,6 +2,7 @@
 
 use compare::answer::Answer;
 use compare::paper::Mode;
+use compare::paper::replay::Traced;
 use std::sync::atomic::{AtomicUsize, Ordering};
 
 #[link(name = "pottagewing", kind = "static")]
@@ -199,7 +200,41 @@ unsafe extern "C" {
         position: u32,
         answer: *mut [i64; 5],
     ) -> u32;
+    fn pw_replay(
+        mode: u32,
+        text: *const u8,
+        text_length: usize,
+        image: *const u8,
+        image_length: usize,
+        marks: *const u8,
+        marks_length: usize,
+        entries: *const u32,
+        entries_length: usize,
+        counts: *mut u64,
+        counts_length: usize,
+        answer: *mut [i64; 5],
+    ) -> u32;
+    fn pw_replay_open(record: *mut Record);
+    fn pw_replay_block(
+        mode: u32,
+        record: *mut Record,
+        text: *const u8,
+        text_length: usize,
+        image: *const u8,
+        image_length: usize,
+        marks: *const u8,
+        marks_length: usize,
+        entries: *const u32,
+        entries_length: usize,
+        counts: *mut u64,
+        counts_length: usize,
+        answer: *mut [i64; 5],
+    ) -> u32;
+    fn pw_replay_close(record: *const Record, answer: *mut [i64; 5]) -> u32;
 }
+
+/// The record of a log in blocks.
+pub type Record = [u64; 7];
 
 pub fn decode(bytes: &[u8]) -> Answer {
     answered(|values| unsafe { pw_decode(bytes.as_ptr(), bytes.len(), values) })
@@ -443,6 +478,60 @@ pub fn map_update(image: &[u8], marks: &[u8], words: &mut [u64], position: u32) 
             values,
         )
     })
+}
+
+pub fn replay(traced: Traced, text: &[u8], counts: &mut [u64]) -> Answer {
+    let Traced { image, marks, .. } = traced;
+    answered(|values| unsafe {
+        pw_replay(
+            number(traced.mode),
+            text.as_ptr(),
+            text.len(),
+            image.as_ptr(),
+            image.len(),
+            marks.as_ptr(),
+            marks.len(),
+            traced.entries.as_ptr(),
+            traced.entries.len(),
+            counts.as_mut_ptr(),
+            counts.len(),
+            values,
+        )
+    })
+}
+
+pub fn replay_open(record: &mut Record) {
+    unsafe { pw_replay_open(record) }
+}
+
+pub fn replay_block(
+    record: &mut Record,
+    traced: Traced,
+    text: &[u8],
+    counts: &mut [u64],
+) -> Answer {
+    let Traced { image, marks, .. } = traced;
+    answered(|values| unsafe {
+        pw_replay_block(
+            number(traced.mode),
+            record,
+            text.as_ptr(),
+            text.len(),
+            image.as_ptr(),
+            image.len(),
+            marks.as_ptr(),
+            marks.len(),
+            traced.entries.as_ptr(),
+            traced.entries.len(),
+            counts.as_mut_ptr(),
+            counts.len(),
+            values,
+        )
+    })
+}
+
+pub fn replay_close(record: &Record) -> Answer {
+    answered(|values| unsafe { pw_replay_close(record, values) })
 }
 
 /// The mode's number. Wrapping is any but 0: some of these take turns.

@@ -3,12 +3,14 @@
 //! against the original where there is one.
 
 pub mod back;
+pub mod blocks;
 pub mod fields;
 pub mod flow;
 pub mod input;
 pub mod listing;
 pub mod map;
 mod mode;
+pub mod replay;
 pub mod sweep;
 pub mod tracer;
 pub mod views;
