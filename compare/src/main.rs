@@ -10,6 +10,7 @@ mod joined;
 mod lent;
 mod list_text;
 mod listing;
+mod logs;
 mod maps;
 mod ours;
 mod program;
@@ -57,6 +58,7 @@ fn main() -> ExitCode {
     sweeps::compare(&mut tally, &mut random);
     wrapping::compare(&mut tally, &mut random);
     joined::compare(&mut tally, &mut random);
+    logs::compare(&mut tally, &mut random);
     match tally.report() {
         true => ExitCode::SUCCESS,
         false => ExitCode::FAILURE,

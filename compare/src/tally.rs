@@ -1,5 +1,6 @@
 //! What was compared and what differed.
 
+use crate::logs::Logs;
 use compare::original::{self, FORMS};
 use std::fmt::Debug;
 
@@ -34,9 +35,12 @@ pub enum Call {
     ModesAlike,
     /// What our traces from two entry lists say of ours from the lists joined, where no B8 0D 21 stands.
     Joined,
+    /// A log, whole and in blocks.
+    Replay,
+    Blocks,
 }
 
-const CALLS: [(Call, &str); 25] = [
+const CALLS: [(Call, &str); 27] = [
     (Call::Decode, "decode"),
     (Call::Encode, "encode"),
     (Call::Resolve, "resolve"),
@@ -62,6 +66,8 @@ const CALLS: [(Call, &str); 25] = [
     (Call::MapUpdate, "map update"),
     (Call::ModesAlike, "modes alike"),
     (Call::Joined, "joined lists"),
+    (Call::Replay, "replay"),
+    (Call::Blocks, "log in blocks"),
 ];
 
 impl Call {
@@ -72,6 +78,7 @@ impl Call {
             Call::ReadBack | Call::MapBuild | Call::MapTest | Call::MapCount => "document 02",
             Call::MapFirstData | Call::MapUpdate => "document 02",
             Call::ModesAlike | Call::Joined => "document 02",
+            Call::Replay | Call::Blocks => "document 02",
             _ => "document 01",
         }
     }
@@ -218,6 +225,7 @@ pub struct Tally {
     listings: Listings,
     pub backs: Backs,
     pub texts: Texts,
+    pub logs: Logs,
     all: Counts,
 }
 
@@ -236,6 +244,7 @@ impl Tally {
             listings: Listings::default(),
             backs: Backs::default(),
             texts: Texts::default(),
+            logs: Logs::default(),
             all: Counts::default(),
         }
     }
@@ -307,6 +316,12 @@ impl Tally {
         self.all.differ += 1;
     }
 
+    /// Notes that the plain blocks do not come to what the plain replay says.
+    pub fn blocks_differ(&mut self, what: impl FnOnce() -> String) {
+        self.show(|| format!("the plain blocks against the plain replay: {}", what()));
+        self.all.differ += 1;
+    }
+
     fn show(&self, text: impl FnOnce() -> String) {
         if self.all.differ < SHOWN {
             println!("differ: {}", text());
@@ -325,6 +340,7 @@ impl Tally {
         self.wrapping.report();
         self.pinned.report();
         self.joined.report();
+        self.logs.report();
         let all = &self.all;
         let (alone, alone_differ) = (all.alone, all.alone_differ);
         let (wrapping, wrapping_differ) = (all.wrapping, all.wrapping_differ);
