@@ -7,6 +7,7 @@ mod clock;
 mod family;
 mod games;
 mod ladder;
+mod logs;
 #[path = "../../compare/src/ours.rs"]
 #[allow(dead_code)]
 mod ours;
@@ -64,5 +65,6 @@ fn all(random: &mut Random) -> Result<(), &'static str> {
     report::table(&table, &whole);
     report::aims(&table);
     family::measure(random)?;
-    ladder::measure()
+    ladder::measure()?;
+    logs::measure(&whole, random)
 }

@@ -113,6 +113,11 @@ fn ratio(one: Option<f64>, other: Option<f64>) -> String {
     }
 }
 
+/// How many times as long one takes as the other.
+pub fn quotient(one: Option<f64>, other: Option<f64>) -> f64 {
+    one.zip(other).map_or(f64::NAN, |(one, other)| one / other)
+}
+
 /// The aims, by the worst of the lengths where none is named.
 pub fn aims(table: &Table) {
     println!("\naims, by the worst of the lengths where none is named");
@@ -166,7 +171,7 @@ pub fn aims(table: &Table) {
     }
 }
 
-fn aim(words: &str, figure: f64, reached: bool) {
+pub fn aim(words: &str, figure: f64, reached: bool) {
     let verdict = if reached { "reached" } else { "NOT REACHED" };
     println!("{words:<50} {figure:>7.2}  {verdict}");
 }

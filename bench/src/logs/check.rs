@@ -1,0 +1,67 @@
+//! Holds the two sides against each other, before a log is measured.
+
+use super::{Log, by_blocks};
+use crate::ours;
+use crate::plain::replay::{Refused, Replayer, Totals};
+use compare::answer::Answer;
+
+/// What a byte of a log is changed to.
+const CHANGES: &[u8; 8] = b"0137AFf\n";
+
+/// An answer and the counts.
+type Outcome = (Answer, Vec<u64>);
+
+/// As they are, and spoiled: of a thousand lines how many are interrupts and how many are free moves.
+pub fn whole(logs: &[Log]) -> Result<[f64; 2], &'static str> {
+    let mut totals = [0.0; 2];
+    for log in logs {
+        let answer = both(log)?.0;
+        if !answer.done() {
+            return Err("a log that is refused");
+        }
+        let [lines, interrupts, free, ..] = answer.values.map(|value| value as f64);
+        totals[0] += interrupts / lines * 1e3 / logs.len() as f64;
+        totals[1] += free / lines * 1e3 / logs.len() as f64;
+        for (turn, byte) in CHANGES.iter().enumerate() {
+            let at = (turn + 1) * 0x9E37_79B1 % log.text.len();
+            both(&log.changed(at, *byte))?;
+        }
+    }
+    Ok(totals)
+}
+
+/// After closing, the same as whole.
+pub fn in_blocks(logs: &[Log], size: usize) -> Result<(), &'static str> {
+    for log in logs {
+        let mut counts = vec![0; 65_536];
+        let answer = by_blocks(log, size, &mut counts);
+        if (answer, counts) != both(log)? {
+            return Err("a log in blocks");
+        }
+    }
+    Ok(())
+}
+
+fn both(log: &Log) -> Result<Outcome, &'static str> {
+    let (mut counts, mut plain) = (vec![0; 65_536], vec![0; 65_536]);
+    let answer = ours::replay(log.traced(), &log.text, &mut counts);
+    let told = log.plain(&mut Replayer::default(), &mut plain);
+    match (answer, &counts) == (plain_answer(told), &plain) {
+        true => Ok((answer, counts)),
+        false => Err("replay"),
+    }
+}
+
+fn plain_answer(told: Result<Totals, Refused>) -> Answer {
+    let (number, line) = match told {
+        Ok(totals) => {
+            let values = [totals.lines, totals.interrupts, totals.free];
+            return Answer::new(Answer::DONE, &values.map(|value| value as i64));
+        }
+        Err(Refused::Malformed(line)) => (Answer::NO_LINE, line),
+        Err(Refused::Untraced(line)) => (Answer::UNTRACED, line),
+        Err(Refused::Forbidden(line)) => (Answer::FORBIDDEN, line),
+        Err(Refused::Full(line)) => (Answer::FULL, line),
+    };
+    Answer::new(number, &[line as i64])
+}
