@@ -11,11 +11,13 @@ mod walk;
 
 use crate::lent::Lent;
 use crate::ours;
+use crate::rings;
 use crate::steps::shown;
 use crate::tally::{Call, Judge, Tally};
 use crate::views::{self, Outcome};
-use compare::paper::Mode;
+use compare::answer::Answer;
 use compare::paper::replay::{self as paper, Told, Traced};
+use compare::paper::{Mode, flow, tracer};
 use compare::random::Random;
 use scene::Scene;
 pub use sums::Logs;
@@ -25,12 +27,14 @@ type Make = fn(&mut Random) -> Scene;
 /// How many traced images there are of a kind, how many logs over each, and how many lines each of these has at most.
 const WALKED: [(Make, u64, u64, u64); 6] = [
     (scene::short, 30_000, 10, 24),
-    (scene::middle, 5_000, 12, 80),
-    (scene::game, 150, 40, 600),
-    (scene::game, 10, 10, 6_000),
-    (scene::ring, 90, 12, 200),
+    (scene::middle, 8_000, 12, 80),
+    (scene::game, 300, 40, 600),
+    (scene::game, 20, 10, 6_000),
+    (scene::ring, 300, 12, 200),
     (scene::too_long, 20, 3, 4),
 ];
+/// Of one traced image so many moves over the end of memory at most.
+const LEAVING: usize = 6;
 /// So much of a text is shown.
 const SHOWN: usize = 240;
 
@@ -40,6 +44,7 @@ pub fn compare(tally: &mut Tally, random: &mut Random) {
         for _ in 0..scenes {
             let scene = make(random);
             (0..logs).for_each(|_| walked(tally, random, &scene, most));
+            leaving(tally, random, &scene);
         }
     }
     changing::compare(tally, random);
@@ -70,6 +75,26 @@ fn walked(tally: &mut Tally, random: &mut Random, scene: &Scene, most: u64) {
     given.compare(tally, random);
 }
 
+/// Two lines, from a traced position with a target that leaves memory to where that leads in wrapping mode.
+fn leaving(tally: &mut Tally, random: &mut Random, scene: &Scene) {
+    let traced = scene.traced(&[]);
+    let memory = scene.image.len().min(tracer::LONGEST);
+    let positions = (0..memory).filter(|at| traced.is_traced(*at));
+    let positions = rings::leaving(&scene.image, positions.map(|at| at as u32));
+    for _ in 0..LEAVING.min(positions.len()) {
+        let from = random.pick(&positions) as usize;
+        let targets = flow::targets_at(Mode::Wrapping, &scene.image, from);
+        let to = random.pick(&targets) as usize;
+        let entries = scene.entries(random);
+        let given = Given {
+            traced: scene.traced(&entries),
+            text: &walk::text(&[from, to]),
+            counts: walk::counts(random, scene.image.len(), &[from, to]),
+        };
+        given.compare(tally, random);
+    }
+}
+
 /// A log and what is lent with it.
 struct Given<'a> {
     traced: Traced<'a>,
@@ -95,7 +120,7 @@ impl Given<'_> {
     }
 
     /// A refused replay leaves the counts.
-    fn expected(&self, told: &Result<Told, compare::answer::Answer>) -> Outcome<u64> {
+    fn expected(&self, told: &Result<Told, Answer>) -> Outcome<u64> {
         let mut counts = self.counts.clone();
         match told {
             Err(refusal) => Outcome(*refusal, counts),

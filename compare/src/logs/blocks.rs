@@ -265,7 +265,9 @@ impl Lending {
         let block = if length == 0 { &[] } else { block };
         let (few, some) = (fewer.min(traced.marks.len()), fewer.min(counts.len()));
         let mut damaged = traced.marks.to_vec();
-        damaged[fewer / 2..few.max(fewer / 2)].fill(DAMAGE);
+        if let Some(mark) = damaged.get_mut(length / 2) {
+            *mark = DAMAGE;
+        }
         let marks = match self {
             Lending::FewMarks => &damaged[..few],
             Lending::Damage => &damaged,

@@ -3,6 +3,7 @@
 use super::blocks::is_held;
 use compare::answer::Answer;
 use compare::paper::replay::{By, Told, Traced};
+use compare::paper::{Mode, flow};
 
 #[derive(Default)]
 pub struct Logs {
@@ -19,6 +20,8 @@ pub struct Logs {
     to_entries: u64,
     returns: u64,
     unfollowed: u64,
+    /// To a target over the end of memory.
+    over: u64,
     lines: u64,
     longest: usize,
     /// Ways of cutting, blocks, blocks after a refusal, and those refused for what is lent, after which others are taken.
@@ -51,7 +54,11 @@ impl Logs {
     fn count_move(&mut self, traced: Traced, last: usize, (at, by): (usize, By)) {
         let is_free = traced.is_free_after(last);
         match by {
-            By::Target => self.to_entries += u64::from(traced.entries.contains(&(at as u32))),
+            By::Target => {
+                let unwrapped = flow::targets_at(Mode::Unwrapped, traced.image, last);
+                self.over += u64::from(!unwrapped.contains(&(at as i64)));
+                self.to_entries += u64::from(traced.entries.contains(&(at as u32)));
+            }
             By::Interrupt => self.returns += u64::from(is_free),
             By::Free => self.unfollowed += u64::from(traced.image[last] == 0x21),
             By::Beginning => (),
@@ -78,10 +85,11 @@ impl Logs {
              refused for a line {refused}, for one after the first {later}"
         );
         let (to_entries, returns, unfollowed) = (self.to_entries, self.returns, self.unfollowed);
-        let (lines, longest) = (self.lines, self.longest);
+        let (lines, longest, over) = (self.lines, self.longest, self.over);
+        println!("logs: lines taken {lines}, the most in one {longest}");
         println!(
-            "logs: lines taken {lines}, the most in one {longest}; targets that are entries {to_entries}, \
-             returns to entries {returns}, free moves after a Jmpf that is not followed {unfollowed}"
+            "logs: moves to targets over the end of memory {over}, to targets that are entries {to_entries}, \
+             of returns to entries {returns}, free after a Jmpf that is not followed {unfollowed}"
         );
         let (ways, blocks, after, apart) = (self.ways, self.blocks, self.after, self.apart);
         println!(
