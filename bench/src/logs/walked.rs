@@ -11,6 +11,8 @@ use std::io::Write;
 
 /// One move in so many is an interrupt.
 const INTERRUPTS: u64 = 200;
+/// And one in so many has nothing to come back to, so that no loop is stayed in.
+const RESETS: u64 = 2_000;
 /// The most places to return to.
 const DEEPEST: usize = 64;
 
@@ -75,6 +77,10 @@ impl Log {
             at = next.unwrap_or(entry);
             if random.below(INTERRUPTS) == 0 {
                 returns.push(at);
+                at = entry;
+            }
+            if random.below(RESETS) == 0 {
+                returns.clear();
                 at = entry;
             }
             returns.truncate(DEEPEST);
