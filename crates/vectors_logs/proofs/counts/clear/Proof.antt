@@ -1,0 +1,19 @@
+-- `counts::clear` is safe and ends.
+-- Assumes nothing.
+use Prim.Native.Nat.{_-_, _≤_}
+use mathlib.Core.Path.{_≡_}
+use borrow.Author.Needs.{needs}
+use lib.ListN.{length}
+use Rattle.vectors_logs.proofs.counts.clear.Statement.{statement}
+use Rattle.vectors_logs.proofs.counts.clear.Tie as tie
+
+abbrev Inv-loop : tie.InvT-loop
+Inv-loop counts₀ i₀ counts i = (i ≤ length counts₀) × (length counts ≡ length counts₀)
+
+abbrev μ-loop : tie.MeasureT-loop
+μ-loop counts₀ i₀ counts i = length counts₀ - i
+
+pub clear-spec : {M : Type 1} → statement M
+clear-spec =
+    tie.close
+    (tie.spec Inv-loop μ-loop (λ c. search needs) (λ c. search needs) (λ c. search needs) (λ c. search needs) (λ c. search needs) (λ c. search needs) (λ c. search needs) (λ c. search needs))
