@@ -205,7 +205,7 @@ pub fn marks(random: &mut Random, image: &[u8]) -> Vec<u8> {
     }
     for (at, mark) in marks.iter_mut().enumerate().take(image.len()) {
         let whole = at + flow::size(image[at]) <= image.len();
-        *mark = match (*mark % 4, whole) {
+        *mark = match (*mark % 5, whole) {
             (2 | 3, false) => 1,
             (3, true) if image[at] != JMPF => 2,
             (mark, _) => mark,
@@ -213,7 +213,7 @@ pub fn marks(random: &mut Random, image: &[u8]) -> Vec<u8> {
     }
     if random.below(4) == 0 && !marks.is_empty() {
         let at = random.below(marks.len() as u64) as usize;
-        marks[at] = random.pick(&[2, 3, 3, 4, 5, 255]);
+        marks[at] = random.pick(&[2, 3, 3, 5, 9, 255]);
     }
     marks
 }
