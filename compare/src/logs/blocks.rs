@@ -14,7 +14,7 @@ use compare::random::Random;
 const MOST: [(usize, usize); 3] = [(300, 250), (4_500, 60), (usize::MAX, 5)];
 /// Logs up to this length are cut at every place, one in so many of them.
 const SHORT: usize = 42;
-const CUT_EVERYWHERE: u64 = 24;
+const CUT_EVERYWHERE: u64 = 6;
 /// A mark that damages.
 const DAMAGE: u8 = 9;
 /// An image that is too long.
