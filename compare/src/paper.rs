@@ -11,6 +11,7 @@ pub mod listing;
 pub mod map;
 mod mode;
 pub mod replay;
+pub mod reached;
 pub mod sweep;
 pub mod tracer;
 pub mod views;

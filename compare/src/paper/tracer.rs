@@ -73,7 +73,7 @@ pub(super) fn cut_off(image: &[u8], at: usize) -> Option<Answer> {
 }
 
 /// Whether a Jmpf stands at a position with B8 0D before it.
-fn after_flash(image: &[u8], at: usize) -> bool {
+pub fn after_flash(image: &[u8], at: usize) -> bool {
     at >= 2 && image[at - 2..=at] == [0xB8, 0x0D, 0x21]
 }
 
