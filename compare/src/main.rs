@@ -2,6 +2,7 @@
 //! compared and how many differ; the exit status is 1 if any does.
 
 mod back;
+mod between;
 mod changed;
 mod decode;
 mod edits;
@@ -58,6 +59,7 @@ fn main() -> ExitCode {
     sweeps::compare(&mut tally, &mut random);
     wrapping::compare(&mut tally, &mut random);
     joined::compare(&mut tally, &mut random);
+    between::compare(&mut tally, &mut random);
     logs::compare(&mut tally, &mut random);
     match tally.report() {
         true => ExitCode::SUCCESS,

@@ -38,9 +38,13 @@ pub enum Call {
     /// A log, whole and in blocks.
     Replay,
     Blocks,
+    /// What two sets by the bytes alone say of our traces, where B8 0D 21 stands.
+    Between,
+    /// What a run may come to at most.
+    Ceilings,
 }
 
-const CALLS: [(Call, &str); 27] = [
+const CALLS: [(Call, &str); 29] = [
     (Call::Decode, "decode"),
     (Call::Encode, "encode"),
     (Call::Resolve, "resolve"),
@@ -68,6 +72,8 @@ const CALLS: [(Call, &str); 27] = [
     (Call::Joined, "joined lists"),
     (Call::Replay, "replay"),
     (Call::Blocks, "log in blocks"),
+    (Call::Between, "between"),
+    (Call::Ceilings, "ceilings"),
 ];
 
 impl Call {
@@ -79,6 +85,7 @@ impl Call {
             Call::MapFirstData | Call::MapUpdate => "document 02",
             Call::ModesAlike | Call::Joined => "document 02",
             Call::Replay | Call::Blocks => "document 02",
+            Call::Between | Call::Ceilings => "document 02",
             _ => "document 01",
         }
     }
@@ -184,6 +191,30 @@ pub struct Joined {
     pub wrapped: u64,
 }
 
+/// What the images rich in B8 0D 21 came to, and the runs under ceilings.
+#[derive(Default)]
+pub struct Between {
+    /// With B8 0D 21.
+    pub images: u64,
+    /// With at least one pin, and of any in wrapping mode with other sets than unwrapped.
+    pub pinned: u64,
+    pub wrapped: u64,
+    /// Where the two sets differ, where they do so in positions that are cut off alone, and where they are equal though such a Jmpf is
+    /// reached.
+    pub differ: u64,
+    pub cut_alone: u64,
+    pub agree: u64,
+    /// Where two orders traced different positions.
+    pub orders: u64,
+    /// Runs, those that were cut off, and those that reached each ceiling with at least one step.
+    pub runs: u64,
+    pub cut_off: u64,
+    pub steps: u64,
+    pub noted: u64,
+    pub mask: u64,
+    pub target_marks: u64,
+}
+
 /// The lines of the listings, by their letters.
 #[derive(Default)]
 struct Listings {
@@ -220,6 +251,7 @@ pub struct Tally {
     pub wrapping: Wrapping,
     pub pinned: Pinned,
     pub joined: Joined,
+    pub between: Between,
     taken: [u64; FORMS],
     listed: [u64; FORMS],
     listings: Listings,
@@ -239,6 +271,7 @@ impl Tally {
             wrapping: Wrapping::default(),
             pinned: Pinned::default(),
             joined: Joined::default(),
+            between: Between::default(),
             taken: [0; FORMS],
             listed: [0; FORMS],
             listings: Listings::default(),
@@ -341,6 +374,7 @@ impl Tally {
         self.pinned.report();
         self.joined.report();
         self.logs.report();
+        self.between.report();
         let all = &self.all;
         let (alone, alone_differ) = (all.alone, all.alone_differ);
         let (wrapping, wrapping_differ) = (all.wrapping, all.wrapping_differ);
@@ -471,6 +505,27 @@ impl Joined {
             "joined entry lists: pairs {pairs}, with pins {pinned}, where both lists trace what the other does not {each}, with positions waiting {waiting}"
         );
         println!("joined entry lists: wrapping, with other marks than unwrapped {wrapped}");
+    }
+}
+
+impl Between {
+    fn report(&self) {
+        let (images, pinned, wrapped) = (self.images, self.pinned, self.wrapped);
+        let (differ, cut_alone) = (self.differ, self.cut_alone);
+        let (agree, orders) = (self.agree, self.orders);
+        println!(
+            "images with B8 0D 21: {images}, with pins {pinned}, with other sets than unwrapped {wrapped}"
+        );
+        println!(
+            "images with B8 0D 21: where the two sets differ {differ}, in what is cut off alone {cut_alone}, \
+             where orders traced different positions {orders}; agreeing with such a Jmpf reached {agree}"
+        );
+        let (runs, cut_off, steps) = (self.runs, self.cut_off, self.steps);
+        let (noted, mask, target_marks) = (self.noted, self.mask, self.target_marks);
+        println!(
+            "ceilings: runs {runs}, cut off {cut_off}; reached by steps {steps}, by noted {noted}, \
+             by the mask {mask}, by target marks {target_marks}"
+        );
     }
 }
 
