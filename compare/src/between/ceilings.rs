@@ -30,7 +30,7 @@ struct Fault(&'static str, u32, i64, i64);
 pub fn compare(tally: &mut Tally, random: &mut Random, given: &Given) {
     let length = given.image.len() as u32;
     let distinct = distinct(given);
-    let mut faults = start(random, given, distinct);
+    let mut faults: Vec<Fault> = start(random, given, distinct).into_iter().collect();
     let small = random.below(SMALL) as u32;
     for limit in [0, small, length, NO_LIMIT] {
         let ran = Ran::new(random, given, limit);
@@ -51,17 +51,15 @@ fn distinct(given: &Given) -> usize {
 }
 
 /// These are what start sets.
-fn start(random: &mut Random, given: &Given, distinct: usize) -> Vec<Fault> {
+fn start(random: &mut Random, given: &Given, distinct: usize) -> Option<Fault> {
     let mut marks = Lent::filled(given.image.len(), random, |mixed| mixed as u8);
     let answer = ours::start(&given.image, marks.lend(), &given.entries, &given.pins);
     let set = match answer.done() {
         true => answer.values[0],
         false => -1,
     };
-    let found = Fault("set by start", 0, set, distinct as i64);
-    let mut faults = vec![found];
-    faults.retain(|fault| fault.2 != fault.3);
-    faults
+    let distinct = distinct as i64;
+    (set != distinct).then_some(Fault("set by start", 0, set, distinct))
 }
 
 impl Ran {
@@ -108,33 +106,27 @@ impl Ran {
     /// What was answered is what was left, and all was answered but a run that is cut off.
     fn other(&self, given: &Given) -> Vec<Fault> {
         let length = given.image.len() as i64;
-        let mut pairs = vec![
-            ("mask refused", self.mask.0.number, Answer::DONE),
-            (
-                "target marks refused",
-                self.target_marks.0.number,
-                Answer::DONE,
-            ),
+        let number = |answer: &Answer| i64::from(answer.number);
+        let [_, steps, noted, ..] = self.answer.values;
+        let ran = [
+            ("run refused", number(&self.answer), 0),
+            ("steps answered", steps, self.steps as i64),
+            ("noted answered", noted, self.noted as i64),
         ];
-        let mut answered = vec![
-            ("mask's length", self.mask.0.values[0], length),
-            (
-                "target marks' length",
-                self.target_marks.0.values[0],
-                length,
-            ),
-        ];
-        if self.answer.number != Answer::CUT_OFF {
-            pairs.push(("run refused", self.answer.number, Answer::DONE));
-            let [_, steps, noted, ..] = self.answer.values;
-            answered.push(("steps answered", steps, self.steps as i64));
-            answered.push(("noted answered", noted, self.noted as i64));
+        let mut pairs = match self.answer.number {
+            Answer::CUT_OFF => vec![],
+            _ => ran.to_vec(),
+        };
+        for (what, answer) in [
+            ("mask", &self.mask.0),
+            ("target marks", &self.target_marks.0),
+        ] {
+            pairs.push((what, number(answer), 0));
+            pairs.push((what, answer.values[0], length));
         }
-        let numbers = pairs.into_iter();
-        let numbers = numbers.map(|(what, ours, due)| (what, i64::from(ours), i64::from(due)));
-        let all = numbers.chain(answered).filter(|(_, ours, due)| ours != due);
-        all.map(|(what, ours, due)| Fault(what, self.limit, ours, due))
-            .collect()
+        let other = pairs.into_iter().filter(|(_, ours, due)| ours != due);
+        let fault = |(what, ours, due)| Fault(what, self.limit, ours, due);
+        other.map(fault).collect()
     }
 
     /// A ceiling is reached where there is at least one step.
