@@ -9,3 +9,4 @@ pub mod Within
 pub mod WaysAre
 pub mod Naming
 pub mod Openings
+pub mod Falling

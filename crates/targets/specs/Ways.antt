@@ -1,13 +1,18 @@
 -- Where control goes from a position: at most two positions. Document 01, 'Targets' and 'Marks and steps'.
 -- Assumes nothing.
-use Prim.Native.Nat.{ℕ}
-use mathlib.Core.Bool.{Bool, cond, _&&_}
+use Prim.Native.Nat.{ℕ, _+_}
+use mathlib.Core.Bool.{Bool, true, false, cond, _&&_}
 use mathlib.Core.List.{List, [], _∷_}
-use lib.Dec.{ltb, leb}
+use lib.Dec.{eqb, ltb, leb}
+use lib.IntN.{pos}
 use lib.ListN.{length}
 use Rattle.instruction.specs.Decode.{cutAt}
 use Rattle.instruction.specs.declared.mode.Mode.{Mode}
-use Rattle.targets.specs.At.{fitsHere, waysHere, nameHere}
+use Rattle.targets.specs.At.{formHere, sizeHere, fitsHere, placeOf, waysHere, nameHere}
+use Rattle.targets.specs.Targets.{inMode}
+use Rattle.instruction.specs.Flow.{flowOf}
+use Rattle.instruction.specs.declared.flow.Flow.{Flow}
+use Rattle.instruction.specs.declared.flow.Flow.the-variants.{Stop, Next, Jump, Branch}
 use Rattle.targets.specs.declared.place.Places.{Places}
 use Rattle.targets.specs.declared.place.Places.the-variants.{Nothing, First, Both}
 use Rattle.targets.specs.declared.place.Ways.{Ways}
@@ -38,3 +43,15 @@ unfoldable pub waysOf : Mode → List ℕ → ℕ → Ways
 waysOf mode image p =
     cond (ltb p (length image) && leb (length image) 65536)
     (cond (fitsHere image p) (Goes (placesNamed (waysHere mode image p))) (Cut (cutAt image p))) Outside
+
+-- control goes on behind an instruction of this flow
+abbrev pub goesOn : Flow → Bool
+goesOn Stop = false
+goesOn Next = true
+goesOn Jump = false
+goesOn Branch = true
+
+-- p stands right behind the whole instruction at q, and control goes on to it
+unfoldable pub fallsTo : Mode → List ℕ → ℕ → ℕ → Bool
+fallsTo mode image q p =
+    isWhole image q && (goesOn (flowOf (formHere image q)) && eqb p (placeOf (inMode mode (pos (q + sizeHere image q)))))

@@ -17,5 +17,6 @@ pub use instr_targets::targets;
 pub use name::name_at;
 pub use place::Places;
 pub use place::Ways;
+pub use place::falls_to;
 pub use place::ways_at;
 pub use target::Targets;

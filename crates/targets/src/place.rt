@@ -7,7 +7,7 @@ ghost use lib.ListN.{length};
 ghost use Rattle.targets.specs.At.{formHere, sizeHere, fitsHere, placeOf, waysHere};
 ghost use lib.IntN.{pos};
 ghost use Rattle.targets.specs.Targets.{inMode};
-ghost use Rattle.targets.specs.Ways.{placesIn, waysOf};
+ghost use Rattle.targets.specs.Ways.{placesIn, waysOf, goesOn, fallsTo};
 use crate::address;
 use crate::image::Image;
 use crate::opening;
@@ -76,5 +76,32 @@ pub fn ways_at(mode: Mode, image: &[u8], p: u32) -> Ways
         Opening::Whole(next, flow) => Ways::Goes(places_by(mode, image, p, next, flow)),
         Opening::Cut(c) => Ways::Cut(c),
         Opening::Outside => Ways::Outside,
+    }
+}
+
+fn goes_on(flow: Flow) -> bool
+    ensures { λ r. ⌜ r ≡ goesOn flow ⌝ }
+{
+    match flow {
+        Flow::Stop => false,
+        Flow::Next => true,
+        Flow::Jump => false,
+        Flow::Branch => true,
+    }
+}
+
+// Whether p stands right behind the instruction at q and control goes on to it. No operand is looked at.
+pub fn falls_to(mode: Mode, image: &[u8], q: u32, p: u32) -> bool
+    ensures { λ r. ⌜ r ≡ fallsTo mode (now (image .entry)) q p ⌝ }
+{
+    match opening::opening_at(image, q) {
+        Opening::Whole(next, flow) => {
+            if !goes_on(flow) {
+                return false;
+            }
+            p == next_place(mode, next)
+        }
+        Opening::Cut(_) => false,
+        Opening::Outside => false,
     }
 }

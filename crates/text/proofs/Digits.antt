@@ -12,7 +12,7 @@ use lib.Seq.{drop-cons}
 use borrow.Author.Tests.{leb-true, leb-false, le-leb, lt-leb}
 use Rattle.instruction.proofs.Ands.{not-second}
 use Rattle.instruction.proofs.Sign.{never}
-use Rattle.text.specs.Hex.{within, isDigit, digitOf, allHex}
+use Rattle.text.specs.Hex.{within, isDigit, digitOf, allHex, valueOf}
 
 or-false : (t : Bool) → t ≡ (t || false)
 or-false true = refl
@@ -106,3 +106,11 @@ digit-small b = by (isDigit b) refl (leb b 57) refl
     by false e u f = omega (arith, no-value b e)
     by true e true f = let v = low-value b e (leb-true b 57 f) in omega (arith, v .0, v .1)
     by true e false f = let v = high-value b e (leb-false b 57 f) in omega (arith, v .0, v .1)
+
+-- the value of a byte: 16 where it is no digit
+module _ (b : ℕ) where
+  pub none-value : isDigit b ≡ false → 16 ≡ valueOf b
+  none-value e = rw e refl
+
+  pub some-value : (v : ℕ) → isDigit b ≡ true → v ≡ digitOf b → v ≡ valueOf b
+  some-value v e f = f ∙ rw e refl

@@ -5,3 +5,4 @@ pub mod Digits
 pub mod Fours
 pub mod Pairs
 pub mod PairPuts
+pub mod FourRead

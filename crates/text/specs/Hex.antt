@@ -17,6 +17,10 @@ isDigit b = within 48 57 b || within 65 70 b
 unfoldable pub digitOf : ℕ → ℕ
 digitOf b = cond (within 48 57 b) (b - 48) (cond (within 65 70 b) (b - 55) 0)
 
+-- the value of a digit; 16, which none has, for any other byte
+abbrev pub valueOf : ℕ → ℕ
+valueOf b = cond (isDigit b) (digitOf b) 16
+
 -- every byte is a digit
 unfoldable pub allHex : List ℕ → Bool
 allHex [] = true

@@ -1,6 +1,6 @@
 // Four upper-case hex digits, which stand for a number.
 ghost use mathlib.Core.Path.{_≡_};
-ghost use Rattle.text.specs.Four.{isFour, fourOf};
+ghost use Rattle.text.specs.Four.{isFour, fourOf, fourIn};
 use crate::hex;
 
 // Whether a field is four digits.
@@ -19,4 +19,30 @@ pub fn four_of(field: &[u8]) -> u32
 {
     let high = hex::digit_at(field, 0) * 16 + hex::digit_at(field, 1);
     (high * 16 + hex::digit_at(field, 2)) * 16 + hex::digit_at(field, 3)
+}
+
+// The number that a field of four digits stands for; 65,536, which none does, where it is no such field.
+pub fn read_four(field: &[u8]) -> u32
+    ensures { λ r. ⌜ r ≡ fourIn (now (field .entry)) ⌝ }
+{
+    if field.len() != 4 {
+        return 65_536;
+    }
+    let a = hex::value(field[0]);
+    let b = hex::value(field[1]);
+    let c = hex::value(field[2]);
+    let d = hex::value(field[3]);
+    if a == 16 {
+        return 65_536;
+    }
+    if b == 16 {
+        return 65_536;
+    }
+    if c == 16 {
+        return 65_536;
+    }
+    if d == 16 {
+        return 65_536;
+    }
+    ((a * 16 + b) * 16 + c) * 16 + d
 }

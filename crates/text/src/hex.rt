@@ -2,7 +2,7 @@
 ghost use mathlib.Core.Path.{_≡_};
 ghost use Prim.Native.Nat.{_+_, _*_, _<_};
 ghost use lib.ListN.{getD};
-ghost use Rattle.text.specs.Hex.{isDigit, digitOf, allHex};
+ghost use Rattle.text.specs.Hex.{isDigit, digitOf, valueOf, allHex};
 
 // Whether a byte is a digit.
 pub fn is_digit(b: u8) -> bool
@@ -20,6 +20,19 @@ pub fn digit(b: u8) -> u32
 {
     if !is_digit(b) {
         return 0;
+    }
+    if b <= b'9' {
+        return b as u32 - 48;
+    }
+    b as u32 - 55
+}
+
+// The value of a digit; 16 for any other byte.
+pub fn value(b: u8) -> u32
+    ensures { λ r. ⌜ (r ≡ valueOf b) × (r < 17) ⌝ }
+{
+    if !is_digit(b) {
+        return 16;
     }
     if b <= b'9' {
         return b as u32 - 48;
