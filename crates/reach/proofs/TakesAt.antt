@@ -30,7 +30,7 @@ module _ (G : Tracer) (m : List ℕ) (p : ℕ) (l : G .size ≤ length m) (R : R
       by (called ne i o x) = absurd (live-ne (inr t) (o .clear))
 
   -- what is traced afterwards was before, or is p
-  traced-took : (q : ℕ) → IsTraced (getD (took G m p) q 0) → (q ≡ p) ⊎ IsTraced (getD m q 0)
+  pub traced-took : (q : ℕ) → IsTraced (getD (took G m p) q 0) → (q ≡ p) ⊎ IsTraced (getD m q 0)
   traced-took q t = by (moved G m p q l (R .inside))
     where
       by : Moved G m p q → (q ≡ p) ⊎ IsTraced (getD m q 0)

@@ -6,6 +6,7 @@ pub mod Reach
 pub mod Run
 pub mod Queue
 pub mod Sweep
+pub mod Worklist
 pub mod Pins
 pub mod HowMany
 pub mod ClaimsTests
@@ -18,3 +19,4 @@ pub mod ClaimsSweep
 pub mod ClaimsJoin
 pub mod ClaimsPins
 pub mod ClaimsAlike
+pub mod ClaimsWorklist
