@@ -109,12 +109,12 @@ image-sweep-run mode image marks order entries pins limit s B C a f =
     ∙ sym (finish.marks-are mode image marks order entries pins limit s a)
 
 module _ (mode : Mode) (image marks order entries pins : List ℕ) (limit : ℕ) (small : length image ≤ 65536) (room : length image ≤ length marks) (places : length image ≤ length order) where
-  judged : runJudged image marks order ≡ accepted tt
+  pub judged : runJudged image marks order ≡ accepted tt
   judged =
       pass _ _ tt (le-ltb 65536 (length image) small) ∙ pass _ _ tt (le-ltb (length marks) (length image) room)
       ∙ pass _ _ tt (le-ltb (length order) (length image) places) ∙ done tt
 
-  answer-is : runAnswer mode image marks order entries pins limit ≡ ranAnswer image (outcomeOf mode image marks entries pins limit)
+  pub answer-is : runAnswer mode image marks order entries pins limit ≡ ranAnswer image (outcomeOf mode image marks entries pins limit)
   unfolding runAnswer
   answer-is = ap (λ (q : Answer (Unit {0})). andThen q (ranAnswer image (outcomeOf mode image marks entries pins limit))) judged
 

@@ -27,3 +27,6 @@ pub mod ClaimsBetweenComputed
 pub mod CeilingsOf
 pub mod ClaimsCeilingsRun
 pub mod ClaimsCeilingsComputed
+pub mod ByTraced
+pub mod ClaimsWorklistRuns
+pub mod ClaimsWorklistComputed

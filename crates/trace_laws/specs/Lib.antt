@@ -12,3 +12,4 @@ pub mod ClaimsBetween
 pub mod ClaimsBetweenJoin
 pub mod ClaimsBetweenSamples
 pub mod ClaimsCeilings
+pub mod ClaimsWorklist
