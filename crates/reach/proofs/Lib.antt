@@ -68,9 +68,9 @@ pub mod Join
 pub mod BetweenLike
 pub mod JoinSample
 pub mod NoteAlike
-pub mod Missing
-pub mod Kept
-pub mod Stands
+pub mod Uncontained
+pub mod Lasting
+pub mod Abreast
 pub mod Visit
 pub mod VisitAgain
 pub mod VisitFirst

@@ -16,10 +16,10 @@ use Rattle.reach.specs.Worklist.{Graph, Built, containsInstr, targetsBy,
 use Rattle.reach.proofs.Cases.{lt-or-le, yes-or-no, not-both}
 use Rattle.reach.proofs.Fresh.{among-open-fresh}
 use Rattle.reach.proofs.Mark.{traced-test}
-use Rattle.reach.proofs.Missing.{missing-among}
+use Rattle.reach.proofs.Uncontained.{uncontained-among}
 use Rattle.reach.proofs.Open.{outside-shut}
-use Rattle.reach.proofs.Stands.{Stands}
-use Rattle.reach.proofs.VisitAgain.{pass-queue, pass-stands, again-traced, again-queue, again-stands}
+use Rattle.reach.proofs.Abreast.{Abreast}
+use Rattle.reach.proofs.VisitAgain.{pass-queue, pass-abreast, again-traced, again-queue, again-abreast}
 use Rattle.reach.proofs.VisitFirst.{first-queue}
 use Rattle.reach.proofs.WorklistLaws.{round-over, round-pass, round-visit, rounds-over, rounds-on}
 
@@ -51,18 +51,18 @@ outside-ends most G (p ∷ positions) g out =
 
 module _ (G : Tracer) (T : ByTraced G) where
   -- a repeat pushes nothing inside
-  pushes-outside : (seen : List ℕ) (p : ℕ) (ahead : List ℕ) (g : Graph) (m : List ℕ) (S : Stands G seen (p ∷ ahead) g m) → p < G .size
+  pushes-outside : (seen : List ℕ) (p : ℕ) (ahead : List ℕ) (g : Graph) (m : List ℕ) (S : Abreast G seen (p ∷ ahead) g m) → p < G .size
       → containsInstr g p ≡ true → fresh (G .size) (p ∷ ahead) (g .instrs) ≡ [] → Outside G (pushed G g p)
   unfolding pushed
   pushes-outside seen p ahead g m S h c e t i = by (lt-or-le t (G .size))
     where
-      S′ : Stands G seen (ahead ++ pushed G g p) (visited G g p) m
-      S′ = again-stands G seen p ahead g m S T h c
+      S′ : Abreast G seen (ahead ++ pushed G g p) (visited G g p) m
+      S′ = again-abreast G seen p ahead g m S T h c
 
       clear : (getD (visited G g p .instrs) t 0 ≡ untouched) ⊎ (getD (visited G g p .instrs) t 0 ≡ traced)
           → getD (visited G g p .instrs) t 0 ≡ untouched
       clear (inl z) = z
-      clear (inr z) = absurd (not-both (traced-test _ .1 (inl z)) (missing-among (visited G g p) (targetsBy G g p) t i .1))
+      clear (inr z) = absurd (not-both (traced-test _ .1 (inl z)) (uncontained-among (visited G g p) (targetsBy G g p) t i .1))
 
       by : (t < G .size) ⊎ (G .size ≤ t) → G .size ≤ t
       by (inr k) = k
@@ -72,7 +72,7 @@ module _ (G : Tracer) (T : ByTraced G) where
           absurd (List·Memᴰ·not-nil (rw (sym (again-queue G seen p ahead g m S T h c) ∙ e) at j))
 
   idle-round : (next : List ℕ → Graph → Built) → ((positions : List ℕ) (g : Graph) → Outside G positions → Ends (next positions g))
-      → (locs positions : List ℕ) (g : Graph) (seen m : List ℕ) → Stands G seen (locs ++ positions) g m
+      → (locs positions : List ℕ) (g : Graph) (seen m : List ℕ) → Abreast G seen (locs ++ positions) g m
       → fresh (G .size) (locs ++ positions) (g .instrs) ≡ [] → Outside G positions → Ends (round G locs positions g next)
   idle-round next N [] positions g seen m S e out = rw (round-over G positions g next) (N positions g out)
   idle-round next N (p ∷ locs) positions g seen m S e out =
@@ -80,28 +80,28 @@ module _ (G : Tracer) (T : ByTraced G) where
       (idle-round next N locs (positions ++ pushed G g p) (visited G g p) seen m)
     where
       by : (p < G .size) ⊎ (G .size ≤ p) → (containsInstr g p ≡ true) ⊎ (containsInstr g p ≡ false)
-          → (Stands G seen (locs ++ positions) g m → fresh (G .size) (locs ++ positions) (g .instrs) ≡ [] → Outside G positions
+          → (Abreast G seen (locs ++ positions) g m → fresh (G .size) (locs ++ positions) (g .instrs) ≡ [] → Outside G positions
           → Ends (round G locs positions g next))
-          → (Stands G seen (locs ++ (positions ++ pushed G g p)) (visited G g p) m
+          → (Abreast G seen (locs ++ (positions ++ pushed G g p)) (visited G g p) m
           → fresh (G .size) (locs ++ (positions ++ pushed G g p)) (visited G g p .instrs) ≡ [] → Outside G (positions ++ pushed G g p)
           → Ends (round G locs (positions ++ pushed G g p) (visited G g p) next))
           → Ends (round G (p ∷ locs) positions g next)
       by (inr h) c on push =
           let shut = outside-shut (G .size) (g .instrs) p h in
           rw (round-pass G positions g next p locs h)
-          (on (pass-stands G seen p (locs ++ positions) g m S shut) (sym (pass-queue G seen p (locs ++ positions) g m S shut) ∙ e) out)
+          (on (pass-abreast G seen p (locs ++ positions) g m S shut) (sym (pass-queue G seen p (locs ++ positions) g m S shut) ∙ e) out)
       by (inl h) (inr c) on push =
           let x = sym (first-queue G T seen p (locs ++ positions) g m S h c) ∙ e in
           absurd (omega (arith, ap length x))
       by (inl h) (inl c) on push =
           let a = append-assoc locs positions (pushed G g p) in
-          let f = S .kept .whole p h (again-traced G seen p (locs ++ positions) g m S T h c .1) in
+          let f = S .lasting .whole p h (again-traced G seen p (locs ++ positions) g m S T h c .1) in
           rw (round-visit G positions g next p locs h f)
-          (push (rw a at (again-stands G seen p (locs ++ positions) g m S T h c))
+          (push (rw a at (again-abreast G seen p (locs ++ positions) g m S T h c))
           (rw a at (sym (again-queue G seen p (locs ++ positions) g m S T h c) ∙ e))
           (λ q i. ⊎-elim (λ j. out q j) (λ j. pushes-outside seen p (locs ++ positions) g m S h c e q j) (List·Memᴰ·append-cases positions i)))
 
-  pub idle-ends : (most : ℕ) (positions : List ℕ) (g : Graph) (seen m : List ℕ) → Stands G seen positions g m
+  pub idle-ends : (most : ℕ) (positions : List ℕ) (g : Graph) (seen m : List ℕ) → Abreast G seen positions g m
       → fresh (G .size) positions (g .instrs) ≡ [] → Ends (rounds (suc (suc most)) G positions g)
   idle-ends most [] g seen m S e = finishes (ap (λ (b : Built). b .end) (rounds-over G g (suc (suc most))))
   idle-ends most (p ∷ positions) g seen m S e =

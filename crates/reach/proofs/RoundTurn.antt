@@ -15,14 +15,14 @@ use Rattle.reach.proofs.Cases.{yes-or-no, not-both}
 use Rattle.reach.proofs.IsAmong.{among-test}
 use Rattle.reach.proofs.Mark.{traced-test}
 use Rattle.reach.proofs.RunLaws.{run-stopped, run-cut, run-on}
-use Rattle.reach.proofs.Stands.{Stands}
+use Rattle.reach.proofs.Abreast.{Abreast}
 use Rattle.reach.proofs.VisitFirst.{rest, first-queue, next-queue}
 
 -- the run that goes on beside the worklist
 abbrev pub beside : Tracer → ℕ → List ℕ → Graph → List ℕ → Outcome
 beside G limit ahead g m = runFrom limit G (fresh (G .size) ahead (g .instrs)) m
 
-module _ (G : Tracer) (T : ByTraced G) (p : ℕ) (ahead : List ℕ) (g : Graph) (seen m : List ℕ) (S : Stands G seen (p ∷ ahead) g m)
+module _ (G : Tracer) (T : ByTraced G) (p : ℕ) (ahead : List ℕ) (g : Graph) (seen m : List ℕ) (S : Abreast G seen (p ∷ ahead) g m)
     (h : p < G .size) (c : containsInstr g p ≡ false) where
   pub unseen : isAmong p seen ≡ false
   unseen = by (yes-or-no (isAmong p seen))

@@ -14,9 +14,9 @@ use Rattle.reach.specs.Tracer.{Tracer, targets, held}
 use Rattle.reach.specs.ClaimsWorklist.{ByTraced}
 use Rattle.reach.specs.Worklist.{Graph, targetsBy, visited}
 use Rattle.reach.proofs.Cases.{eq-or-ne}
-use Rattle.reach.proofs.Kept.{held-by}
+use Rattle.reach.proofs.Lasting.{held-by}
 use Rattle.reach.proofs.Set.{set-here}
-use Rattle.reach.proofs.Stands.{TracedIn, Stands, targets-same}
+use Rattle.reach.proofs.Abreast.{TracedIn, Abreast, targets-same}
 
 -- from m to m′ nothing happened but that p is traced, and had these targets, now or before
 pub record Onward (G : Tracer) (m : List ℕ) (p : ℕ) (m′ : List ℕ) : Type 0 where
@@ -27,7 +27,7 @@ pub record Onward (G : Tracer) (m : List ℕ) (p : ℕ) (m′ : List ℕ) : Type
   pub before : (q : ℕ) → TracedIn G m p → Among q (held G m p) → Among q (held G m′ p)
   pub had : (q : ℕ) → Among q (held G m′ p) → Among q (targets G m p) ⊎ (TracedIn G m p × Among q (held G m p))
 
-module _ (G : Tracer) (T : ByTraced G) (seen ahead : List ℕ) (g : Graph) (m m′ : List ℕ) (S : Stands G seen ahead g m) (p : ℕ)
+module _ (G : Tracer) (T : ByTraced G) (seen ahead : List ℕ) (g : Graph) (m m′ : List ℕ) (S : Abreast G seen ahead g m) (p : ℕ)
     (O : Onward G m p m′) where
   pub in-table : p < length (g .instrs)
   in-table = omega (arith, S .long, O .itself .0)

@@ -12,25 +12,25 @@ use Rattle.reach.specs.Note.{Open, note, fresh}
 use Rattle.reach.specs.Tracer.{Tracer, targets}
 use Rattle.reach.specs.ClaimsWorklist.{ByTraced}
 use Rattle.reach.specs.Worklist.{Graph, containsInstr, targetsBy, visited, pushed}
-use Rattle.reach.proofs.Kept.{targets-kept}
+use Rattle.reach.proofs.Lasting.{targets-lasting}
 use Rattle.reach.proofs.Mark.{live-ne, traced-test}
-use Rattle.reach.proofs.Missing.{missing-among}
+use Rattle.reach.proofs.Uncontained.{uncontained-among}
 use Rattle.reach.proofs.Note.{note-shut, fresh-shut, note-append, fresh-append}
 use Rattle.reach.proofs.NoteAlike.{SameOpen, NotedAlike, noted-alike, note-all-shut, fresh-all-shut}
 use Rattle.reach.proofs.Open.{marked-shut}
 use Rattle.reach.proofs.Set.{open-set, set-open}
-use Rattle.reach.proofs.Stands.{TracedIn, Stands, targets-same}
+use Rattle.reach.proofs.Abreast.{TracedIn, Abreast, targets-same}
 use Rattle.reach.proofs.Visit.{Onward, visited-long, visited-table, visited-contained, visited-jumps}
 
-module _ (G : Tracer) (seen : List ℕ) (p : ℕ) (ahead : List ℕ) (g : Graph) (m : List ℕ) (S : Stands G seen (p ∷ ahead) g m) where
+module _ (G : Tracer) (seen : List ℕ) (p : ℕ) (ahead : List ℕ) (g : Graph) (m : List ℕ) (S : Abreast G seen (p ∷ ahead) g m) where
   -- what is ahead without its first, which is not open
   module _ (shut : Open (G .size) (g .instrs) p → ⊥) where
     pub pass-queue : fresh (G .size) (p ∷ ahead) (g .instrs) ≡ fresh (G .size) ahead (g .instrs)
     pass-queue = fresh-shut (G .size) (g .instrs) p ahead shut
 
-    pub pass-stands : Stands G seen ahead g m
-    pass-stands = record {
-      kept = S .kept;
+    pub pass-abreast : Abreast G seen ahead g m
+    pass-abreast = record {
+      lasting = S .lasting;
       line = rw pass-queue at (S .line);
       same-open = rw (note-shut (G .size) (g .instrs) p ahead shut) at (S .same-open);
       long = S .long;
@@ -56,7 +56,7 @@ module _ (G : Tracer) (seen : List ℕ) (p : ℕ) (ahead : List ℕ) (g : Graph)
       itself = again-traced;
       others = λ a ne. (λ t. t, λ t. t);
       same = λ a ne t. refl;
-      now = λ q i. targets-kept G m p q (S .kept) h (again-traced .1) i;
+      now = λ q i. targets-lasting G m p q (S .lasting) h (again-traced .1) i;
       before = λ q t i. i;
       had = λ q i. inr (again-traced, i);
     }
@@ -75,7 +75,7 @@ module _ (G : Tracer) (seen : List ℕ) (p : ℕ) (ahead : List ℕ) (g : Graph)
 
     marks-alike : SameOpen (G .size) m (note (G .size) ahead instrs′)
     marks-alike q =
-        let s = pass-stands again-shut .same-open q in
+        let s = pass-abreast again-shut .same-open q in
         let a = again-alike ahead .open-same q in
         (λ o. a .0 (s .0 o), λ o. s .1 (a .1 o))
 
@@ -83,9 +83,9 @@ module _ (G : Tracer) (seen : List ℕ) (p : ℕ) (ahead : List ℕ) (g : Graph)
     repeats : (t : ℕ) → Among t (pushed G g p) → Open (G .size) (note (G .size) ahead instrs′) t → ⊥
     unfolding pushed
     repeats t i o =
-        let j = missing-among (visited G g p) (targetsBy G g p) t i .0 in
+        let j = uncontained-among (visited G g p) (targetsBy G g p) t i .0 in
         let k : Among t (targets G m p) = rw (targets-same G T seen (p ∷ ahead) g m S p h) at j in
-        S .kept .shut p t h (again-traced .1) (targets-kept G m p t (S .kept) h (again-traced .1) k) (marks-alike t .1 o)
+        S .lasting .shut p t h (again-traced .1) (targets-lasting G m p t (S .lasting) h (again-traced .1) k) (marks-alike t .1 o)
 
     note-again : note (G .size) (ahead ++ pushed G g p) instrs′ ≡ note (G .size) ahead instrs′
     note-again =
@@ -105,9 +105,9 @@ module _ (G : Tracer) (seen : List ℕ) (p : ℕ) (ahead : List ℕ) (g : Graph)
     unfolding visited
     open-again = rw note-again marks-alike
 
-    pub again-stands : Stands G seen (ahead ++ pushed G g p) (visited G g p) m
-    again-stands = record {
-      kept = S .kept;
+    pub again-abreast : Abreast G seen (ahead ++ pushed G g p) (visited G g p) m
+    again-abreast = record {
+      lasting = S .lasting;
       line = rw again-queue at (S .line);
       same-open = open-again;
       long = visited-long G T seen (p ∷ ahead) g m m S p same;

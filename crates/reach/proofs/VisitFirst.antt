@@ -14,20 +14,20 @@ use Rattle.reach.specs.ClaimsWorklist.{ByTraced}
 use Rattle.reach.specs.Worklist.{Graph, containsInstr, targetsBy, visited, pushed}
 use Rattle.reach.proofs.Cases.{not-both}
 use Rattle.reach.proofs.Found.{mark-ne}
-use Rattle.reach.proofs.Kept.{kept-on, held-itself}
+use Rattle.reach.proofs.Lasting.{lasting-on, held-itself}
 use Rattle.reach.proofs.Line.{Line}
 use Rattle.reach.proofs.LineNext.{line-next}
 use Rattle.reach.proofs.Mark.{live-ne, waits-not, traced-test}
-use Rattle.reach.proofs.Missing.{NotesMissing, notes-missing}
+use Rattle.reach.proofs.Uncontained.{NotesUncontained, notes-uncontained}
 use Rattle.reach.proofs.Note.{note-open, fresh-open, note-append, fresh-append, length-note}
 use Rattle.reach.proofs.NoteAlike.{SameOpen, same-open-set, open-before, NotedAlike, noted-alike}
 use Rattle.reach.proofs.Open.{marked-shut}
 use Rattle.reach.proofs.Set.{open-set, set-open}
-use Rattle.reach.proofs.Stands.{TracedIn, Stands, targets-same}
+use Rattle.reach.proofs.Abreast.{TracedIn, Abreast, targets-same}
 use Rattle.reach.proofs.TakesAt.{took-traced, traced-took, itself-traced}
 use Rattle.reach.proofs.Visit.{Onward, visited-long, visited-table, visited-contained, visited-jumps}
 
-module _ (G : Tracer) (T : ByTraced G) (seen : List ℕ) (p : ℕ) (ahead : List ℕ) (g : Graph) (m : List ℕ) (S : Stands G seen (p ∷ ahead) g m)
+module _ (G : Tracer) (T : ByTraced G) (seen : List ℕ) (p : ℕ) (ahead : List ℕ) (g : Graph) (m : List ℕ) (S : Abreast G seen (p ∷ ahead) g m)
     (h : p < G .size) (c : containsInstr g p ≡ false) where
   -- the tables beside each other: with p noted, with p visited, and the run's with p taken up
   abbrev noted : List ℕ
@@ -76,22 +76,22 @@ module _ (G : Tracer) (T : ByTraced G) (seen : List ℕ) (p : ℕ) (ahead : List
         open-set (G .size) m p (mark G m p) q ne
         (S .same-open q .1 (rw (note-open (G .size) (g .instrs) p ahead first-open) (alike .open-same q .1 o))),
     λ o.
-        let r = set-open (G .size) m p (mark G m p) q (mark-ne G m p) (omega (arith, S .kept .long)) o in
+        let r = set-open (G .size) m p (mark G m p) q (mark-ne G m p) (omega (arith, S .lasting .long)) o in
         alike .open-same q .0 (rw (note-open (G .size) (g .instrs) p ahead first-open) at (S .same-open q .0 (r .1))),
   )
 
   -- the targets that the graph contains would not be noted
-  pushes : NotesMissing (G .size) (visited G g p) (targetsBy G g p) (note (G .size) ahead instrs′)
+  pushes : NotesUncontained (G .size) (visited G g p) (targetsBy G g p) (note (G .size) ahead instrs′)
   unfolding visited
   pushes =
-      notes-missing (G .size) (visited G g p) (targetsBy G g p) (note (G .size) ahead instrs′) (omega (arith, long′, length-note (G .size) ahead instrs′))
+      notes-uncontained (G .size) (visited G g p) (targetsBy G g p) (note (G .size) ahead instrs′) (omega (arith, long′, length-note (G .size) ahead instrs′))
       (λ t e o.
       marked-shut (G .size) instrs′ t (live-ne (inr (traced-test (getD instrs′ t 0) .0 e))) (open-before (G .size) ahead instrs′ t long′ o))
 
   targeted : NotedAlike (G .size) (targetsBy G g p) (note (G .size) ahead instrs′) marks′
   targeted =
       noted-alike (G .size) (targetsBy G g p) (note (G .size) ahead instrs′) marks′ (omega (arith, long′, length-note (G .size) ahead instrs′))
-      (omega (arith, S .kept .long, length-set m p (mark G m p))) marks-alike
+      (omega (arith, S .lasting .long, length-set m p (mark G m p))) marks-alike
 
   same-targets : targetsBy G g p ≡ targets G m p
   same-targets = targets-same G T seen (p ∷ ahead) g m S p h
@@ -101,12 +101,12 @@ module _ (G : Tracer) (T : ByTraced G) (seen : List ℕ) (p : ℕ) (ahead : List
   next-queue =
       fresh-append (G .size) ahead (pushed G g p) instrs′
       ∙ ap₂ (λ (a b : List ℕ). a ++ b) (sym (alike .fresh-same))
-      (pushes .fresh-missing ∙ targeted .fresh-same ∙ ap (λ (ts : List ℕ). fresh (G .size) ts marks′) same-targets)
+      (pushes .fresh-uncontained ∙ targeted .fresh-same ∙ ap (λ (ts : List ℕ). fresh (G .size) ts marks′) same-targets)
 
   next-open : SameOpen (G .size) (took G m p) (note (G .size) (ahead ++ pushed G g p) (visited G g p .instrs))
   unfolding pushed visited took
   next-open q =
-      let a = note-append (G .size) ahead (pushed G g p) instrs′ ∙ pushes .note-missing in
+      let a = note-append (G .size) ahead (pushed G g p) instrs′ ∙ pushes .note-uncontained in
       let s = targeted .open-same q in
       let by : List ℕ → Type 0 = λ ts. Open (G .size) (note (G .size) ts marks′) q in
       (λ o. rw a (s .1 (subst by (sym same-targets) o)), λ o. subst by same-targets (s .0 (rw a at o)))
@@ -117,32 +117,32 @@ module _ (G : Tracer) (T : ByTraced G) (seen : List ℕ) (p : ℕ) (ahead : List
 
     step : Onward G m p (took G m p)
     step = record {
-      itself = (h, itself-traced G m p (S .kept .long) ready);
+      itself = (h, itself-traced G m p (S .lasting .long) ready);
       others = λ a ne. (
-        λ t. subst IsTraced (sym (took-traced G m p (S .kept .long) ready a t)) t,
-        λ t. ⊎-elim (λ e. absurd (ne e)) (λ u. u) (traced-took G m p (S .kept .long) ready a t),
+        λ t. subst IsTraced (sym (took-traced G m p (S .lasting .long) ready a t)) t,
+        λ t. ⊎-elim (λ e. absurd (ne e)) (λ u. u) (traced-took G m p (S .lasting .long) ready a t),
       );
-      same = λ a ne t. sym (took-traced G m p (S .kept .long) ready a t);
-      now = λ q i. rw (held-itself G T m p (S .kept) ready) i;
+      same = λ a ne t. sym (took-traced G m p (S .lasting .long) ready a t);
+      now = λ q i. rw (held-itself G T m p (S .lasting) ready) i;
       before = λ q t i. absurd (waits-not waits (t .1));
-      had = λ q i. inl (rw (held-itself G T m p (S .kept) ready) at i);
+      had = λ q i. inl (rw (held-itself G T m p (S .lasting) ready) at i);
     }
 
     visits′ : (q : ℕ) → Among q (p ∷ seen) ↔ TracedIn G (took G m p) q
-    visits′ q = (λ i. there (List·Memᴰ·cases-cons i), λ t. back (t .0) (traced-took G m p (S .kept .long) ready q (t .1)))
+    visits′ q = (λ i. there (List·Memᴰ·cases-cons i), λ t. back (t .0) (traced-took G m p (S .lasting .long) ready q (t .1)))
       where
         there : (q ≡ p) ⊎ Among q seen → TracedIn G (took G m p) q
         there (inl e) = subst (TracedIn G (took G m p)) (sym e) (step .itself)
-        there (inr i) = let t = S .visits q .0 i in (t .0, subst IsTraced (sym (took-traced G m p (S .kept .long) ready q (t .1))) (t .1))
+        there (inr i) = let t = S .visits q .0 i in (t .0, subst IsTraced (sym (took-traced G m p (S .lasting .long) ready q (t .1))) (t .1))
 
         back : q < G .size → (q ≡ p) ⊎ IsTraced (getD m q 0) → Among q (p ∷ seen)
         back k (inl e) = List·Memᴰ·head e
         back k (inr t) = List·Memᴰ·tail (S .visits q .1 (k, t))
 
-    pub first-stands : Stands G (p ∷ seen) (ahead ++ pushed G g p) (visited G g p) (took G m p)
-    first-stands = record {
-      kept = kept-on G T m p (S .kept) ready;
-      line = rw next-queue (line-next G m p rest (S .kept .long) line);
+    pub first-abreast : Abreast G (p ∷ seen) (ahead ++ pushed G g p) (visited G g p) (took G m p)
+    first-abreast = record {
+      lasting = lasting-on G T m p (S .lasting) ready;
+      line = rw next-queue (line-next G m p rest (S .lasting .long) line);
       same-open = next-open;
       long = visited-long G T seen (p ∷ ahead) g m (took G m p) S p step;
       table = visited-table G T seen (p ∷ ahead) g m (took G m p) S p step;

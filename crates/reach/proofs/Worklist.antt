@@ -17,15 +17,15 @@ use Rattle.reach.specs.Worklist.{Built, newGraph, worklist}
 use Rattle.reach.proofs.Cases.{lt-or-le}
 use Rattle.reach.proofs.Cleared.{cleared-at}
 use Rattle.reach.proofs.IsAmong.{among-test}
-use Rattle.reach.proofs.Kept.{held-plain, held-flash}
+use Rattle.reach.proofs.Lasting.{held-plain, held-flash}
 use Rattle.reach.proofs.Line.{line-start}
 use Rattle.reach.proofs.Mark.{live-ne, traced-test}
 use Rattle.reach.proofs.NoteAlike.{NotedAlike, noted-alike}
 use Rattle.reach.proofs.Order.{cleared-base}
-use Rattle.reach.proofs.Rounds.{Like, rounds-good}
+use Rattle.reach.proofs.Rounds.{Like, rounds-matches}
 use Rattle.reach.proofs.Run.{run-ending}
 use Rattle.reach.proofs.RunNotes.{run-noting}
-use Rattle.reach.proofs.Stands.{TracedIn, Stands}
+use Rattle.reach.proofs.Abreast.{TracedIn, Abreast}
 use Rattle.reach.proofs.Start.{start-long, start-untraced}
 use Rattle.reach.proofs.WorklistLaws.{firsts-again, firsts-new}
 
@@ -56,9 +56,9 @@ module _ (G : Tracer) (entries marks : List ℕ) (l : G .size ≤ length marks) 
   untraced : (q : ℕ) → TracedIn G (note (G .size) entries base) q → ⊥
   untraced q t = start-untraced G entries base B q (t .0) (t .1)
 
-  pub start-stands : Stands G [] entries (newGraph G) (note (G .size) entries base)
-  start-stands = record {
-    kept = record {
+  pub start-abreast : Abreast G [] entries (newGraph G) (note (G .size) entries base)
+  start-abreast = record {
+    lasting = record {
       long = start-long G entries base B;
       whole = λ p h t. absurd (untraced p (h, t));
       shut = λ p q h t i o. untraced p (h, t);
@@ -140,6 +140,6 @@ unfolding worklist
 worklist-runs most limit G T entries marks l enough ends =
     let e = start-run G entries marks l limit in
     let goes = run-ending limit G entries (cleared (G .size) marks) (cleared-base G marks l) .enough enough in
-    let L = rounds-good G T most entries (newGraph G) [] (note (G .size) entries (cleared (G .size) marks)) limit (start-stands G entries marks l)
+    let L = rounds-matches G T most entries (newGraph G) [] (note (G .size) entries (cleared (G .size) marks)) limit (start-abreast G entries marks l)
     (rw e at goes) ends in
     as-run limit G entries marks l (worklist most G entries) (rw e L)

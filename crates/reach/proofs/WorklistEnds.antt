@@ -14,8 +14,8 @@ use Rattle.reach.specs.Worklist.{Graph, Built, newGraph, round, rounds, 
 use Rattle.reach.proofs.Order.{cleared-base}
 use Rattle.reach.proofs.RoundTurn.{beside}
 use Rattle.reach.proofs.Run.{run-takes, run-ending}
-use Rattle.reach.proofs.Stands.{Stands}
-use Rattle.reach.proofs.Worklist.{start-stands, start-run}
+use Rattle.reach.proofs.Abreast.{Abreast}
+use Rattle.reach.proofs.Worklist.{start-abreast, start-run}
 use Rattle.reach.proofs.WorklistLaws.{rounds-over, rounds-on}
 use Rattle.reach.proofs.RoundIdle.{Ends, finishes, idle-ends}
 use Rattle.reach.proofs.RoundGoing.{Under, Yet, going-round}
@@ -37,10 +37,10 @@ module _ (G : Tracer) (T : ByTraced G) where
       n : (p ∷ positions) ++ [] ≡ p ∷ positions
       n = append-nil (p ∷ positions)
 
-      by : (seen m : List ℕ) (limit : ℕ) → Stands G seen (p ∷ positions) g m → beside G limit (p ∷ positions) g m .end ≢ stopped
+      by : (seen m : List ℕ) (limit : ℕ) → Abreast G seen (p ∷ positions) g m → beside G limit (p ∷ positions) g m .end ≢ stopped
           → steps (beside G limit (p ∷ positions) g m) < suc k
           → (fresh (G .size) (p ∷ positions) (g .instrs) ≡ []) ⊎ (fresh (G .size) (p ∷ positions) (g .instrs) ≢ [])
-          → (Stands G seen ((p ∷ positions) ++ []) g m → beside G limit ((p ∷ positions) ++ []) g m .end ≢ stopped
+          → (Abreast G seen ((p ∷ positions) ++ []) g m → beside G limit ((p ∷ positions) ++ []) g m .end ≢ stopped
           → Yet G T k (p ∷ positions) g (beside G limit ((p ∷ positions) ++ []) g m) → Ends (round G (p ∷ positions) [] g (rounds (suc most) G)))
           → Ends (rounds (suc (suc most)) G (p ∷ positions) g)
       by seen m limit S enough y (inl e) on = idle-ends G T most (p ∷ positions) g seen m S e
@@ -58,5 +58,5 @@ worklist-ends most G T entries h =
     let B = cleared-base G marks l in
     let enough = run-ending n G entries (cleared n marks) B .enough (omega arith) in
     let few : steps (runOf n G entries (cleared n marks)) ≤ n = run-takes n G entries (cleared n marks) B .in-image in
-    rounds-under G T most (suc n) (omega arith) entries (newGraph G) [] (note n entries (cleared n marks)) n (start-stands G entries marks l)
+    rounds-under G T most (suc n) (omega arith) entries (newGraph G) [] (note n entries (cleared n marks)) n (start-abreast G entries marks l)
     (rw e at enough) (rw e at (let z : steps (runOf n G entries (cleared n marks)) < suc n = omega arith in z))

@@ -8,7 +8,7 @@ use Rattle.reach.specs.HowMany.{isAmong}
 use Rattle.reach.specs.Run.{finished, stopped, cutOff}
 use Rattle.reach.specs.Tracer.{Tracer}
 use Rattle.reach.specs.ClaimsWorklist.{firsts}
-use Rattle.reach.specs.Worklist.{Graph, Built, visited, pushed, left, visiting, round, rounds}
+use Rattle.reach.specs.Worklist.{Graph, Built, visited, pushed, ending, visiting, round, rounds}
 
 module _ (G : Tracer) (positions : List ℕ) (g : Graph) (next : List ℕ → Graph → Built) where
   pub round-over : round G [] positions g next ≡ next positions g
@@ -22,7 +22,7 @@ module _ (G : Tracer) (positions : List ℕ) (g : Graph) (next : List ℕ → Gr
     round-pass h = rw (le-ltb p (G .size) h)
 
     -- not decoded
-    pub round-cut : p < G .size → G .fits p ≡ false → round G (p ∷ locs) positions g next ≡ left (cutOff p) g
+    pub round-cut : p < G .size → G .fits p ≡ false → round G (p ∷ locs) positions g next ≡ ending (cutOff p) g
     unfolding round
     round-cut h f = rw (lt-ltb p (G .size) h, f)
 
@@ -33,13 +33,13 @@ module _ (G : Tracer) (positions : List ℕ) (g : Graph) (next : List ℕ → Gr
     round-visit h f = rw (lt-ltb p (G .size) h, f)
 
 module _ (G : Tracer) (g : Graph) where
-  pub rounds-over : (most : ℕ) → rounds most G [] g ≡ left finished g
+  pub rounds-over : (most : ℕ) → rounds most G [] g ≡ ending finished g
   unfolding rounds
   rounds-over zero = refl
   rounds-over (suc most) = refl
 
   module _ (p : ℕ) (positions : List ℕ) where
-    pub rounds-short : rounds 0 G (p ∷ positions) g ≡ left stopped g
+    pub rounds-short : rounds 0 G (p ∷ positions) g ≡ ending stopped g
     unfolding rounds
     rounds-short = refl
 

@@ -40,13 +40,13 @@ visited G g p = record {
 }
 
 -- those of ts that the graph does not contain
-unfoldable pub missing : Graph → List ℕ → List ℕ
-missing g [] = []
-missing g (t ∷ ts) = cond (containsInstr g t) (missing g ts) (t ∷ missing g ts)
+unfoldable pub uncontained : Graph → List ℕ → List ℕ
+uncontained g [] = []
+uncontained g (t ∷ ts) = cond (containsInstr g t) (uncontained g ts) (t ∷ uncontained g ts)
 
 -- what a visit to p pushes: its targets, also outside the image and also twice, that the graph does not contain, p being in it by then
 unfoldable pub pushed : Tracer → Graph → ℕ → List ℕ
-pushed G g p = missing (visited G g p) (targetsBy G g p)
+pushed G g p = uncontained (visited G g p) (targetsBy G g p)
 
 -- what the worklist comes to: `finished` with `Ok`, `cutOff p` with `NoInstruction` at p, `stopped` where more rounds were needed than asked
 -- for; the positions visited, each as often as it was; and the graph by then
@@ -55,9 +55,11 @@ pub record Built : Type 0 where
   pub visits : List ℕ
   pub graph : Graph
 
-abbrev pub left : End → Graph → Built
-left e g = record { end = e; visits = []; graph = g }
+-- a worklist that ends here
+abbrev pub ending : End → Graph → Built
+ending e g = record { end = e; visits = []; graph = g }
 
+-- one that visited p first
 abbrev pub visiting : ℕ → Built → Built
 visiting p b = record { end = b .end; visits = p ∷ b .visits; graph = b .graph }
 
@@ -68,13 +70,13 @@ round G [] positions g next = next positions g
 round G (pos ∷ locs) positions g next =
     let visit = visiting pos (round G locs (positions ++ pushed G g pos) (visited G g pos) next) in
     let pass = round G locs positions g next in
-    cond (ltb pos (G .size)) (cond (G .fits pos) visit (left (cutOff pos) g)) pass
+    cond (ltb pos (G .size)) (cond (G .fits pos) visit (ending (cutOff pos) g)) pass
 
 -- `while !positions.is_empty()`, at most so many rounds: `locs` takes all of `positions`, which a round fills anew
 unfoldable pub rounds : ℕ → Tracer → List ℕ → Graph → Built
-rounds zero G [] g = left finished g
-rounds zero G (p ∷ positions) g = left stopped g
-rounds (suc most) G [] g = left finished g
+rounds zero G [] g = ending finished g
+rounds zero G (p ∷ positions) g = ending stopped g
+rounds (suc most) G [] g = ending finished g
 rounds (suc most) G (p ∷ positions) g = round G (p ∷ positions) [] g (rounds most G)
 
 -- `build_instruction_graph`

@@ -42,24 +42,24 @@ flash-exempt G m p e = by (G .exempt m p) e
     by true x = refl
     by false x = absurd (omega arith)
 
-pub record Kept (G : Tracer) (m : List ℕ) : Type 0 where
+pub record Lasting (G : Tracer) (m : List ℕ) : Type 0 where
   pub long : G .size ≤ length m
   pub whole : (p : ℕ) → p < G .size → IsTraced (getD m p 0) → G .fits p ≡ true
   pub shut : (p q : ℕ) → p < G .size → IsTraced (getD m p 0) → Among q (held G m p) → Open (G .size) m q → ⊥
   pub still : (p : ℕ) → p < G .size → getD m p 0 ≡ flash → G .exempt m p ≡ true
 
 -- the targets that a traced position would have now
-pub targets-kept : (G : Tracer) (m : List ℕ) (p q : ℕ) → Kept G m → p < G .size → IsTraced (getD m p 0)
+pub targets-lasting : (G : Tracer) (m : List ℕ) (p q : ℕ) → Lasting G m → p < G .size → IsTraced (getD m p 0)
     → Among q (targets G m p) → Among q (held G m p)
 unfolding targets
-targets-kept G m p q K h (inl e) i = rw (held-plain G m p e) (by (G .exempt m p) i)
+targets-lasting G m p q K h (inl e) i = rw (held-plain G m p e) (by (G .exempt m p) i)
   where
     by : (b : Bool) → Among q (cond b [] (G .ways p)) → Among q (G .ways p)
     by true j = absurd (List·Memᴰ·not-nil j)
     by false j = j
-targets-kept G m p q K h (inr e) i = absurd (List·Memᴰ·not-nil (rw (targets-exempt G m p (K .still p h e)) at i))
+targets-lasting G m p q K h (inr e) i = absurd (List·Memᴰ·not-nil (rw (targets-exempt G m p (K .still p h e)) at i))
 
-module _ (G : Tracer) (T : ByTraced G) (m : List ℕ) (p : ℕ) (K : Kept G m) (R : Ready G m p) where
+module _ (G : Tracer) (T : ByTraced G) (m : List ℕ) (p : ℕ) (K : Lasting G m) (R : Ready G m p) where
   at : (q : ℕ) → Moved G m p q
   at q = moved G m p q (K .long) (R .inside)
 
@@ -96,8 +96,8 @@ module _ (G : Tracer) (T : ByTraced G) (m : List ℕ) (p : ℕ) (K : Kept G m) (
   still-on a h w (kept ne f x) = K .still a h (sym x ∙ w)
   still-on a h w (called ne i u x) = absurd (omega arith)
 
-  pub kept-on : Kept G (took G m p)
-  kept-on = record {
+  pub lasting-on : Lasting G (took G m p)
+  lasting-on = record {
     long = still-long G m p (K .long) R;
     whole = λ a h t. whole-on a h t (at a);
     shut = λ a q h t i o. shut-on a q h t i o (at a);

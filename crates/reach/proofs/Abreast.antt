@@ -14,7 +14,7 @@ use Rattle.reach.specs.ClaimsWorklist.{ByTraced}
 use Rattle.reach.specs.Worklist.{Graph, arrivedFrom, targetsBy}
 use Rattle.reach.proofs.Cases.{yes-or-no, not-both}
 use Rattle.reach.proofs.IsAmong.{among-test}
-use Rattle.reach.proofs.Kept.{Kept, held-plain}
+use Rattle.reach.proofs.Lasting.{Lasting, held-plain}
 use Rattle.reach.proofs.Line.{Line}
 use Rattle.reach.proofs.NoteAlike.{SameOpen}
 
@@ -23,8 +23,8 @@ abbrev pub TracedIn : Tracer → List ℕ → ℕ → Type 0
 TracedIn G m p = (p < G .size) × IsTraced (getD m p 0)
 
 -- `ahead` is what the worklist has ahead, the rest of its round and then what was pushed; `seen` what it visited
-pub record Stands (G : Tracer) (seen ahead : List ℕ) (g : Graph) (m : List ℕ) : Type 0 where
-  pub kept : Kept G m
+pub record Abreast (G : Tracer) (seen ahead : List ℕ) (g : Graph) (m : List ℕ) : Type 0 where
+  pub lasting : Lasting G m
   pub line : Line G m (fresh (G .size) ahead (g .instrs))
   pub same-open : SameOpen (G .size) m (note (G .size) ahead (g .instrs))
   pub long : length (g .instrs) ≡ G .size
@@ -33,7 +33,7 @@ pub record Stands (G : Tracer) (seen ahead : List ℕ) (g : Graph) (m : List ℕ
   pub jumps : (p q : ℕ) → Among q (g .jumpTo p) ↔ (TracedIn G m p × Among q (held G m p))
   pub visits : (q : ℕ) → Among q seen ↔ TracedIn G m q
 
-module _ (G : Tracer) (T : ByTraced G) (seen ahead : List ℕ) (g : Graph) (m : List ℕ) (S : Stands G seen ahead g m) (p : ℕ) (h : p < G .size) where
+module _ (G : Tracer) (T : ByTraced G) (seen ahead : List ℕ) (g : Graph) (m : List ℕ) (S : Abreast G seen ahead g m) (p : ℕ) (h : p < G .size) where
   to-marks : G .exempt (g .instrs) p ≡ true → G .exempt m p ≡ true
   to-marks = T .still (g .instrs) m p h (λ q k t. S .contained q k .0 t)
 
@@ -52,7 +52,7 @@ module _ (G : Tracer) (T : ByTraced G) (seen ahead : List ℕ) (g : Graph) (m : 
 
       had : IsTraced (getD m (p - 2) 0) → Among p (held G m (p - 2))
       had (inl x) = rw (held-plain G m (p - 2) x) (b .1)
-      had (inr x) = absurd (not-both (S .kept .still (p - 2) inside x) (T .never m m p e))
+      had (inr x) = absurd (not-both (S .lasting .still (p - 2) inside x) (T .never m m p e))
 
   pub targets-same : targetsBy G g p ≡ targets G m p
   unfolding targetsBy targets
