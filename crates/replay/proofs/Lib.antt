@@ -3,6 +3,7 @@ pub mod Entries
 pub mod Lines
 pub mod Bytes
 pub mod Keeping
+pub mod Behind
 pub mod Moving
 pub mod Taking
 pub mod Feeding

@@ -8,7 +8,7 @@ use mathlib.Core.List.{List}
 use lib.Dec.{eqb}
 use lib.ListN.{length, getD, take, drop}
 use borrow.Author.Tests.{eq-eqb, ne-eqb}
-use Rattle.text.specs.Four.{isFour, fourOf}
+use Rattle.text.specs.Four.{isFour, fourOf, fourIn}
 use Rattle.replay.specs.Line.{digitsIn, isLine, positionOf}
 
 module _ (l : List ℕ) where
@@ -34,7 +34,7 @@ module _ (l : List ℕ) where
   no-end h i j n =
       tested true true true false _ (eq-eqb (length l) 7 h) (eq-eqb (getD l 0 0) 80 i) (eq-eqb (getD l 1 0) 9 j) (ne-eqb (getD l 6 0) 10 n) refl
 
-  pub by-digits : length l ≡ 7 → getD l 0 0 ≡ 80 → getD l 1 0 ≡ 9 → getD l 6 0 ≡ 10 → (b : Bool) → isFour (digitsIn l) ≡ b
-      → cond b (fourOf (digitsIn l)) 65536 ≡ positionOf l
-  by-digits h i j k b f =
-      tested true true true true b (eq-eqb (length l) 7 h) (eq-eqb (getD l 0 0) 80 i) (eq-eqb (getD l 1 0) 9 j) (eq-eqb (getD l 6 0) 10 k) f
+  pub by-digits : length l ≡ 7 → getD l 0 0 ≡ 80 → getD l 1 0 ≡ 9 → getD l 6 0 ≡ 10 → fourIn (digitsIn l) ≡ positionOf l
+  unfolding fourIn
+  by-digits h i j k =
+      tested true true true true (isFour (digitsIn l)) (eq-eqb (length l) 7 h) (eq-eqb (getD l 0 0) 80 i) (eq-eqb (getD l 1 0) 9 j) (eq-eqb (getD l 6 0) 10 k) refl

@@ -23,9 +23,5 @@ pub fn position_of(line: &[u8]) -> u32
     if line[6] != cut::LINE_END {
         return Image::NOWHERE;
     }
-    let digits = &line[2..6];
-    if !four::is_four(digits) {
-        return Image::NOWHERE;
-    }
-    four::four_of(digits)
+    four::read_four(&line[2..6])
 }

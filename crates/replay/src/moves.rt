@@ -3,6 +3,7 @@ ghost use mathlib.Core.Path.{_≡_};
 ghost use Prim.Native.Nat.{_<_};
 ghost use lib.ListN.{length};
 ghost use Rattle.map.specs.Words.{codeAt};
+ghost use Rattle.arrivals.specs.Arrivals.{arrives};
 ghost use Rattle.replay.specs.Moves.{freeAfter, moveBy, isInterrupt, isFree, isForbidden};
 use crate::entry;
 use instruction::Mode;
@@ -74,12 +75,30 @@ fn is_free_after(image: &[u8], marks: &[u8], q: u32) -> bool
     marks[at] == Mark::FLASH
 }
 
+// Whether p is a target that q had when it was taken up. Most lines follow the one before at its end, which is seen without its operands.
+fn is_target(mode: Mode, image: &[u8], marks: &[u8], q: u32, p: u32) -> bool
+    requires { ⌜ p < length (now image) ⌝ }
+    ensures { λ r. ⌜ r ≡ arrives mode (now (image .entry)) (now (marks .entry)) p q ⌝ }
+{
+    let at = q as usize;
+    if !views::is_traced_at(image, marks, at) {
+        return false;
+    }
+    if marks[at] == Mark::FLASH {
+        return false;
+    }
+    if targets::falls_to(mode, image, q, p) {
+        return true;
+    }
+    arrivals::arrives(mode, image, marks, p, q)
+}
+
 // How control comes from q to p.
 pub fn move_to(mode: Mode, image: &[u8], marks: &[u8], table: &[u64], q: u32, p: u32) -> Move
-    requires { ⌜ (length (now table) ≡ 1024) × (p < 65536) ⌝ }
+    requires { ⌜ (length (now table) ≡ 1024) × (p < 65536) × (p < length (now image)) ⌝ }
     ensures { λ r. ⌜ r ≡ moveBy mode (now (image .entry)) (now (marks .entry)) (codeAt (now (table .entry))) q p ⌝ }
 {
-    if arrivals::arrives(mode, image, marks, p, q) {
+    if is_target(mode, image, marks, q, p) {
         return Move::Target;
     }
     if entry::is_entry(table, p) {

@@ -25,7 +25,7 @@ fn position(last: u64) -> u32
 
 // How control comes to p: the first line is no move.
 fn move_now(log: Log, mode: Mode, image: &[u8], marks: &[u8], table: &[u64], p: u32) -> Move
-    requires { ⌜ (length (now table) ≡ 1024) × (length (now image) ≤ 65536) × (p < 65536) ⌝ }
+    requires { ⌜ (length (now table) ≡ 1024) × (length (now image) ≤ 65536) × (p < 65536) × (p < length (now image)) ⌝ }
     ensures { λ r. ⌜ r ≡ moveNow mode (now (image .entry)) (now (marks .entry)) (codeAt (now (table .entry))) log p ⌝ }
 {
     if log.lines == 0 {

@@ -2,9 +2,7 @@
 -- Assumes nothing.
 use Prim.Native.Nat.{ℕ}
 use mathlib.Core.List.{List}
-use mathlib.Core.Bool.{true, false}
-use mathlib.Core.Path.{sym, _∙_}
-use borrow.Author.Tests.{not-true, not-false}
+use mathlib.Core.Path.{_∙_}
 use borrow.Author.Needs.{needs}
 use Rattle.replay.proofs.Lines.{short, no-letter, no-tab, no-end, by-digits}
 use Rattle.replay.proofs.line.position_of.Statement.{statement}
@@ -32,22 +30,11 @@ returns-4 c =
 
 returns-5 : tie.Need-returns-5
 returns-5 c =
-    let t = c .before in
-    let h = t .before .before in
+    let h = c .before .before in
     let g = h .before .before in
     let f = g .before .before in
     let e = f .before .before in
-    by-digits (bytes e) (e .if1 .left) (f .if2 .left) (g .if3 .left) (h .if4 .left) false (sym (t .is-four .ensures) ∙ not-true _ (c .if5 .taken))
-
-returns-6 : tie.Need-returns-6
-returns-6 c =
-    let n = c .before in
-    let t = n .before in
-    let h = t .before .before in
-    let g = h .before .before in
-    let f = g .before .before in
-    let e = f .before .before in
-    c .four-of .ensures ∙ by-digits (bytes e) (e .if1 .left) (f .if2 .left) (g .if3 .left) (h .if4 .left) true (sym (t .is-four .ensures) ∙ not-false _ (n .if5 .left))
+    c .read-four .ensures ∙ by-digits (bytes e) (e .if1 .left) (f .if2 .left) (g .if3 .left) (h .if4 .left)
 
 pub position-of-spec : {M : Type 1} → statement M
 position-of-spec =
@@ -64,6 +51,4 @@ position-of-spec =
     (λ c. search needs)
     (λ c. search needs)
     (λ c κs. search needs)
-    returns-5
-    (λ c κs. search needs)
-    returns-6)
+    returns-5)

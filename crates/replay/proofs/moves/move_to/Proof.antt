@@ -8,14 +8,14 @@ use Rattle.replay.proofs.Moving.{moved-by}
 use Rattle.replay.proofs.moves.move_to.Statement.{statement}
 use Rattle.replay.proofs.moves.move_to.Tie as tie
 
-abbrev start : tie.After-arrives → tie.Start
+abbrev start : tie.After-is-target → tie.Start
 start c = c .before .before .before .before
 
 returns : tie.Need-returns
 returns c =
     let t = c .before in
     let a = start t .args in
-    moved-by (a .mode) (a .image .now) (a .marks .now) (codeAt (a .table .now)) (a .q) (a .p) true _ _ (sym (t .arrives .ensures) ∙ c .if1 .taken) refl refl
+    moved-by (a .mode) (a .image .now) (a .marks .now) (codeAt (a .table .now)) (a .q) (a .p) true _ _ (sym (t .is-target .ensures) ∙ c .if1 .taken) refl refl
 
 returns-2 : tie.Need-returns-2
 returns-2 c =
@@ -23,7 +23,7 @@ returns-2 c =
     let e = n .before in
     let t = e .before in
     let a = start t .args in
-    moved-by (a .mode) (a .image .now) (a .marks .now) (codeAt (a .table .now)) (a .q) (a .p) false true _ (sym (t .arrives .ensures) ∙ e .if1 .left)
+    moved-by (a .mode) (a .image .now) (a .marks .now) (codeAt (a .table .now)) (a .q) (a .p) false true _ (sym (t .is-target .ensures) ∙ e .if1 .left)
     (sym (n .is-entry .ensures) ∙ c .if2 .taken) refl
 
 returns-3 : tie.Need-returns-3
@@ -34,7 +34,7 @@ returns-3 c =
     let e = n .before in
     let t = e .before in
     let a = start t .args in
-    moved-by (a .mode) (a .image .now) (a .marks .now) (codeAt (a .table .now)) (a .q) (a .p) false false true (sym (t .arrives .ensures) ∙ e .if1 .left)
+    moved-by (a .mode) (a .image .now) (a .marks .now) (codeAt (a .table .now)) (a .q) (a .p) false false true (sym (t .is-target .ensures) ∙ e .if1 .left)
     (sym (n .is-entry .ensures) ∙ k .if2 .left) (sym (f .is-free-after .ensures) ∙ c .if3 .taken)
 
 returns-4 : tie.Need-returns-4
@@ -45,7 +45,7 @@ returns-4 c =
     let e = n .before in
     let t = e .before in
     let a = start t .args in
-    moved-by (a .mode) (a .image .now) (a .marks .now) (codeAt (a .table .now)) (a .q) (a .p) false false false (sym (t .arrives .ensures) ∙ e .if1 .left)
+    moved-by (a .mode) (a .image .now) (a .marks .now) (codeAt (a .table .now)) (a .q) (a .p) false false false (sym (t .is-target .ensures) ∙ e .if1 .left)
     (sym (n .is-entry .ensures) ∙ k .if2 .left) (sym (f .is-free-after .ensures) ∙ c .if3 .left)
 
 pub move-to-spec : {M : Type 1} → statement M

@@ -48,7 +48,8 @@ move-now-requires : tie.Need-move-now-requires
 move-now-requires c κs =
     let e = c .before .before in
     let s = start (e .before) in
-    let h = e .if1 .left in (s .pre .0, s .pre .1, (let g = s .pre .3 in omega arith))
+    let h = e .if1 .left in
+    (s .pre .0, s .pre .1, (let g = s .pre .3 in omega arith), traced-inside (s .args .image .now) (s .args .marks .now) (s .args .p) (traced c))
 
 returns-3 : tie.Need-returns-3
 returns-3 c =
