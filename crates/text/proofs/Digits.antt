@@ -1,7 +1,7 @@
 -- Digits: each test of the code is one of the definition.
 -- Assumes nothing.
 use mathlib.Core.Path.{_≡_, refl, sym, _∙_}
-use mathlib.Core.Bool.{Bool, true, false, _&&_, _||_}
+use mathlib.Core.Bool.{Bool, true, false, cond, _&&_, _||_}
 use mathlib.Core.List.{List}
 use Prim.Native.Nat.{ℕ, _+_, _-_, _≤_, _<_}
 use native.Mathlib.Numerals.{add-one}
@@ -109,8 +109,21 @@ digit-small b = by (isDigit b) refl (leb b 57) refl
 
 -- the value of a byte: 16 where it is no digit
 module _ (b : ℕ) where
-  pub none-value : isDigit b ≡ false → 16 ≡ valueOf b
-  none-value e = rw e refl
+  value-by : (t u : Bool) → within 48 57 b ≡ t → within 65 70 b ≡ u → cond (t || u) (cond t (b - 48) (cond u (b - 55) 0)) 16 ≡ valueOf b
+  unfolding digitOf
+  value-by t u e f = rw (e, f) refl
 
-  pub some-value : (v : ℕ) → isDigit b ≡ true → v ≡ digitOf b → v ≡ valueOf b
-  some-value v e f = f ∙ rw e refl
+  pub value-below : b < 48 → 16 ≡ valueOf b
+  value-below h = value-by false false (under 48 57 b h) (under 65 70 b (omega arith))
+
+  pub value-low : 48 ≤ b → b ≤ 57 → b - 48 ≡ valueOf b
+  value-low h k = value-by true _ (inside 48 57 b h k) refl
+
+  pub value-between : 57 < b → b < 65 → 16 ≡ valueOf b
+  value-between h k = value-by false false (over 48 57 b h) (under 65 70 b k)
+
+  pub value-high : 65 ≤ b → b ≤ 70 → b - 55 ≡ valueOf b
+  value-high h k = value-by false true (over 48 57 b (omega arith)) (inside 65 70 b h k)
+
+  pub value-above : 70 < b → 16 ≡ valueOf b
+  value-above h = value-by false false (over 48 57 b (omega arith)) (over 65 70 b h)

@@ -51,22 +51,23 @@ module _ (f : List ℕ) where
     unfolding fourIn isFour
     by-digits a b c d p q r s = rw (eq-eqb (length f) 4 e, is-hex, p, q, r, s) refl
 
-    module _ (a b c d : ℕ) (va : a ≡ valueOf (getD f 0 0)) (vb : b ≡ valueOf (getD f 1 0)) (vc : c ≡ valueOf (getD f 2 0)) (vd : d ≡ valueOf (getD f 3 0)) where
+    module _ (a : ℕ) (va : a ≡ valueOf (getD f 0 0)) where
       pub first-bad : a ≡ 16 → 65536 ≡ fourIn f
       first-bad h = by-digits false _ _ _ (no-digit (getD f 0 0) a va h) refl refl refl
 
-      module _ (ga : a ≡ 16 → ⊥) where
+      module _ (ga : a ≡ 16 → ⊥) (b : ℕ) (vb : b ≡ valueOf (getD f 1 0)) where
         pub second-bad : b ≡ 16 → 65536 ≡ fourIn f
         second-bad h = by-digits true false _ _ (a-digit (getD f 0 0) a va ga .0) (no-digit (getD f 1 0) b vb h) refl refl
 
-        module _ (gb : b ≡ 16 → ⊥) where
+        module _ (gb : b ≡ 16 → ⊥) (c : ℕ) (vc : c ≡ valueOf (getD f 2 0)) where
           pub third-bad : c ≡ 16 → 65536 ≡ fourIn f
           third-bad h = by-digits true true false _ (a-digit (getD f 0 0) a va ga .0) (a-digit (getD f 1 0) b vb gb .0) (no-digit (getD f 2 0) c vc h) refl
 
-          module _ (gc : c ≡ 16 → ⊥) where
+          module _ (gc : c ≡ 16 → ⊥) (d : ℕ) (vd : d ≡ valueOf (getD f 3 0)) where
             pub fourth-bad : d ≡ 16 → 65536 ≡ fourIn f
             fourth-bad h =
-                by-digits true true true false (a-digit (getD f 0 0) a va ga .0) (a-digit (getD f 1 0) b vb gb .0) (a-digit (getD f 2 0) c vc gc .0) (no-digit (getD f 3 0) d vd h)
+                by-digits true true true false (a-digit (getD f 0 0) a va ga .0) (a-digit (getD f 1 0) b vb gb .0) (a-digit (getD f 2 0) c vc gc .0)
+                (no-digit (getD f 3 0) d vd h)
 
             pub all-good : (d ≡ 16 → ⊥) → ((a * 16 + b) * 16 + c) * 16 + d ≡ fourIn f
             unfolding fourOf

@@ -25,22 +25,23 @@ pub fn four_of(field: &[u8]) -> u32
 pub fn read_four(field: &[u8]) -> u32
     ensures { λ r. ⌜ r ≡ fourIn (now (field .entry)) ⌝ }
 {
-    if field.len() != 4 {
+    let n = field.len();
+    if n != 4 {
         return 65_536;
     }
     let a = hex::value(field[0]);
-    let b = hex::value(field[1]);
-    let c = hex::value(field[2]);
-    let d = hex::value(field[3]);
     if a == 16 {
         return 65_536;
     }
+    let b = hex::value(field[1]);
     if b == 16 {
         return 65_536;
     }
+    let c = hex::value(field[2]);
     if c == 16 {
         return 65_536;
     }
+    let d = hex::value(field[3]);
     if d == 16 {
         return 65_536;
     }

@@ -31,13 +31,19 @@ pub fn digit(b: u8) -> u32
 pub fn value(b: u8) -> u32
     ensures { λ r. ⌜ (r ≡ valueOf b) × (r < 17) ⌝ }
 {
-    if !is_digit(b) {
+    if b < b'0' {
         return 16;
     }
     if b <= b'9' {
         return b as u32 - 48;
     }
-    b as u32 - 55
+    if b < b'A' {
+        return 16;
+    }
+    if b <= b'F' {
+        return b as u32 - 55;
+    }
+    16
 }
 
 // The value of the digit at a place; 0 past the end.
