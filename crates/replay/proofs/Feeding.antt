@@ -4,15 +4,16 @@ use Prim.Native.Nat.{ℕ, suc, _+_, _-_, _/_, _<_, _≤_}
 use native.Mathlib.Omega.{arith}
 use mathlib.Core.Path.{_≡_, refl, sym, ap, _∙_}
 use mathlib.Core.Bool.{Bool, true, false, cond}
-use mathlib.Core.List.{List}
+use mathlib.Core.List.{List, []}
 use lib.Dec.{eqb}
-use lib.ListN.{length, take, drop, length-drop}
+use lib.ListN.{length, getD, set, take, drop, length-drop, drop-of-length-le}
 use lib.Seq.{take-all, drop-drop}
 use borrow.Author.Tests.{eq-eqb, ne-eqb}
 use Rattle.instruction.specs.declared.mode.Mode.{Mode}
 use Rattle.replay.specs.Line.{positionOf}
-use Rattle.replay.specs.Log.{keeping}
-use Rattle.replay.specs.Take.{State, state, takenAt, linesOf, feedOf}
+use Rattle.views.specs.Positions.{some}
+use Rattle.replay.specs.Log.{refusing, going, numberOf, keeping}
+use Rattle.replay.specs.Take.{State, state, moveNow, faultAt, takenAt, linesOf, feedOf}
 use Rattle.replay.specs.declared.log.Log.{Log}
 
 module _ (mode : Mode) (image m : List ℕ) (isEntry : ℕ → Bool) where
@@ -33,6 +34,30 @@ module _ (mode : Mode) (image m : List ℕ) (isEntry : ℕ → Bool) where
   pub feed-rest : (s : State) (text : List ℕ) → length text < 7 → state (keeping (s .log) text) (s .counts) ≡ feedOf mode image m isEntry s text
   unfolding feedOf linesOf
   feed-rest s text h = sym (ap (λ (k : ℕ). linesOf mode image m isEntry k s text) (let e : length text / 7 ≡ 0 = omega arith in e))
+
+  -- a line after which nothing is left
+  module _ (s : State) (p : ℕ) where
+    abbrev after : Bool → ℕ → State
+    after b fault =
+        cond b (state (going (s .log) p (moveNow mode image m isEntry (s .log) p)) (set (s .counts) p (getD (s .counts) p 0 + 1)))
+        (state (refusing (s .log) fault) (s .counts))
+
+    ends-by : (fault : ℕ) (b : Bool) → eqb fault 0 ≡ b
+        → cond (eqb (after b fault .log .refusal) 0) (state (keeping (after b fault .log) []) (after b fault .counts)) (after b fault) ≡ after b fault
+    unfolding going refusing keeping some numberOf
+    ends-by fault true e = refl
+    ends-by fault false e = rw e refl
+
+    ends : (let t = takenAt mode image m isEntry s p in cond (eqb (t .log .refusal) 0) (state (keeping (t .log) []) (t .counts)) t)
+        ≡ takenAt mode image m isEntry s p
+    unfolding takenAt
+    ends = ends-by (faultAt mode image m isEntry s p) (eqb (faultAt mode image m isEntry s p) 0) refl
+
+  pub feed-one : (s : State) (line : List ℕ) → length line ≡ 7 → feedOf mode image m isEntry s line ≡ takenAt mode image m isEntry s (positionOf line)
+  feed-one s line e =
+      let t = takenAt mode image m isEntry s (positionOf line) in
+      feed-next s line (omega arith)
+      ∙ rw (take-all 7 line (omega arith), drop-of-length-le line {i = 7} (omega arith), ← feed-rest t [] (omega arith)) (ends s (positionOf line))
 
   -- ---- from a place of the text on
 

@@ -13,7 +13,7 @@ use Rattle.replay.specs.Log.{partial, keeping}
 use Rattle.replay.specs.Take.{State, state, takenAt, feedOf, blockOf}
 use Rattle.replay.specs.declared.log.Log.{Log}
 use Rattle.replay.proofs.Beginning.{partial-length, begun-part, begun-whole}
-use Rattle.replay.proofs.Feeding.{feed-on, feed-stop, feed-rest}
+use Rattle.replay.proofs.Feeding.{feed-on, feed-stop, feed-rest, feed-one}
 
 module _ (mode : Mode) (image m : List ℕ) (isEntry : ℕ → Bool) (l : Log) (counts text : List ℕ) where
   abbrev all : List ℕ
@@ -33,7 +33,7 @@ module _ (mode : Mode) (image m : List ℕ) (isEntry : ℕ → Bool) (l : Log) (
         (ap (λ (x : ℕ). take x b) (i ∙ e) ∙ ap (take (length (take 7 all))) f ∙ begun-part z (take 7 all) (omega arith) ∙ take-all 7 all (omega arith)))
         ∙ feed-rest mode image m isEntry s all (omega arith)
 
-    module _ (h : 7 ≤ n) (p : ℕ) (q : p ≡ positionOf b) (a : State) (t : a ≡ takenAt mode image m isEntry s p) where
+    module _ (h : 7 ≤ n) (a : State) (t : a ≡ feedOf mode image m isEntry s b) where
       long : 7 ≤ length all
       long = let w = length-take 7 all in omega arith
 
@@ -41,7 +41,9 @@ module _ (mode : Mode) (image m : List ℕ) (isEntry : ℕ → Bool) (l : Log) (
       line = f ∙ begun-whole z (take 7 all) (let w = length-take 7 all in omega arith)
 
       taken : a ≡ takenAt mode image m isEntry s (positionOf (take 7 all))
-      taken = t ∙ ap (takenAt mode image m isEntry s) (q ∙ ap positionOf line)
+      taken =
+          t ∙ ap (feedOf mode image m isEntry s) line
+          ∙ feed-one mode image m isEntry s (take 7 all) (let w = length-take 7 all in let k = long in omega arith)
 
       pub joined-stop : (a .log .refusal ≡ 0 → ⊥) → a ≡ blockOf mode image m isEntry s text
       unfolding blockOf

@@ -31,8 +31,7 @@ fn take_joined(
     if n < line::LENGTH {
         return keep::keep(log, &begin[0..n]);
     }
-    let p = line::position_of(&begin);
-    let after = take::take_line(log, mode, image, marks, table, counts, p);
+    let after = take::take_lines(log, mode, &begin, image, marks, table, counts);
     if after.refusal != 0 {
         return after;
     }

@@ -35,7 +35,7 @@ fn move_now(log: Log, mode: Mode, image: &[u8], marks: &[u8], table: &[u64], p: 
 }
 
 // A line that tells p, or 65,536 where it is none, taken or refused.
-pub fn take_line(
+fn take_line(
     log: Log,
     mode: Mode,
     image: &[u8],
