@@ -37,4 +37,5 @@ module _ (l : List ℕ) where
   pub by-digits : length l ≡ 7 → getD l 0 0 ≡ 80 → getD l 1 0 ≡ 9 → getD l 6 0 ≡ 10 → fourIn (digitsIn l) ≡ positionOf l
   unfolding fourIn
   by-digits h i j k =
-      tested true true true true (isFour (digitsIn l)) (eq-eqb (length l) 7 h) (eq-eqb (getD l 0 0) 80 i) (eq-eqb (getD l 1 0) 9 j) (eq-eqb (getD l 6 0) 10 k) refl
+      tested true true true true (isFour (digitsIn l)) (eq-eqb (length l) 7 h) (eq-eqb (getD l 0 0) 80 i) (eq-eqb (getD l 1 0) 9 j)
+      (eq-eqb (getD l 6 0) 10 k) refl

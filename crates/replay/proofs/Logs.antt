@@ -23,11 +23,10 @@ pub more-next : (n : ℕ) → n < highest → n + 1 ≡ oneMore n
 unfolding oneMore
 more-next n h = rw (lt-leb highest n h) refl
 
-pub going-is : (l : Log) (p : ℕ) (by : Move) (a x y : ℕ) (i f : Bool) → a ≡ oneMore (l .lines) → i ≡ isInterrupt by → x ≡ moreIf (l .interrupts) i
-    → f ≡ isFree by → y ≡ moreIf (l .free) f
-    → _≡_ {A = Log} (record { lines = a; interrupts = x; free = y; last = p; refusal = 0; held = 0; part = 0 }) (going l p by)
+pub going-is : (l : Log) (p : ℕ) (by : Move) (x y : ℕ) → x ≡ moreIf (l .interrupts) (isInterrupt by) → y ≡ moreIf (l .free) (isFree by)
+    → _≡_ {A = Log} (record { lines = oneMore (l .lines); interrupts = x; free = y; last = p; refusal = 0; held = 0; part = 0 }) (going l p by)
 unfolding going
-going-is l p by a x y i f ea ei ex ef ey = rw (ea, ex, ey, ei, ef) refl
+going-is l p by x y e f = rw (e, f) refl
 
 -- ---- what is told
 

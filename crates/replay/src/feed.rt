@@ -31,6 +31,7 @@ fn take_joined(
     if n < line::LENGTH {
         return keep::keep(log, &begin[0..n]);
     }
+    // As a text of its own: a line is taken by the loop over lines alone, so that the compiler makes it part of the loop.
     let after = take::take_lines(log, mode, &begin, image, marks, table, counts);
     if after.refusal != 0 {
         return after;

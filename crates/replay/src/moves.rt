@@ -4,7 +4,7 @@ ghost use Prim.Native.Nat.{_<_};
 ghost use lib.ListN.{length};
 ghost use Rattle.map.specs.Words.{codeAt};
 ghost use Rattle.arrivals.specs.Arrivals.{arrives};
-ghost use Rattle.replay.specs.Moves.{freeAfter, moveBy, isInterrupt, isFree, isForbidden};
+ghost use Rattle.replay.specs.Moves.{freeAfter, moveBy, isForbidden};
 use crate::entry;
 use instruction::Mode;
 use marks::Mark;
@@ -20,28 +20,6 @@ pub enum Move {
 }
 
 impl Move {
-    pub fn is_interrupt(self) -> bool
-        ensures { λ r. ⌜ r ≡ isInterrupt self ⌝ }
-    {
-        match self {
-            Self::Target => false,
-            Self::Interrupt => true,
-            Self::Free => false,
-            Self::Forbidden => false,
-        }
-    }
-
-    pub fn is_free(self) -> bool
-        ensures { λ r. ⌜ r ≡ isFree self ⌝ }
-    {
-        match self {
-            Self::Target => false,
-            Self::Interrupt => false,
-            Self::Free => true,
-            Self::Forbidden => false,
-        }
-    }
-
     pub fn is_forbidden(self) -> bool
         ensures { λ r. ⌜ r ≡ isForbidden self ⌝ }
     {

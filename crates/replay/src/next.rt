@@ -1,7 +1,7 @@
 // The record after one more line, and its totals, which stop at the highest.
 ghost use mathlib.Core.Path.{_≡_};
 ghost use Prim.Native.Nat.{min};
-ghost use Rattle.replay.specs.Log.{highest, oneMore, moreIf, refusing, going};
+ghost use Rattle.replay.specs.Log.{highest, oneMore, refusing, going};
 use crate::log::Log;
 use crate::moves::Move;
 
@@ -28,16 +28,6 @@ pub fn at_most(n: u64) -> u64
     n
 }
 
-// One more where a test says so.
-fn more_if(n: u64, test: bool) -> u64
-    ensures { λ r. ⌜ r ≡ moreIf n test ⌝ }
-{
-    if test {
-        return one_more(n);
-    }
-    n
-}
-
 // The next line is refused.
 pub fn refuse(log: Log, number: u64) -> Log
     ensures { λ r. ⌜ r ≡ refusing log number ⌝ }
@@ -53,17 +43,30 @@ pub fn refuse(log: Log, number: u64) -> Log
     }
 }
 
-// The next line is taken: it tells p, and control came there so.
-pub fn go_on(log: Log, p: u32, by: Move) -> Log
-    ensures { λ r. ⌜ r ≡ going log p by ⌝ }
+// The next line is taken: it tells p, and these are the totals of moves after it.
+fn taken(log: Log, p: u32, interrupts: u64, free: u64) -> Log
+    ensures { λ r. ⌜ r
+        ≡ record { lines = oneMore (log .lines); interrupts = interrupts; free = free; last = p; refusal = 0; held = 0; part = 0 } ⌝ }
 {
     Log {
         lines: one_more(log.lines),
-        interrupts: more_if(log.interrupts, by.is_interrupt()),
-        free: more_if(log.free, by.is_free()),
+        interrupts,
+        free,
         last: p as u64,
         refusal: 0,
         held: 0,
         part: 0,
+    }
+}
+
+// The next line is taken: it tells p, and control came there so. By cases, so that a move to a target, as most are, is at no other total.
+pub fn go_on(log: Log, p: u32, by: Move) -> Log
+    ensures { λ r. ⌜ r ≡ going log p by ⌝ }
+{
+    match by {
+        Move::Target => taken(log, p, log.interrupts, log.free),
+        Move::Interrupt => taken(log, p, one_more(log.interrupts), log.free),
+        Move::Free => taken(log, p, log.interrupts, one_more(log.free)),
+        Move::Forbidden => taken(log, p, log.interrupts, log.free),
     }
 }
