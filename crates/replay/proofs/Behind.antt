@@ -1,11 +1,11 @@
 -- Targets that the line before had: none where it is not traced or has mark 3; and the position behind it is one where control goes on.
 -- Assumes nothing.
-use Prim.Native.Nat.{ℕ, _+_, _<_}
+use Prim.Native.Nat.{ℕ, _<_}
 use mathlib.Core.Path.{_≡_, refl, sym, ap, _∙_}
-use mathlib.Core.Bool.{Bool, true, false, cond, _&&_}
+use mathlib.Core.Bool.{Bool, true, false, cond}
 use mathlib.Core.List.{List, [], map}
 use lib.Dec.{eqb}
-use lib.IntN.{ℤ, pos}
+use lib.IntN.{ℤ}
 use lib.ListN.{length, getD}
 use Rattle.instruction.proofs.Ands.{first-part, second-part}
 use Rattle.instruction.proofs.Sign.{never}
@@ -13,8 +13,8 @@ use Rattle.instruction.specs.Flow.{flowOf}
 use Rattle.instruction.specs.declared.flow.Flow.{Flow}
 use Rattle.instruction.specs.declared.flow.Flow.the-variants.{Stop, Next, Jump, Branch}
 use Rattle.instruction.specs.declared.mode.Mode.{Mode}
-use Rattle.targets.specs.At.{formHere, sizeHere, instrHere, placeOf, waysHere}
-use Rattle.targets.specs.Targets.{inMode, byFlow, addressIn}
+use Rattle.targets.specs.At.{formHere, placeOf, waysHere}
+use Rattle.targets.specs.Targets.{byFlow}
 use Rattle.targets.specs.Ways.{isWhole, goesOn, fallsTo, waysOf}
 use Rattle.targets.proofs.Openings.{goes}
 use Rattle.targets.proofs.Within.{Small}
@@ -22,7 +22,7 @@ use Rattle.reach.specs.Mark.{flash}
 use Rattle.views.specs.Positions.{some, tracedAt}
 use Rattle.views.proofs.Ors.{or-first, or-second}
 use Rattle.arrivals.specs.Arrivals.{heldAt, arrives}
-use Rattle.arrivals.proofs.Holding.{gone, gone-whole, untraced-held, flash-held, traced-held}
+use Rattle.arrivals.proofs.Holding.{gone-whole, untraced-held, flash-held, traced-held}
 use Rattle.arrivals.proofs.Arriving.{nowhere, by-targets}
 
 -- where control goes on, what comes behind is among where it goes
