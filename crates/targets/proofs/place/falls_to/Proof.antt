@@ -1,3 +1,5 @@
+-- `place::falls_to` meets its contract.
+-- Assumes nothing.
 use Rattle.targets.proofs.Falling.{falls-none, falls-not, falls-so}
 use Rattle.targets.proofs.Openings.{IsWhole, whole-says, cut-says, outside-says}
 use Rattle.instruction.specs.declared.mode.Mode.{Mode}
