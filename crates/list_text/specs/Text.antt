@@ -49,8 +49,11 @@ imageRefusals k n (l ∷ ls) =
     bad (not (isBytes 32 l) || ltb 16384 (n + length (bytesOf l))) k ∷ imageRefusals (suc k) (n + length (bytesOf l)) ls
 
 -- the lines in their order: the first bad one speaks
+abbrev pub refusalsIn : List (List ℕ) → List Refusal
+refusalsIn ls = bad (not (isEntries (first ls))) 1 ∷ imageRefusals 2 0 (others ls)
+
 unfoldable pub inputRefusals : List ℕ → List Refusal
-inputRefusals text = bad (not (isEntries (entryLine text))) 1 ∷ imageRefusals 2 0 (imageLines text)
+inputRefusals text = refusalsIn (lines text)
 
 -- how many entries and how many bytes
 abbrev pub counts : ℕ → ℕ → Input

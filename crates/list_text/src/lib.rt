@@ -1,13 +1,13 @@
 // The listing program's work: its whole input text to its whole output text.
 mod bytes;
-mod decimal;
+pub mod decimal;
 mod entries;
 mod line;
 pub mod parsed;
 pub mod print;
 pub mod read;
 pub mod refusal;
-mod rooms;
+pub mod rooms;
 
 pub use parsed::Input;
 pub use parsed::Parsed;

@@ -1,0 +1,9 @@
+pub mod Images
+pub mod Name
+pub mod Figures
+pub mod Image
+pub mod Sums
+pub mod Report
+pub mod Term
+pub mod ClaimsReport
+pub mod ClaimsTerm

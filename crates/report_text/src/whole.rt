@@ -1,0 +1,106 @@
+// The report of a whole text.
+ghost use mathlib.Core.Path.{_≡_};
+ghost use Prim.Native.Nat.{min, _+_};
+ghost use lib.ListN.{replicate};
+ghost use lib.Seq.{sets};
+ghost use Rattle.views.specs.View.{viewedOf};
+ghost use Rattle.report_text.specs.Report.{reportAnswer, reportRoom, writtenIn, Filling};
+use crate::term;
+use crate::term::Term;
+use views::Viewed;
+
+// A report that is longer is not written: an answer holds no number over it.
+const HIGHEST: usize = 0x7FFF_FFFF_FFFF_FFFF;
+
+// As much as is held of an image's text.
+fn held() -> [u8; Term::MOST]
+    ensures { λ r. ⌜ r ≡ replicate 51200 0 ⌝ }
+{
+    [0; Term::MOST]
+}
+
+// As long as what one call prints can be.
+fn printed() -> [u8; Term::MOST_PRINTED]
+    ensures { λ r. ⌜ r ≡ replicate 512 0 ⌝ }
+{
+    [0; Term::MOST_PRINTED]
+}
+
+// How much was written.
+fn count_of(viewed: Viewed) -> usize
+    ensures { λ r. ⌜ r ≡ writtenIn viewed ⌝ }
+{
+    match viewed {
+        Viewed::Written(n) => n,
+        Viewed::LongImage(_) => 0,
+        Viewed::ShortMarks(_) => 0,
+        Viewed::Damaged(_) => 0,
+        Viewed::NoRoom(_) => 0,
+    }
+}
+
+// Writes a text into a room from a place on; what falls past its end is not written.
+fn copy(text: &[u8], room: &mut [u8], at: usize)
+    ensures { λ _. ⌜ now (room .exit) ≡ sets (now (room .entry)) at (now (text .entry)) ⌝ }
+{
+    let mut to = at;
+    let mut i: usize = 0;
+    while i < text.len() {
+        if room.len() <= to {
+            return;
+        }
+        room[to] = text[i];
+        to += 1;
+        i += 1;
+    }
+}
+
+// The sum, or 2^63 where it would be more.
+fn more(n: usize, k: usize) -> usize
+    ensures { λ r. ⌜ r ≡ min (n + k) 9223372036854775808 ⌝ }
+{
+    if HIGHEST < n {
+        return HIGHEST + 1;
+    }
+    if HIGHEST - n < k {
+        return HIGHEST + 1;
+    }
+    n + k
+}
+
+// Writes as much of a text's report as there is room for, and counts it.
+fn fill(text: &[u8], room: &mut [u8]) -> usize
+    ensures { λ r. ⌜ Filling (now (text .entry)) (now (room .entry)) (now (room .exit)) r ⌝ }
+{
+    let mut held = held();
+    let mut line = printed();
+    let mut now = Term::new();
+    let mut at: usize = 0;
+    let mut n: usize = 0;
+    while at < text.len() {
+        let taken = term::take(now, &text[at..], &mut held, &mut line);
+        let k = count_of(taken.printed);
+        copy(&line[..k], room, n);
+        n = more(n, k);
+        now = taken.term;
+        at += taken.used;
+    }
+    let k = count_of(term::close(now, &held, &mut line));
+    copy(&line[..k], room, n);
+    more(n, k)
+}
+
+// The whole report of a text: how many bytes were written, or 11 with how many are needed. It is made twice, so that a refusal writes nothing.
+pub fn report_text(text: &[u8], room: &mut [u8]) -> Viewed
+    ensures { λ r. ⌜ viewedOf r ≡ reportAnswer (now (text .entry)) (now (room .entry)) ⌝ }
+    ensures { λ _. ⌜ now (room .exit) ≡ reportRoom (now (text .entry)) (now (room .entry)) ⌝ }
+{
+    let n = fill(text, &mut room[..0]);
+    if HIGHEST < n {
+        return Viewed::NoRoom(HIGHEST);
+    }
+    if room.len() < n {
+        return Viewed::NoRoom(n);
+    }
+    Viewed::Written(fill(text, room))
+}
