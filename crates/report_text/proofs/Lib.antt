@@ -1,0 +1,5 @@
+pub mod ImageTexts
+pub mod Blocks
+pub mod Firsts
+pub mod HeldTexts
+pub mod ReportFed
