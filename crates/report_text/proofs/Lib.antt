@@ -3,3 +3,4 @@ pub mod Blocks
 pub mod Firsts
 pub mod HeldTexts
 pub mod ReportFed
+pub mod Gathers

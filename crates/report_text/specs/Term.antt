@@ -63,12 +63,17 @@ module _ (s : Sums) (i : List (List ℕ)) where
       cond (fitting (adding s answer)) (record { sums = adding s answer; held = 0; fresh = true; over = false })
       (record { sums = s; held = 0; fresh = true; over = true })
 
--- one more byte held, if there is room
+-- one more byte held, if there is room: how many are held then, and the room
+abbrev pub pushedCount : ℕ → ℕ
+pushedCount held = cond (ltb (min held most) most) (suc (min held most)) (min held most)
+
+abbrev pub pushedRoom : List ℕ → ℕ → ℕ → List ℕ
+pushedRoom room held b = cond (ltb (min held most) most) (set room (min held most) b) room
+
 unfoldable pub pushed : State → ℕ → State
 pushed s b =
-    let h = heldIn (s .term) in
-    state (record { sums = s .term .sums; held = cond (ltb h most) (suc h) h; fresh = eqb b 10; over = s .term .over })
-    (cond (ltb h most) (set (s .room) h b) (s .room))
+    let t = s .term in
+    state (record { sums = t .sums; held = pushedCount (t .held); fresh = eqb b 10; over = t .over }) (pushedRoom (s .room) (t .held) b)
 
 -- b ends an empty line
 abbrev pub isEmptyLine : Term → ℕ → Bool

@@ -3,7 +3,7 @@ ghost use mathlib.Core.Bool.{false};
 ghost use mathlib.Core.Path.{_≡_};
 ghost use Prim.Native.Nat.{_≤_};
 ghost use lib.ListN.{length};
-ghost use Rattle.report_text.specs.Term.{most, Gathering};
+ghost use Rattle.report_text.specs.Term.{most, pushedCount, pushedRoom, Gathering};
 use crate::term::Term;
 use text::cut;
 
@@ -14,6 +14,19 @@ pub struct Gathered {
     // How many bytes of the text were taken, and whether the last of them ends an image.
     pub used: usize,
     pub complete: bool,
+}
+
+// One more byte held, if there is room: how many are held then.
+fn push(room: &mut [u8], held: usize, b: u8) -> usize
+    requires { ⌜ most ≤ length (now room) ⌝ }
+    ensures { λ r. ⌜ r ≡ pushedCount held ⌝ }
+    ensures { λ r. ⌜ now (room .exit) ≡ pushedRoom (now (room .entry)) held b ⌝ }
+{
+    if Term::MOST <= held {
+        return Term::MOST;
+    }
+    room[held] = b;
+    held + 1
 }
 
 pub fn gather(term: Term, text: &[u8], room: &mut [u8]) -> Gathered
@@ -36,12 +49,7 @@ pub fn gather(term: Term, text: &[u8], room: &mut [u8]) -> Gathered
                 };
             }
         } else {
-            if held < Term::MOST {
-                room[held] = b;
-                held += 1;
-            } else {
-                held = Term::MOST;
-            }
+            held = push(room, held, b);
             fresh = b == cut::LINE_END;
         }
     }

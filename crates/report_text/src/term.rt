@@ -94,8 +94,9 @@ pub fn take(term: Term, text: &[u8], room: &mut [u8], out: &mut [u8]) -> Taken
         };
     }
     let g = gather::gather(term, text, room);
+    let sums = term.sums;
     let after = Term {
-        sums: term.sums,
+        sums,
         held: g.held,
         fresh: g.fresh,
         over: false,
@@ -108,7 +109,7 @@ pub fn take(term: Term, text: &[u8], room: &mut [u8], out: &mut [u8]) -> Taken
         };
     }
     let n = after.held_in();
-    let f = finish::finish(term.sums, &room[..n], out);
+    let f = finish::finish(sums, &room[..n], out);
     Taken {
         term: f.term,
         used: g.used,
@@ -129,10 +130,11 @@ pub fn close(term: Term, room: &[u8], out: &mut [u8]) -> Viewed
         return checked;
     }
     let n = term.held_in();
+    let sums = term.sums;
     if n == 0 {
-        return Viewed::Written(line::put_total(term.sums, out, 0));
+        return Viewed::Written(line::put_total(sums, out, 0));
     }
-    let f = finish::finish(term.sums, &room[..n], out);
+    let f = finish::finish(sums, &room[..n], out);
     if f.term.over {
         return Viewed::Written(f.printed);
     }

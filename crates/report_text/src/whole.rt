@@ -79,7 +79,8 @@ fn fill(text: &[u8], room: &mut [u8]) -> usize
     let mut n: usize = 0;
     while at < text.len() {
         let taken = term::take(now, &text[at..], &mut held, &mut line);
-        let k = count_of(taken.printed);
+        let printed = taken.printed;
+        let k = count_of(printed);
         copy(&line[..k], room, n);
         n = more(n, k);
         now = taken.term;
