@@ -4,3 +4,5 @@ pub mod Firsts
 pub mod HeldTexts
 pub mod ReportFed
 pub mod Gathers
+pub mod Counts
+pub mod Covering
