@@ -6,3 +6,5 @@ pub mod ReportFed
 pub mod Gathers
 pub mod Counts
 pub mod Covering
+pub mod CodeAndData
+pub mod Marked
