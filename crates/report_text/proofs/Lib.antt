@@ -8,3 +8,4 @@ pub mod Counts
 pub mod Covering
 pub mod CodeAndData
 pub mod Marked
+pub mod Runs
