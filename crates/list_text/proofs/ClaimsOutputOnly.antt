@@ -61,7 +61,7 @@ module _ (image entries : List ℕ) (small : length image ≤ 16384) where
       let l = lent-length in
       right-sizes image (lentRoom image) _ tt (omega arith) (omega arith) ∙ pass _ _ _ (le-ltb (length (lentRoom image)) (length image) (omega arith)) ∙ done tt
 
-  run-five : (n : ℕ) (vs : List ℤ) → runAnswer Unwrapped image (lentRoom image) (lentRoom image) entries [] (length image) ≡ refused n vs → n ≡ 5
+  pub run-five : (n : ℕ) (vs : List ℤ) → runAnswer Unwrapped image (lentRoom image) (lentRoom image) entries [] (length image) ≡ refused n vs → n ≡ 5
   unfolding runAnswer
   run-five n vs e =
       let out = outcomeOf Unwrapped image (lentRoom image) entries [] (length image) in

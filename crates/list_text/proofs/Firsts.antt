@@ -21,7 +21,7 @@ use Rattle.list_text.specs.declared.line.Line.the-variants.{Good, Bad}
 use Rattle.list_text.proofs.LaidRooms.{laid-over}
 
 -- where line 1 ends at e
-split : (t : List ℕ) (e : ℕ) → e ≡ 0 + length (upTo 10 (drop 0 t)) → (entryLine t ≡ take (e - 0) (drop 0 t)) × (imageLines t ≡ lines (drop (e + 1) t))
+pub split : (t : List ℕ) (e : ℕ) → e ≡ 0 + length (upTo 10 (drop 0 t)) → (entryLine t ≡ take (e - 0) (drop 0 t)) × (imageLines t ≡ lines (drop (e + 1) t))
 unfolding cut upTo
 split [] e p = let z : e ≡ 0 = omega arith in rw z (refl, refl)
 split (b ∷ t) e p = let n = line-next (b ∷ t) 0 e p (omega arith) in (ap first n, ap others n)

@@ -54,7 +54,7 @@ module _ (text : List ℕ) where
       (v, let g : accepted c ≡ accepted (countsOf text) = f ∙ valid-parses v in cc)
 
   -- a refusal is that of a line
-  refused-line : (n : ℕ) (vs : List ℤ) → refused n vs ≡ parseAnswer text entries image → (r : Answer Input) → judged ≡ r → judged ≡ refused n vs
+  pub refused-line : (n : ℕ) (vs : List ℤ) → refused n vs ≡ parseAnswer text entries image → (r : Answer Input) → judged ≡ r → judged ≡ refused n vs
   refused-line n vs f (accepted d) e =
       absurd (differ (f ∙ valid-parses (e ∙ ap accepted (sym (accepts (inputRefusals text) (countsOf text) d e)))))
   refused-line n vs f (refused k us) e = e ∙ sym (f ∙ invalid-parses k us e)

@@ -9,3 +9,5 @@ pub mod Covering
 pub mod CodeAndData
 pub mod Marked
 pub mod Runs
+pub mod Inputs
+pub mod ClaimsOnly
