@@ -10,4 +10,6 @@ pub mod CodeAndData
 pub mod Marked
 pub mod Runs
 pub mod Inputs
+pub mod Starts
+pub mod Named
 pub mod ClaimsOnly
