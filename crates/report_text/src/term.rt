@@ -110,8 +110,9 @@ pub fn take(term: Term, text: &[u8], room: &mut [u8], out: &mut [u8]) -> Taken
     }
     let n = after.held_in();
     let f = finish::finish(sums, &room[..n], out);
+    let ended = f.term;
     Taken {
-        term: f.term,
+        term: ended,
         used: g.used,
         printed: Viewed::Written(f.printed),
     }
@@ -135,8 +136,10 @@ pub fn close(term: Term, room: &[u8], out: &mut [u8]) -> Viewed
         return Viewed::Written(line::put_total(sums, out, 0));
     }
     let f = finish::finish(sums, &room[..n], out);
-    if f.term.over {
+    let ended = f.term;
+    if ended.over {
         return Viewed::Written(f.printed);
     }
-    Viewed::Written(line::put_total(f.term.sums, out, f.printed))
+    let sums = ended.sums;
+    Viewed::Written(line::put_total(sums, out, f.printed))
 }

@@ -83,7 +83,8 @@ fn fill(text: &[u8], room: &mut [u8]) -> usize
         let k = count_of(printed);
         copy(&line[..k], room, n);
         n = more(n, k);
-        now = taken.term;
+        let next = taken.term;
+        now = next;
         at += taken.used;
     }
     let k = count_of(term::close(now, &held, &mut line));
