@@ -13,3 +13,5 @@ pub mod Inputs
 pub mod Starts
 pub mod Named
 pub mod ClaimsOnly
+pub mod Adding
+pub mod Names

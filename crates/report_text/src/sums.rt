@@ -47,13 +47,25 @@ fn fits(a: u64, b: u64) -> bool
 fn figures_fit(s: Sums, f: Figures) -> bool
     ensures { λ r. ⌜ r ≡ fitting (adding s (reportedOf (Reported.Counted f))) ⌝ }
 {
-    fits(s.length, f.length)
-        && fits(s.steps, f.steps)
-        && fits(s.code, f.code)
-        && fits(s.plain, f.plain)
-        && fits(s.shared, f.shared)
-        && fits(s.targets, f.targets)
-        && fits(s.accepted, 1)
+    if !fits(s.length, f.length) {
+        return false;
+    }
+    if !fits(s.steps, f.steps) {
+        return false;
+    }
+    if !fits(s.code, f.code) {
+        return false;
+    }
+    if !fits(s.plain, f.plain) {
+        return false;
+    }
+    if !fits(s.shared, f.shared) {
+        return false;
+    }
+    if !fits(s.targets, f.targets) {
+        return false;
+    }
+    fits(s.accepted, 1)
 }
 
 // Whether the sums with one more image fit.
@@ -66,22 +78,30 @@ pub fn image_fits(s: Sums, image: Reported) -> bool
     }
 }
 
+// The sums with one more accepted image.
+fn add_figures(s: Sums, f: Figures) -> Sums
+    requires { ⌜ fitting (adding s (reportedOf (Reported.Counted f))) ≡ true ⌝ }
+    ensures { λ r. ⌜ r ≡ adding s (reportedOf (Reported.Counted f)) ⌝ }
+{
+    Sums {
+        length: s.length + f.length,
+        steps: s.steps + f.steps,
+        code: s.code + f.code,
+        plain: s.plain + f.plain,
+        shared: s.shared + f.shared,
+        targets: s.targets + f.targets,
+        accepted: s.accepted + 1,
+        refused: s.refused,
+    }
+}
+
 // The sums with one more image.
 pub fn add(s: Sums, image: Reported) -> Sums
     requires { ⌜ fitting (adding s (reportedOf image)) ≡ true ⌝ }
     ensures { λ r. ⌜ r ≡ adding s (reportedOf image) ⌝ }
 {
     match image {
-        Reported::Counted(f) => Sums {
-            length: s.length + f.length,
-            steps: s.steps + f.steps,
-            code: s.code + f.code,
-            plain: s.plain + f.plain,
-            shared: s.shared + f.shared,
-            targets: s.targets + f.targets,
-            accepted: s.accepted + 1,
-            refused: s.refused,
-        },
+        Reported::Counted(f) => add_figures(s, f),
         Reported::Refused(_) => Sums {
             length: s.length,
             steps: s.steps,
