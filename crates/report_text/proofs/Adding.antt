@@ -1,16 +1,19 @@
 -- Sums: each test of the code is one of the definition, and what fits is told of each sum.
 -- Assumes nothing.
 use mathlib.Core.Path.{_≡_, refl, sym, _∙_}
-use mathlib.Core.Bool.{Bool, true, false}
+use mathlib.Core.Bool.{Bool, true, false, not}
 use mathlib.Core.List.{List, [], _∷_}
 use Prim.Native.Nat.{ℕ, zero, suc, _+_, _-_, _≤_, _<_}
 use native.Mathlib.Nat.{le-of-suc-le-suc}
 use native.Mathlib.Omega.{arith}
+use mir.Syntax.{w64}
+use mir.Val.{Fits}
 use lib.Dec.{leb}
+use lib.IntN.{ℤ}
 use lib.ListN.{length, getD}
-use borrow.Author.Tests.{leb-true, leb-false, le-leb, lt-leb}
+use borrow.Author.Tests.{leb-true, leb-false, le-leb, lt-leb, not-true}
 use Rattle.instruction.specs.Answer.{accepted, refused}
-use Rattle.instruction.proofs.Ands.{not-second, first-part, second-part}
+use Rattle.instruction.proofs.Ands.{not-second, first-alone, first-part, second-part}
 use Rattle.report_text.specs.Sums.{sumList, adding, allFit, fitting}
 use Rattle.report_text.specs.declared.figures.Figures.{Figures}
 use Rattle.report_text.specs.declared.sums.Sums.{Sums}
@@ -35,3 +38,41 @@ unfolding allFit
 fit-at [] i h e = absurd (omega arith)
 fit-at (n ∷ ns) zero h e = leb-true n 18446744073709551615 (first-part _ (allFit ns) e)
 fit-at (n ∷ ns) (suc i) h e = fit-at ns i (le-of-suc-le-suc h) (second-part (leb n 18446744073709551615) (allFit ns) e)
+
+-- so a machine number holds it
+pub sum-held : (s : Sums) (i : ℕ) → i < 8 → fitting s ≡ true → Fits w64 (getD (sumList s) i 0)
+sum-held s i h e = record { fits = omega (arith, fit-at (sumList s) i h e) }
+
+-- and what a machine number holds fits
+held-fits : (n : ℕ) → Fits w64 n → leb n 18446744073709551615 ≡ true
+held-fits n h = le-leb n 18446744073709551615 (omega (arith, h .fits))
+
+pub sums-fit : (s : Sums) → Fits w64 (s .length) → Fits w64 (s .steps) → Fits w64 (s .code) → Fits w64 (s .plain) → Fits w64 (s .shared) → Fits w64 (s .targets) → Fits w64 (s .accepted) → Fits w64 (s .refused)
+    → fitting s ≡ true
+unfolding allFit
+sums-fit s a b c d e f g h =
+    rw (held-fits (s .length) a, held-fits (s .steps) b, held-fits (s .code) c, held-fits (s .plain) d, held-fits (s .shared) e, held-fits (s .targets) f, held-fits (s .accepted) g, held-fits (s .refused) h)
+
+sum-fits : (s : Sums) (i : ℕ) → i < 8 → fitting s ≡ true → leb (getD (sumList s) i 0) 18446744073709551615 ≡ true
+sum-fits s i h e = le-leb (getD (sumList s) i 0) 18446744073709551615 (fit-at (sumList s) i h e)
+
+-- with the figures of one more image: where one sum does not fit, and where only the number accepted is open
+module _ (s : Sums) (f : Figures) where
+  pub unfit-figure : (i : ℕ) → i < 8 → (t : Bool) → t ≡ leb (getD (sumList (adding s (accepted f))) i 0) 18446744073709551615 → not t ≡ true
+      → false ≡ fitting (adding s (accepted f))
+  unfit-figure i h t e n = sym (unfit-at (sumList (adding s (accepted f))) i h (sym e ∙ not-true t n))
+
+  pub accepted-fits : leb (s .length + f .length) 18446744073709551615 ≡ true → leb (s .steps + f .steps) 18446744073709551615 ≡ true
+      → leb (s .code + f .code) 18446744073709551615 ≡ true → leb (s .plain + f .plain) 18446744073709551615 ≡ true
+      → leb (s .shared + f .shared) 18446744073709551615 ≡ true → leb (s .targets + f .targets) 18446744073709551615 ≡ true
+      → fitting s ≡ true → leb (s .accepted + 1) 18446744073709551615 ≡ fitting (adding s (accepted f))
+  unfolding allFit
+  accepted-fits a b c d e g h =
+      rw (a, b, c, d, e, g, sum-fits s 7 (omega arith) h) (sym (first-alone (leb (s .accepted + 1) 18446744073709551615) true refl))
+
+-- with one more refused
+pub refused-fits : (s : Sums) (n : ℕ) (vs : List ℤ) → fitting s ≡ true → leb (s .refused + 1) 18446744073709551615 ≡ fitting (adding s (refused n vs))
+unfolding allFit
+refused-fits s n vs h =
+    rw (sum-fits s 0 (omega arith) h, sum-fits s 1 (omega arith) h, sum-fits s 2 (omega arith) h, sum-fits s 3 (omega arith) h, sum-fits s 4 (omega arith) h, sum-fits s 5 (omega arith) h, sum-fits s 6 (omega arith) h)
+    (sym (first-alone (leb (s .refused + 1) 18446744073709551615) true refl))
