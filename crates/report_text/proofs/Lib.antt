@@ -14,4 +14,7 @@ pub mod Starts
 pub mod Named
 pub mod ClaimsOnly
 pub mod Adding
+pub mod ClaimsSums
+pub mod Lines
 pub mod Names
+pub mod ReportedApart

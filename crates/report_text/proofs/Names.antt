@@ -1,17 +1,17 @@
 -- Names: each test of the code is one of the definition.
 -- Assumes nothing.
-use mathlib.Core.Path.{_≡_, refl}
+use mathlib.Core.Path.{_≡_, refl, sym, ap, _∙_}
 use mathlib.Core.Bool.{Bool, true, false, _&&_, _||_}
-use mathlib.Core.List.{List}
+use mathlib.Core.List.{List, [], _∷_}
 use Prim.Native.Nat.{ℕ, _+_, _-_, _≤_, _<_}
 use native.Mathlib.Numerals.{add-one}
 use native.Mathlib.Omega.{arith}
 use lib.Dec.{eqb, leb}
 use lib.ListN.{length, getD, take, drop, length-drop, drop-of-length-le}
 use lib.Seq.{drop-cons, take-all}
-use borrow.Author.Tests.{le-leb, lt-leb, eq-eqb, ne-eqb}
-use Rattle.instruction.proofs.Ands.{not-first, not-second}
-use Rattle.report_text.specs.Name.{isLetterOrDigit, allNamed, isName, isNameLine, nameIn, nameLength}
+use borrow.Author.Tests.{le-leb, lt-leb, eq-eqb, ne-eqb, leb-true}
+use Rattle.instruction.proofs.Ands.{not-first, not-second, first-part, second-part}
+use Rattle.report_text.specs.Name.{isLetterOrDigit, allNamed, isName, isNameLine, nameIn, nameOf, nameLength}
 
 or-none : (t : Bool) → t ≡ (t || (false || false))
 or-none true = refl
@@ -92,3 +92,39 @@ module _ (l : List ℕ) where
 
   pub good-name : 3 ≤ length l → length l ≤ 34 → getD l 0 0 ≡ 78 → getD l 1 0 ≡ 9 → allNamed (nameIn l) ≡ true → length l - 2 ≡ nameLength l
   good-name h k n t e = rw (name-line h k n t e)
+
+  -- a name has 1 to 32 bytes
+  pub name-sized : isNameLine l ≡ true → (3 ≤ length l) × (length l ≤ 34)
+  unfolding isNameLine isName
+  name-sized e =
+      let d = length-drop 2 l in
+      let s = second-part (eqb (getD l 1 0) 9) _ (second-part (eqb (getD l 0 0) 78) _ e) in
+      let a = leb-true 1 (length (nameIn l)) (first-part _ _ s) in
+      let b = leb-true (length (nameIn l)) 32 (first-part _ _ (second-part (leb 1 (length (nameIn l))) _ s)) in
+      (omega (arith, a, d), omega (arith, b, d))
+
+  pub has-name : (nameLength l ≡ 0 → ⊥) → isNameLine l ≡ true
+  has-name h = by (isNameLine l) refl
+    where
+      by : (t : Bool) → isNameLine l ≡ t → isNameLine l ≡ true
+      by true e = e
+      by false e = absurd (h (sym (refuses e)))
+
+  pub no-name : nameLength l ≡ 0 → nameOf l ≡ 45 ∷ []
+  unfolding nameOf
+  no-name h = by (isNameLine l) refl
+    where
+      by : (t : Bool) → isNameLine l ≡ t → nameOf l ≡ 45 ∷ []
+      by true e = let z : length l - 2 ≡ 0 = rw e at h in absurd (omega (arith, name-sized e .0, z))
+      by false e = rw e
+
+  pub is-name : isNameLine l ≡ true → nameOf l ≡ nameIn l
+  unfolding nameOf
+  is-name e = rw e
+
+  pub name-most : length (nameOf l) ≤ 32
+  name-most = by (isNameLine l) refl
+    where
+      by : (t : Bool) → isNameLine l ≡ t → length (nameOf l) ≤ 32
+      by true e = omega (arith, ap length (is-name e), length-drop 2 l, name-sized e .1)
+      by false e = omega (arith, ap length (no-name (sym (refuses e))))
