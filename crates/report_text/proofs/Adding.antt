@@ -51,11 +51,20 @@ sum-held s i h e = record { fits = omega (arith, fit-at (sumList s) i h e) }
 held-fits : (n : ℕ) → Fits w64 n → leb n most ≡ true
 held-fits n h = le-leb n most (omega (arith, h .fits))
 
-pub sums-fit : (s : Sums) → Fits w64 (s .length) → Fits w64 (s .steps) → Fits w64 (s .code) → Fits w64 (s .plain) → Fits w64 (s .shared) → Fits w64 (s .targets) → Fits w64 (s .accepted) → Fits w64 (s .refused)
-    → fitting s ≡ true
+pub sums-fit : (s : Sums) → Fits w64 (s .length) → Fits w64 (s .steps) → Fits w64 (s .code) → Fits w64 (s .plain) → Fits w64 (s .shared)
+    → Fits w64 (s .targets) → Fits w64 (s .accepted) → Fits w64 (s .refused) → fitting s ≡ true
 unfolding allFit
 sums-fit s a b c d e f g h =
-    rw (held-fits (s .length) a, held-fits (s .steps) b, held-fits (s .code) c, held-fits (s .plain) d, held-fits (s .shared) e, held-fits (s .targets) f, held-fits (s .accepted) g, held-fits (s .refused) h)
+    rw (
+      held-fits (s .length) a,
+      held-fits (s .steps) b,
+      held-fits (s .code) c,
+      held-fits (s .plain) d,
+      held-fits (s .shared) e,
+      held-fits (s .targets) f,
+      held-fits (s .accepted) g,
+      held-fits (s .refused) h,
+    )
 
 sum-fits : (s : Sums) (i : ℕ) → i < 8 → fitting s ≡ true → leb (getD (sumList s) i 0) most ≡ true
 sum-fits s i h e = le-leb (getD (sumList s) i 0) most (fit-at (sumList s) i h e)
@@ -78,5 +87,13 @@ module _ (s : Sums) (f : Figures) where
 pub refused-fits : (s : Sums) (n : ℕ) (vs : List ℤ) → fitting s ≡ true → leb (s .refused + 1) most ≡ fitting (adding s (refused n vs))
 unfolding allFit
 refused-fits s n vs h =
-    rw (sum-fits s 0 (omega arith) h, sum-fits s 1 (omega arith) h, sum-fits s 2 (omega arith) h, sum-fits s 3 (omega arith) h, sum-fits s 4 (omega arith) h, sum-fits s 5 (omega arith) h, sum-fits s 6 (omega arith) h)
+    rw (
+      sum-fits s 0 (omega arith) h,
+      sum-fits s 1 (omega arith) h,
+      sum-fits s 2 (omega arith) h,
+      sum-fits s 3 (omega arith) h,
+      sum-fits s 4 (omega arith) h,
+      sum-fits s 5 (omega arith) h,
+      sum-fits s 6 (omega arith) h,
+    )
     (sym (first-alone (leb (s .refused + 1) most) true refl))

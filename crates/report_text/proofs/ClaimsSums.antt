@@ -1,6 +1,6 @@
 -- The sums of a report are those over its lines, and 22 ends it where one would not fit: sums only grow.
 -- Assumes nothing.
-use mathlib.Core.Path.{_≡_, refl, sym, ap, _∙_}
+use mathlib.Core.Path.{_≡_, sym, ap, _∙_}
 use mathlib.Core.Bool.{Bool, true, false, cond}
 use mathlib.Core.List.{List, [], _∷_, _++_, append-assoc}
 use Prim.Native.Nat.{ℕ, _+_, _≤_, _<_}
@@ -112,7 +112,8 @@ under a b h = record { fits = omega arith }
 fits-part : (s t : Sums) → fitting (plus s t) ≡ true → fitting s ≡ true
 fits-part s t e =
     let h : (k : ℕ) → k < 8 → getD (sumList (plus s t)) k 0 ≤ most = λ k l. fit-at (sumList (plus s t)) k l e in
-    sums-fit s (under (s .length) (t .length) (h 0 (omega arith))) (under (s .steps) (t .steps) (h 1 (omega arith))) (under (s .code) (t .code) (h 2 (omega arith)))
+    sums-fit s (under (s .length) (t .length) (h 0 (omega arith))) (under (s .steps) (t .steps) (h 1 (omega arith)))
+    (under (s .code) (t .code) (h 2 (omega arith)))
     (under (s .plain) (t .plain) (h 3 (omega arith))) (under (s .shared) (t .shared) (h 4 (omega arith))) (under (s .targets) (t .targets) (h 5 (omega arith)))
     (under (s .accepted) (t .accepted) (h 6 (omega arith))) (under (s .refused) (t .refused) (h 7 (omega arith)))
 
@@ -129,7 +130,8 @@ either : (t : Bool) (x y : List ℕ) → (t ≡ true → cond t x y ≡ x) × (t
 either t x y = ((λ e. rw e), (λ e. rw e))
 
 -- the report of the first image, where the sums with it fit
-more : (s : Sums) (i : List (List ℕ)) (is : List (List (List ℕ))) → fitting (adding s (imageAnswer i)) ≡ true → reported s (i ∷ is) ≡ imageLine (nameOf (first i)) (imageAnswer i) ++ reported (adding s (imageAnswer i)) is
+more : (s : Sums) (i : List (List ℕ)) (is : List (List (List ℕ))) → fitting (adding s (imageAnswer i)) ≡ true
+    → reported s (i ∷ is) ≡ imageLine (nameOf (first i)) (imageAnswer i) ++ reported (adding s (imageAnswer i)) is
 unfolding reported
 more s i is e = either (fitting (adding s (imageAnswer i))) _ _ .0 e
 
@@ -139,7 +141,8 @@ unfolding reported
 ended s i is e = either (fitting (adding s (imageAnswer i))) _ _ .1 e
 
 -- the line of the first image goes before
-before-all : (s : Sums) (i : List (List ℕ)) (is : List (List (List ℕ))) (x y : List ℕ) → fitting (adding s (imageAnswer i)) ≡ true → reported (adding s (imageAnswer i)) is ≡ x ++ y → reported s (i ∷ is) ≡ imageLine (nameOf (first i)) (imageAnswer i) ++ x ++ y
+before-all : (s : Sums) (i : List (List ℕ)) (is : List (List (List ℕ))) (x y : List ℕ) → fitting (adding s (imageAnswer i)) ≡ true
+    → reported (adding s (imageAnswer i)) is ≡ x ++ y → reported s (i ∷ is) ≡ imageLine (nameOf (first i)) (imageAnswer i) ++ x ++ y
 before-all s i is x y e h = let l = imageLine (nameOf (first i)) (imageAnswer i) in more s i is e ∙ ap (λ (z : List ℕ). l ++ z) h ∙ sym (append-assoc l x y)
 
 all-lines : (s : Sums) (is : List (List (List ℕ))) → fitting (plus s (sumsOver is)) ≡ true → reported s is ≡ linesOver is ++ totalLine (plus s (sumsOver is))
@@ -153,7 +156,8 @@ all-lines s (i ∷ is) e =
 pub sums-of-lines : SumsOfLines
 sums-of-lines is e = all-lines noSums is (ap fitting (none-plus (sumsOver is)) ∙ e) ∙ ap (λ (t : Sums). linesOver is ++ totalLine t) (none-plus (sumsOver is))
 
-all-refused : (s : Sums) (before : List (List (List ℕ))) (i : List (List ℕ)) (after : List (List (List ℕ))) → fitting (plus s (sumsOver before)) ≡ true → fitting (plus s (sumsOver (before ++ i ∷ []))) ≡ false
+all-refused : (s : Sums) (before : List (List (List ℕ))) (i : List (List ℕ)) (after : List (List (List ℕ)))
+    → fitting (plus s (sumsOver before)) ≡ true → fitting (plus s (sumsOver (before ++ i ∷ []))) ≡ false
     → reported s (before ++ i ∷ after) ≡ linesOver before ++ numberLine 22
 unfolding linesOver
 all-refused s [] i after e f = ended s i after (sym (ap fitting (last-added s i)) ∙ f)

@@ -1,6 +1,6 @@
 -- The lines of a report: how long they can be, and numbers put one after the other.
 -- Assumes nothing.
-use mathlib.Core.Path.{_≡_, refl, sym, _∙_}
+use mathlib.Core.Path.{_≡_, refl, _∙_}
 use mathlib.Core.Bool.{Bool, true, false}
 use mathlib.Core.List.{List, [], _∷_, _++_}
 use Prim.Native.Nat.{ℕ, zero, suc, _+_, _*_, _/_, _≤_, _<_}
@@ -9,7 +9,7 @@ use native.Mathlib.Omega.{arith}
 use lib.Dec.{ltb, leb}
 use lib.ListN.{length, getD, set, drop, length-append, drop-of-length-le}
 use lib.Seq.{sets, drop-cons}
-use borrow.Author.Tests.{ltb-false, leb-true, lt-ltb, le-leb}
+use borrow.Author.Tests.{leb-true, lt-ltb, le-leb}
 use Rattle.instruction.specs.Answer.{Answer, accepted, refused}
 use Rattle.instruction.proofs.Ands.{first-part, second-part}
 use Rattle.text.specs.Puts.{Puts}
@@ -62,8 +62,14 @@ pub figures-told : (s : Sums) (f : Figures) → fitting (adding s (accepted f)) 
 unfolding allFit
 figures-told s f e =
     let h : (k : ℕ) → k < 8 → getD (sumList (adding s (accepted f))) k 0 ≤ most = λ k l. fit-at (sumList (adding s (accepted f))) k l e in
-    rw (part (s .length) (f .length) (h 0 (omega arith)), part (s .steps) (f .steps) (h 1 (omega arith)), part (s .code) (f .code) (h 2 (omega arith)),
-    part (s .plain) (f .plain) (h 3 (omega arith)), part (s .shared) (f .shared) (h 4 (omega arith)), part (s .targets) (f .targets) (h 5 (omega arith)))
+    rw (
+      part (s .length) (f .length) (h 0 (omega arith)),
+      part (s .steps) (f .steps) (h 1 (omega arith)),
+      part (s .code) (f .code) (h 2 (omega arith)),
+      part (s .plain) (f .plain) (h 3 (omega arith)),
+      part (s .shared) (f .shared) (h 4 (omega arith)),
+      part (s .targets) (f .targets) (h 5 (omega arith)),
+    )
   where
     part : (a b : ℕ) → a + b ≤ most → leb b most ≡ true
     part a b h = le-leb b most (omega arith)

@@ -1,6 +1,6 @@
 -- Names: each test of the code is one of the definition.
 -- Assumes nothing.
-use mathlib.Core.Path.{_≡_, refl, sym, ap, _∙_}
+use mathlib.Core.Path.{_≡_, refl, sym, ap}
 use mathlib.Core.Bool.{Bool, true, false, _&&_, _||_}
 use mathlib.Core.List.{List, [], _∷_}
 use Prim.Native.Nat.{ℕ, _+_, _-_, _≤_, _<_}
@@ -88,7 +88,9 @@ module _ (l : List ℕ) where
   unfolding isNameLine isName
   name-line h k n t e =
       let d = length-drop 2 l in
-      rw (eq-eqb (getD l 0 0) 78 n, eq-eqb (getD l 1 0) 9 t, le-leb 1 (length (nameIn l)) (omega (arith, d)), le-leb (length (nameIn l)) 32 (omega (arith, d)), e)
+      let a = le-leb 1 (length (nameIn l)) (omega (arith, d)) in
+      let b = le-leb (length (nameIn l)) 32 (omega (arith, d)) in
+      rw (eq-eqb (getD l 0 0) 78 n, eq-eqb (getD l 1 0) 9 t, a, b, e)
 
   pub good-name : 3 ≤ length l → length l ≤ 34 → getD l 0 0 ≡ 78 → getD l 1 0 ≡ 9 → allNamed (nameIn l) ≡ true → length l - 2 ≡ nameLength l
   good-name h k n t e = rw (name-line h k n t e)

@@ -2,7 +2,7 @@
 -- Assumes nothing.
 use mathlib.Core.Path.{_≡_, refl, _∙_}
 use mathlib.Core.List.{_∷_}
-use Prim.Native.Nat.{ℕ, _+_, _-_, _*_, _^_, _<_, _≤_}
+use Prim.Native.Nat.{_+_, _-_, _*_, _^_, _<_, _≤_}
 use native.Mathlib.Omega.{arith}
 use borrow.Author.Needs.{needs}
 use lib.ListN.{length, getD, drop}
@@ -59,7 +59,9 @@ add-to-2 : tie.Need-add-to-2 Inv-loop μ-loop
 add-to-2 c = let w = c .before .before .before .before in record { fits = omega (arith, narrow w, held (w .before .before)) }
 
 -- the number is put
-put : (c : tie.After-put Inv-loop μ-loop) → let l = c .before .before .before .before .before in Puts (9 ∷ decimal (getD (start l .args .numbers .now) (l .loop .i) 0)) (l .loop .to) (l .loop .room) (c .put .last .1 .1 .0) (l .loop .to + (c .before .before .width .result + 1))
+put : (c : tie.After-put Inv-loop μ-loop) → let l = c .before .before .before .before .before in
+    let n = getD (start l .args .numbers .now) (l .loop .i) 0 in
+    Puts (9 ∷ decimal n) (l .loop .to) (l .loop .room) (c .put .last .1 .1 .0) (l .loop .to + (c .before .before .width .result + 1))
 put c =
     let w = c .before .before in
     let l = w .before .before .before in
@@ -85,4 +87,5 @@ returns c =
 pub put-fields-spec : {M : Type 1} → statement M
 put-fields-spec =
     tie.close
-    (tie.spec Inv-loop μ-loop loop-holds (λ c. search needs) (λ c. search needs) (λ c κs. search needs) slice-write-room add-put (λ c κs. search needs) add-to add-to-2 (λ c. search needs) (λ c. search needs) loop-again (λ c. c .before .loop .inv .0) returns)
+    (tie.spec Inv-loop μ-loop loop-holds (λ c. search needs) (λ c. search needs) (λ c κs. search needs) slice-write-room add-put
+    (λ c κs. search needs) add-to add-to-2 (λ c. search needs) (λ c. search needs) loop-again (λ c. c .before .loop .inv .0) returns)

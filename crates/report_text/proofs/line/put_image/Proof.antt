@@ -9,7 +9,7 @@ use borrow.Author.Needs.{needs}
 use lib.ListN.{length, length-drop}
 use Rattle.text.proofs.Putting.{puts-as}
 use Rattle.report_text.specs.Image.{reportedOf}
-use Rattle.report_text.specs.Name.{isNameLine, nameOf}
+use Rattle.report_text.specs.Name.{isNameLine}
 use Rattle.report_text.specs.Report.{imageLine}
 use Rattle.report_text.specs.declared.image.Reported.{Reported}
 use Rattle.report_text.proofs.Names.{after-two, name-sized, has-name, no-name, is-name}
@@ -29,7 +29,8 @@ returns c =
     let t = p .before .before .before in
     let n = t .before in
     let a = start n .args in
-    (puts-as (same (a .image) (sym (no-name (a .first .now) (sym (n .name-length .ensures) ∙ t .if1 .taken)))) (p .put-named .ensures .0), p .put-named .ensures .1)
+    let e = no-name (a .first .now) (sym (n .name-length .ensures) ∙ t .if1 .taken) in
+    (puts-as (same (a .image) (sym e)) (p .put-named .ensures .0), p .put-named .ensures .1)
 
 -- the line names the image
 named : (c : tie.Else1) → isNameLine (start (c .before) .args .first .now) ≡ true
@@ -58,5 +59,5 @@ returns-2 c =
 pub put-image-spec : {M : Type 1} → statement M
 put-image-spec =
     tie.close
-    (tie.spec (λ c κs. search needs) (λ c. search needs) (λ c κs. search needs) (λ c. search needs) returns sub-put-named part-put-named-start (λ c. search needs) put-named-requires-2 (λ c. search needs)
-    returns-2)
+    (tie.spec (λ c κs. search needs) (λ c. search needs) (λ c κs. search needs) (λ c. search needs) returns
+    sub-put-named part-put-named-start (λ c. search needs) put-named-requires-2 (λ c. search needs) returns-2)

@@ -1,7 +1,7 @@
 -- `line::put_name` meets its contract.
 -- Assumes nothing.
 use mathlib.Core.Path.{_≡_, refl, _∙_}
-use Prim.Native.Nat.{ℕ, _-_, _≤_}
+use Prim.Native.Nat.{_-_, _≤_}
 use native.Mathlib.Omega.{arith}
 use borrow.Author.Needs.{needs}
 use lib.ListN.{length, drop, length-set, drop-of-length-le}
@@ -42,4 +42,5 @@ returns c =
 pub put-name-spec : {M : Type 1} → statement M
 put-name-spec =
     tie.close
-    (tie.spec Inv-loop μ-loop loop-holds (λ c. search needs) slice-write-room (λ c. search needs) (λ c. search needs) loop-again (λ c. c .before .loop .inv .0) returns)
+    (tie.spec Inv-loop μ-loop loop-holds (λ c. search needs) slice-write-room (λ c. search needs) (λ c. search needs)
+    loop-again (λ c. c .before .loop .inv .0) returns)

@@ -18,7 +18,8 @@ start c = c .before .before .before .before
 abbrev named : tie.After-put-told → tie.After-put-name
 named c = c .before .before .before .before
 
-line : (c : tie.After-put-told) → let a = start (named c) .args in Puts (imageLine (a .name .now) (reportedOf (a .image))) 0 (a .room .now) (set (c .put-told .last .1 .0) (c .put-told .result) 10) (c .put-told .result + 1)
+line : (c : tie.After-put-told) → let a = start (named c) .args in
+    Puts (imageLine (a .name .now) (reportedOf (a .image))) 0 (a .room .now) (set (c .put-told .last .1 .0) (c .put-told .result) 10) (c .put-told .result + 1)
 unfolding imageLine
 line c = puts-then (puts-then (named c .put-name .ensures) (c .put-told .ensures .0)) (byte-put 10 (c .put-told .result) (c .put-told .last .1 .0))
 

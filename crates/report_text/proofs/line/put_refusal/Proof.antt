@@ -20,7 +20,8 @@ begun room at = length-set (set room at 9) (at + 1) 82 ∙ length-set room at 9
 put-fields-requires : tie.Need-put-fields-requires
 put-fields-requires c κs = let s = c .before .before .before in omega (arith, s .pre, begun (s .args .room .now) (s .args .at))
 
-told : (c : tie.After-put-fields) → let a = c .before .before .before .before .args in Puts (9 ∷ 82 ∷ fieldsOf (a .number ∷ [])) (a .at) (a .room .now) (c .put-fields .last .1 .0) (c .put-fields .result)
+told : (c : tie.After-put-fields) → let a = c .before .before .before .before .args in
+    Puts (9 ∷ 82 ∷ fieldsOf (a .number ∷ [])) (a .at) (a .room .now) (c .put-fields .last .1 .0) (c .put-fields .result)
 told c = let a = c .before .before .before .before .args in puts-then (two-put 9 82 (a .at) (a .room .now)) (c .put-fields .ensures .0)
 
 returns : tie.Need-returns
@@ -29,4 +30,5 @@ returns c = let p = c .before .before in (told p, omega (arith, p .put-fields .e
 pub put-refusal-spec : {M : Type 1} → statement M
 put-refusal-spec =
     tie.close
-    (tie.spec (λ c. search needs) (λ c. search needs) (λ c. simp length-set (search needs)) (λ c. search needs) (λ c. search needs) put-fields-requires (λ c. puts-length (told (c .before .before))) returns)
+    (tie.spec (λ c. search needs) (λ c. search needs) (λ c. simp length-set (search needs)) (λ c. search needs) (λ c. search needs)
+    put-fields-requires (λ c. puts-length (told (c .before .before))) returns)

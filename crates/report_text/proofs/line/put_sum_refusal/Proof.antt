@@ -16,4 +16,5 @@ returns c = (record { next = refl; wrote = refl }, omega arith)
 pub put-sum-refusal-spec : {M : Type 1} → statement M
 put-sum-refusal-spec =
     tie.close
-    (tie.spec (λ c. search needs) (λ c. simp length-set (search needs)) (λ c. simp length-set (search needs)) (λ c. simp length-set (search needs)) (λ c. search needs) (λ c. search needs) returns)
+    (tie.spec (λ c. search needs) (λ c. simp length-set (search needs)) (λ c. simp length-set (search needs)) (λ c. simp length-set (search needs))
+    (λ c. search needs) (λ c. search needs) returns)

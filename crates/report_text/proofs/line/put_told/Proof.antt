@@ -1,7 +1,6 @@
 -- `line::put_told` meets its contract.
 -- Assumes nothing.
 use mathlib.Core.Path.{_≡_, sym, ap}
-use mathlib.Core.List.{List}
 use borrow.Author.Needs.{needs}
 use Rattle.text.proofs.Putting.{puts-as}
 use Rattle.report_text.specs.Image.{reportedOf}

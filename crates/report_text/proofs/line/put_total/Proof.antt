@@ -3,7 +3,7 @@
 use Prim.Native.Nat.{_+_}
 use native.Mathlib.Omega.{arith}
 use borrow.Author.Needs.{needs}
-use lib.ListN.{length, set, length-set}
+use lib.ListN.{set, length-set}
 use Rattle.text.specs.Puts.{Puts}
 use Rattle.text.proofs.Putting.{puts-then, puts-length}
 use Rattle.report_text.specs.Report.{totalLine}
@@ -24,7 +24,8 @@ slice-write-room-2 c =
     let s = start p in
     omega (arith, s .pre, p .put-fields .ensures .1, puts-length (p .put-fields .ensures .0), length-set (s .args .room .now) (s .args .at) 84)
 
-line : (c : tie.After-put-fields) → let a = start c .args in Puts (totalLine (a .s)) (a .at) (a .room .now) (set (c .put-fields .last .1 .0) (c .put-fields .result) 10) (c .put-fields .result + 1)
+line : (c : tie.After-put-fields) → let a = start c .args in
+    Puts (totalLine (a .s)) (a .at) (a .room .now) (set (c .put-fields .last .1 .0) (c .put-fields .result) 10) (c .put-fields .result + 1)
 unfolding totalLine
 line c =
     let a = start c .args in
@@ -33,4 +34,5 @@ line c =
 pub put-total-spec : {M : Type 1} → statement M
 put-total-spec =
     tie.close
-    (tie.spec (λ c. search needs) (λ c. search needs) (λ c. search needs) put-fields-requires slice-write-room-2 (λ c. search needs) (λ c. puts-length (line (c .before .before))) (λ c. line (c .before .before)))
+    (tie.spec (λ c. search needs) (λ c. search needs) (λ c. search needs) put-fields-requires slice-write-room-2
+    (λ c. search needs) (λ c. puts-length (line (c .before .before))) (λ c. line (c .before .before)))

@@ -24,14 +24,16 @@ returns c =
     let d = c .before in
     let i = d .before .before in
     let l = i .before in
-    sym (l .loop .inv .1 ∙ named-stop (start l .args .name .now) (l .loop .i) (i .loop-test .taken) (sym (d .is-letter-or-digit .ensures) ∙ not-true _ (c .if1 .taken)))
+    let e = sym (d .is-letter-or-digit .ensures) ∙ not-true _ (c .if1 .taken) in
+    sym (l .loop .inv .1 ∙ named-stop (start l .args .name .now) (l .loop .i) (i .loop-test .taken) e)
 
 loop-again : tie.Need-loop-again Inv-loop μ-loop
 loop-again c =
     let d = c .before in
     let i = d .before .before in
     let l = i .before in
-    (search needs, l .loop .inv .1 ∙ named-more (start l .args .name .now) (l .loop .i) (i .loop-test .taken) (sym (d .is-letter-or-digit .ensures) ∙ not-false _ (c .if1 .left)))
+    let e = sym (d .is-letter-or-digit .ensures) ∙ not-false _ (c .if1 .left) in
+    (search needs, l .loop .inv .1 ∙ named-more (start l .args .name .now) (l .loop .i) (i .loop-test .taken) e)
 
 returns-2 : tie.Need-returns-2 Inv-loop μ-loop
 returns-2 c =
@@ -41,4 +43,5 @@ returns-2 c =
 pub is-named-spec : {M : Type 1} → statement M
 is-named-spec =
     tie.close
-    (tie.spec Inv-loop μ-loop (λ c. (search needs, refl)) (λ c. search needs) (λ c κs. search needs) returns (λ c. search needs) (λ c. search needs) loop-again returns-2)
+    (tie.spec Inv-loop μ-loop (λ c. (search needs, refl)) (λ c. search needs) (λ c κs. search needs) returns
+    (λ c. search needs) (λ c. search needs) loop-again returns-2)

@@ -1,6 +1,5 @@
 -- `name::name_length` meets its contract.
 -- Assumes nothing.
-use mathlib.Core.Bool.{Bool}
 use mathlib.Core.Path.{_≡_, sym, ap, _∙_}
 use mathlib.Core.List.{List}
 use Prim.Native.Nat.{ℕ}
@@ -48,5 +47,5 @@ returns-6 c =
 pub name-length-spec : {M : Type 1} → statement M
 name-length-spec =
     tie.close
-    (tie.spec returns (λ c. search needs) returns-2 (λ c. search needs) returns-3 (λ c. search needs) returns-4 (λ c. search needs) (λ c. search needs) (λ c. search needs) (λ c κs. search needs)
-    returns-5 (λ c. search needs) returns-6)
+    (tie.spec returns (λ c. search needs) returns-2 (λ c. search needs) returns-3 (λ c. search needs) returns-4
+    (λ c. search needs) (λ c. search needs) (λ c. search needs) (λ c κs. search needs) returns-5 (λ c. search needs) returns-6)

@@ -60,12 +60,13 @@ returns-7 c =
     let l = m .before .before in
     let s = l .before .before in
     c .fits8 .ensures
-    ∙ accepted-fits (s .args .s) (s .args .f) (sym (l .before .fits2 .ensures) ∙ not-false _ (l .if1 .left)) (sym (m .before .fits3 .ensures) ∙ not-false _ (m .if2 .left))
-    (sym (n .before .fits4 .ensures) ∙ not-false _ (n .if3 .left)) (sym (d .before .fits5 .ensures) ∙ not-false _ (d .if4 .left)) (sym (e .before .fits6 .ensures) ∙ not-false _ (e .if5 .left))
-    (sym (f .before .fits7 .ensures) ∙ not-false _ (f .if6 .left)) (fit s)
+    ∙ accepted-fits (s .args .s) (s .args .f)
+    (sym (l .before .fits2 .ensures) ∙ not-false _ (l .if1 .left)) (sym (m .before .fits3 .ensures) ∙ not-false _ (m .if2 .left))
+    (sym (n .before .fits4 .ensures) ∙ not-false _ (n .if3 .left)) (sym (d .before .fits5 .ensures) ∙ not-false _ (d .if4 .left))
+    (sym (e .before .fits6 .ensures) ∙ not-false _ (e .if5 .left)) (sym (f .before .fits7 .ensures) ∙ not-false _ (f .if6 .left)) (fit s)
 
 pub figures-fit-spec : {M : Type 1} → statement M
 figures-fit-spec =
     tie.close
-    (tie.spec (λ c κs. search needs) returns (λ c κs. search needs) returns-2 (λ c κs. search needs) returns-3 (λ c κs. search needs) returns-4 (λ c κs. search needs) returns-5 (λ c κs. search needs)
-    returns-6 (λ c κs. search needs) returns-7)
+    (tie.spec (λ c κs. search needs) returns (λ c κs. search needs) returns-2 (λ c κs. search needs) returns-3
+    (λ c κs. search needs) returns-4 (λ c κs. search needs) returns-5 (λ c κs. search needs) returns-6 (λ c κs. search needs) returns-7)

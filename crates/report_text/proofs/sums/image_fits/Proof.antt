@@ -12,7 +12,8 @@ use Rattle.report_text.proofs.sums.image_fits.Statement.{statement}
 use Rattle.report_text.proofs.sums.image_fits.Tie as tie
 
 -- the image is this one, and so the sums fit as with it
-same : (s : tie.Start) {i : Reported} → s .args .image ≡ i → fitting (adding (s .args .s) (reportedOf i)) ≡ fitting (adding (s .args .s) (reportedOf (s .args .image)))
+same : (s : tie.Start) {i : Reported} → s .args .image ≡ i
+    → fitting (adding (s .args .s) (reportedOf i)) ≡ fitting (adding (s .args .s) (reportedOf (s .args .image)))
 same s e = sym (ap (λ (i : Reported). fitting (adding (s .args .s) (reportedOf i))) e)
 
 -- what the sums hold so far
