@@ -26,7 +26,7 @@ abbrev pub ToldFits : Answer Figures → Type 0
 ToldFits (accepted f) = allFit (figureList f) ≡ true
 ToldFits (refused n vs) = allFit (n ∷ []) ≡ true
 
--- ten times ten, d times
+-- 10 to the power d + 1
 unfoldable tens : ℕ → ℕ
 tens zero = 10
 tens (suc d) = 10 * tens d
