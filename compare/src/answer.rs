@@ -22,6 +22,7 @@ impl Answer {
     pub const OTHER_PAGE: u32 = 10;
     pub const NO_ROOM: u32 = 11;
     pub const NOTHING: u32 = 12;
+    pub const MALFORMED_INPUT: u32 = 13;
     pub const BASE_OUTSIDE: u32 = 14;
     pub const MALFORMED: u32 = 15;
     pub const PAST_END: u32 = 16;

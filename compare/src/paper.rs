@@ -12,6 +12,7 @@ pub mod map;
 mod mode;
 pub mod reached;
 pub mod replay;
+pub mod report;
 pub mod sweep;
 pub mod tracer;
 pub mod views;
