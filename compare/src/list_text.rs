@@ -24,7 +24,7 @@ const TEXTS: [(Make, u64, u64); 4] = [
 const SHOWN: usize = 240;
 
 pub fn compare(tally: &mut Tally, random: &mut Random) {
-    let program = Program::built();
+    let program = Program::list();
     for (make, count, of) in TEXTS {
         for turn in 0..count {
             let text = make(random);

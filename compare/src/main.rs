@@ -15,6 +15,7 @@ mod logs;
 mod maps;
 mod ours;
 mod program;
+mod report_text;
 mod resolve;
 mod rings;
 mod room;
@@ -23,6 +24,7 @@ mod steps;
 mod sweeps;
 mod tally;
 mod targets;
+mod terms;
 mod texts;
 mod traces;
 mod views;
@@ -61,6 +63,7 @@ fn main() -> ExitCode {
     joined::compare(&mut tally, &mut random);
     between::compare(&mut tally, &mut random);
     logs::compare(&mut tally, &mut random);
+    report_text::compare(&mut tally, &mut random);
     match tally.report() {
         true => ExitCode::SUCCESS,
         false => ExitCode::FAILURE,

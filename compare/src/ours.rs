@@ -148,6 +148,13 @@ unsafe extern "C" {
         room_length: usize,
         answer: *mut [i64; 5],
     ) -> u32;
+    fn pw_report_text(
+        text: *const u8,
+        text_length: usize,
+        room: *mut u8,
+        room_length: usize,
+        answer: *mut [i64; 5],
+    ) -> u32;
     fn pw_read_back(
         mode: u32,
         text: *const u8,
@@ -413,6 +420,11 @@ pub fn listing(mode: Mode, image: &[u8], marks: &[u8], arrivals: u32, room: &mut
 pub fn list_text(text: &[u8], room: &mut [u8]) -> Answer {
     let (at, n) = (room.as_mut_ptr(), room.len());
     answered(|values| unsafe { pw_list_text(text.as_ptr(), text.len(), at, n, values) })
+}
+
+pub fn report_text(text: &[u8], room: &mut [u8]) -> Answer {
+    let (at, n) = (room.as_mut_ptr(), room.len());
+    answered(|values| unsafe { pw_report_text(text.as_ptr(), text.len(), at, n, values) })
 }
 
 pub fn read_back(

@@ -1,9 +1,13 @@
-//! The built listing program, run on a text. The environment names it as PW_LIST, or does not where there is none.
+//! The built programs, run on a text. The environment names them as PW_LIST and PW_REPORT, or does not where there is none.
 
+use std::ffi::{c_int, c_ulong};
 use std::fmt;
-use std::io::Write;
+use std::io::{Read, Write};
+use std::os::fd::AsRawFd;
 use std::path::PathBuf;
-use std::process::{Command, Stdio};
+use std::process::{ChildStdin, Command, Stdio};
+use std::sync::atomic::{AtomicBool, Ordering};
+use std::thread;
 
 /// So much of what was printed is shown.
 const SHOWN: usize = 80;
@@ -18,25 +22,74 @@ pub struct Printed {
 }
 
 impl Program {
-    pub fn built() -> Option<Program> {
-        let path = std::env::var_os("PW_LIST")?;
-        Some(Program(PathBuf::from(path)))
+    pub fn list() -> Option<Program> {
+        Program::named("PW_LIST")
     }
 
-    /// It reads all that it needs before it writes, and may leave the rest of the text unread.
+    pub fn report() -> Option<Program> {
+        Program::named("PW_REPORT")
+    }
+
+    fn named(variable: &str) -> Option<Program> {
+        let path = std::env::var_os(variable)?;
+        (!path.is_empty()).then(|| Program(PathBuf::from(path)))
+    }
+
+    /// It may leave the rest of the text unread.
     pub fn print(&self, text: &[u8]) -> Printed {
+        self.print_in_blocks(text, usize::MAX)
+    }
+
+    /// A block is written once the one before it was read: so it is met by a read of its own, or by several.
+    pub fn print_in_blocks(&self, text: &[u8], size: usize) -> Printed {
         let mut command = Command::new(&self.0);
         let piped = command.stdin(Stdio::piped()).stdout(Stdio::piped());
-        let mut running = piped.spawn().expect("the listing program can be run");
-        let mut input = running.stdin.take().expect("its input is a pipe");
-        let _unread = input.write_all(text).is_err();
-        drop(input);
-        let ended = running.wait_with_output().expect("it ends");
+        let mut running = piped.spawn().expect("the program can be run");
+        let input = running.stdin.take().expect("its input is a pipe");
+        let mut output = running.stdout.take().expect("its output is a pipe");
+        let (ended, mut printed) = (AtomicBool::new(false), vec![]);
+        let status = thread::scope(|scope| {
+            scope.spawn(|| feed(input, text, size, &ended));
+            let read = output.read_to_end(&mut printed);
+            let status = running.wait().expect("it ends");
+            ended.store(true, Ordering::Relaxed);
+            read.expect("its output can be read");
+            status
+        });
         Printed {
-            well: ended.status.success(),
-            text: ended.stdout,
+            well: status.success(),
+            text: printed,
         }
     }
+}
+
+/// Ends early where the program does.
+fn feed(mut input: ChildStdin, text: &[u8], size: usize, ended: &AtomicBool) {
+    for block in text.chunks(size) {
+        while unread(&input) > 0 {
+            if ended.load(Ordering::Relaxed) {
+                return;
+            }
+            thread::yield_now();
+        }
+        if input.write_all(block).is_err() {
+            return;
+        }
+    }
+}
+
+unsafe extern "C" {
+    fn ioctl(file: c_int, request: c_ulong, ...) -> c_int;
+}
+
+/// Asks how many bytes stand in a pipe, on Linux.
+const FIONREAD: c_ulong = 0x541B;
+
+fn unread(input: &ChildStdin) -> c_int {
+    let mut count: c_int = 0;
+    let failed = unsafe { ioctl(input.as_raw_fd(), FIONREAD, &mut count) };
+    assert!(failed == 0, "Linux tells this of a pipe");
+    count
 }
 
 impl Printed {
@@ -45,6 +98,10 @@ impl Printed {
             well: true,
             text: text.as_bytes().to_vec(),
         }
+    }
+
+    pub fn shown(&self) -> String {
+        String::from_utf8_lossy(&self.text).into_owned()
     }
 }
 

@@ -1,7 +1,10 @@
 //! What was compared and what differed.
 
 use crate::logs::Logs;
+use compare::answer::Answer;
 use compare::original::{self, FORMS};
+use compare::paper;
+use compare::paper::report::Told;
 use std::fmt::Debug;
 
 #[derive(Clone, Copy, PartialEq, Debug)]
@@ -42,9 +45,15 @@ pub enum Call {
     Between,
     /// What a run may come to at most.
     Ceilings,
+    /// A term, by the archive.
+    ReportText,
+    /// The built report.
+    Report,
+    /// What our listing program prints of an image says of its line in our report.
+    ReportAsList,
 }
 
-const CALLS: [(Call, &str); 29] = [
+const CALLS: [(Call, &str); 32] = [
     (Call::Decode, "decode"),
     (Call::Encode, "encode"),
     (Call::Resolve, "resolve"),
@@ -74,6 +83,9 @@ const CALLS: [(Call, &str); 29] = [
     (Call::Blocks, "log in blocks"),
     (Call::Between, "between"),
     (Call::Ceilings, "ceilings"),
+    (Call::ReportText, "report text"),
+    (Call::Report, "report, program"),
+    (Call::ReportAsList, "report as list"),
 ];
 
 impl Call {
@@ -86,6 +98,7 @@ impl Call {
             Call::ModesAlike | Call::Joined => "document 02",
             Call::Replay | Call::Blocks => "document 02",
             Call::Between | Call::Ceilings => "document 02",
+            Call::ReportText | Call::Report | Call::ReportAsList => "document 02",
             _ => "document 01",
         }
     }
@@ -240,6 +253,25 @@ pub struct Texts {
     most: usize,
 }
 
+/// The terms, and what the plain report says of their images.
+#[derive(Default)]
+pub struct Terms {
+    texts: u64,
+    accepted: u64,
+    /// Accepted ones of no bytes, those with a byte under more than one instruction, and with a target mark.
+    empty: u64,
+    shared: u64,
+    named: u64,
+    cut_off: u64,
+    /// By the first line that is bad: the `N` line, the entries, a line of bytes.
+    bad_name: u64,
+    bad_entries: u64,
+    bad_bytes: u64,
+    /// The most bytes of one, and the most images.
+    longest: usize,
+    most: usize,
+}
+
 /// The letters of lines.
 const LETTERS: [u8; 5] = *b"LOAID";
 
@@ -258,6 +290,7 @@ pub struct Tally {
     pub backs: Backs,
     pub texts: Texts,
     pub logs: Logs,
+    pub terms: Terms,
     all: Counts,
 }
 
@@ -278,6 +311,7 @@ impl Tally {
             backs: Backs::default(),
             texts: Texts::default(),
             logs: Logs::default(),
+            terms: Terms::default(),
             all: Counts::default(),
         }
     }
@@ -375,6 +409,7 @@ impl Tally {
         self.joined.report();
         self.logs.report();
         self.between.report();
+        self.terms.report();
         let all = &self.all;
         let (alone, alone_differ) = (all.alone, all.alone_differ);
         let (wrapping, wrapping_differ) = (all.wrapping, all.wrapping_differ);
@@ -569,6 +604,46 @@ impl Texts {
         println!(
             "texts of the listing program: listed {listed}, cut off {cut_off}, malformed {malformed}; \
              the longest has {longest} bytes, the most printed are {most}"
+        );
+    }
+}
+
+impl Terms {
+    pub fn count(&mut self, text: &[u8], images: usize) {
+        self.texts += 1;
+        self.longest = self.longest.max(text.len());
+        self.most = self.most.max(images);
+    }
+
+    pub fn image(&mut self, told: &Told, lines: &[&[u8]]) {
+        match told.figures {
+            Ok([length, _, _, _, shared, named]) => {
+                self.accepted += 1;
+                self.empty += u64::from(length == 0);
+                self.shared += u64::from(shared > 0);
+                self.named += u64::from(named > 0);
+            }
+            Err(Answer::CUT_OFF) => self.cut_off += 1,
+            Err(_) if told.name.is_none() => self.bad_name += 1,
+            Err(_) => match paper::report::input(&lines[1..]) {
+                Err(1) => self.bad_entries += 1,
+                _ => self.bad_bytes += 1,
+            },
+        }
+    }
+
+    fn report(&self) {
+        let (texts, longest, most) = (self.texts, self.longest, self.most);
+        println!("terms: {texts}, the longest has {longest} bytes, the most images are {most}");
+        let (accepted, empty) = (self.accepted, self.empty);
+        let (shared, named, cut_off) = (self.shared, self.named, self.cut_off);
+        println!(
+            "images of terms: accepted {accepted}, of no bytes {empty}, with bytes under several instructions {shared}, \
+             with target marks {named}; cut off {cut_off}"
+        );
+        let (name, entries, bytes) = (self.bad_name, self.bad_entries, self.bad_bytes);
+        println!(
+            "images of terms: malformed by the N line {name}, by the entries {entries}, by the bytes {bytes}"
         );
     }
 }
