@@ -61,10 +61,11 @@
  * `ret`, a `reti` or a `jmpf` with the mark 3, to any traced position, which is
  * a free move. There is no other move.
  *
- * Stack: pw_listing, pw_list_text and pw_read_back hold tables for the longest
- * image on the stack, however short the image. A thread that calls pw_listing,
- * with arrivals or without, needs a stack of 1 MiB, of which it holds some 900
- * KiB; one that calls pw_list_text or pw_read_back needs 256 KiB. pw_replay and
+ * Stack: pw_listing, pw_list_text, pw_report_text and pw_read_back hold tables
+ * for the longest image on the stack, however short the image. A thread that
+ * calls pw_listing, with arrivals or without, needs a stack of 1 MiB, of which
+ * it holds some 900 KiB; one that calls pw_list_text or pw_read_back needs 256
+ * KiB, one that calls pw_report_text STACK-OF-REPORT KiB. pw_replay and
  * pw_replay_block hold a table of the entries, and need 16 KiB. With too small a
  * stack the program is ended by a fault, and there is no refusal. All other
  * calls need less than 1 KiB. No call allocates memory.
@@ -80,10 +81,11 @@
 
 /* The version of what is declared here: it changes when a call does, or when
  * calls are added. What is linked answers its own by pw_version. */
-#define PW_VERSION 4
+#define PW_VERSION 5
 
 /* The number that a call answers: 0, or that of a refusal, here with its values
- * in answer[0] to answer[2]. 13 is answered by none: pw_list_text prints it. */
+ * in answer[0] to answer[2]. 13 and 22 are answered by none: pw_list_text prints
+ * 13, and pw_report_text both. */
 #define PW_DONE 0
 /* the image is longer than 65,536: its length */
 #define PW_LONG_IMAGE 1
@@ -111,7 +113,7 @@
 #define PW_NO_ROOM 11
 /* nothing to decode: 0 */
 #define PW_NOTHING 12
-/* the listing program's input is malformed or too long */
+/* the listing program's input, or an image of a term, is malformed or too long */
 #define PW_MALFORMED_INPUT 13
 /* the base, or the position after the instruction, is over 65,536: that
  * number */
@@ -132,6 +134,8 @@
 #define PW_FORBIDDEN_MOVE 20
 /* a count would pass 64 bits: the line's number */
 #define PW_COUNT_FULL 21
+/* a sum of a term report would pass 64 bits */
+#define PW_SUM_FULL 22
 
 /* The mode of calls that use a target. */
 #define PW_UNWRAPPED 0
@@ -173,12 +177,15 @@
 #define PW_LISTING_ROOM 60
 #define PW_ARRIVALS_ROOM 77
 
-/* What pw_list_text takes: entries, bytes on a line, bytes in all; and room for
- * all that it prints. */
+/* What pw_list_text takes, and pw_report_text of each image: entries, bytes on a
+ * line, bytes in all; and room for all that pw_list_text prints. */
 #define PW_MOST_ENTRIES 256
 #define PW_MOST_IN_LINE 32
 #define PW_MOST_BYTES 16384
 #define PW_PRINTED_ROOM 983040
+
+/* The longest name of an image in a term. */
+#define PW_LONGEST_NAME 32
 
 #ifdef __cplusplus
 extern "C" {
@@ -375,6 +382,27 @@ uint32_t pw_listing(uint32_t mode, const uint8_t *image, size_t image_length,
  */
 uint32_t pw_list_text(const uint8_t *text, size_t text_length,
                       uint8_t *room, size_t room_length, int64_t answer[5]);
+
+/* What the term report prints of a text of images. An image is a line of `N`, a
+ * tab and a name of 1 to 32 letters or digits, then the lines that pw_list_text
+ * takes; but a line of no entries is `-`. It ends with an empty line, or with
+ * the text; further empty lines are skipped, and an `N` line alone is an empty
+ * image. Each is run in unwrapped mode without pins, its length the limit.
+ * Printed is a line for each, parted by tabs, in decimal: its name, its length,
+ * the steps, the code bytes, the data bytes, the bytes under more than one
+ * traced instruction, each counted once, and the target marks; or its name, `R`
+ * and 13 where one of its lines is not of this kind, or 5 where an instruction is
+ * cut off. A bad line is skipped with all up to the next empty line; where it
+ * is the `N` line, the name is `-`. A last line has `T`, the six sums over the
+ * images that are not refused, how many these are, and how many are refused.
+ * Where one of the eight would pass 64 bits, a line of `R` and 22 stands in the
+ * place of that image's line, and is the last.
+ * 0: the number of bytes written, also where they are `R` lines. A text of no
+ *    bytes has a `T` line of zeros.
+ * 11, and no other.
+ */
+uint32_t pw_report_text(const uint8_t *text, size_t text_length,
+                        uint8_t *room, size_t room_length, int64_t answer[5]);
 
 /* Reads a listing back: puts the bytes of an image of `length` to the beginning
  * of image, and their marks to the beginning of marks. Where nothing is listed

@@ -33,6 +33,7 @@ static struct {
     {"pw_data_run", 0, {0, 0}},
     {"pw_listing", VIEW, {0, 0}},
     {"pw_list_text", BIT(PW_NO_ROOM), {0, 0}},
+    {"pw_report_text", BIT(PW_NO_ROOM), {0, 0}},
     {"pw_read_back", SIZES | BIT(PW_NO_ROOM) | BIT(PW_MALFORMED_LINE) | BIT(PW_LINE_PAST_END), {0, 0}},
     {"pw_map_build", VIEW, {0, 0}},
     {"pw_map_test", QUERY, {0, 0}},

@@ -4,29 +4,13 @@
 #include "check.h"
 #include "parts.h"
 #include "samples.h"
+#include "texts.h"
 
 #define INPUT "0000\n0102004164\n80F9A0\n"
 #define DECLINED "L\t0000\nI\t0000\t0102\tbr\t0004\nD\t0002\t0041\nL\t0004\nI\t0004\t64\tinc\t@R0\nI\t0005\t80F9\tbz\t0000\nI\t0007\tA0\tret\n"
 #define CHOSEN \
     "L\t0000\nA\t0000\t0005\nI\t0000\t0102\tbr\t0004\nD\t0002\t0041\nL\t0004\nA\t0004\t0000\nI\t0004\t64\tinc\t@R0\n" \
     "A\t0005\t0004\nI\t0005\t80F9\tbz\t0000\nA\t0007\t0005\nI\t0007\tA0\tret\n"
-
-/* A text without the byte 0 after it. */
-#define TEXT(text) ((uint8_t *)lent(text, strlen(text)))
-#define LENGTH(text) ((int64_t)strlen(text))
-
-/* A room of 400 bytes, all of them 9. */
-static uint8_t *room_for_text(void)
-{
-    uint8_t bytes[400];
-    return lent(memset(bytes, 9, sizeof bytes), sizeof bytes);
-}
-
-/* The room begins with the text, and the byte after it stayed. */
-static int begins(const uint8_t *room, const char *text)
-{
-    return same(room, text, strlen(text)) && room[strlen(text)] == 9;
-}
 
 static void listing(void)
 {

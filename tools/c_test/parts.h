@@ -6,6 +6,7 @@ void codec(void);
 void tracing(void);
 void viewing(void);
 void listed(void);
+void reported(void);
 void mapped(void);
 void replayed(void);
 void blocks(void);

@@ -74,6 +74,7 @@ static void listing(void) { EACH_MODE pw_listing(mode, IMAGE, MARKS, PW_ARRIVALS
 static void listing_exactly(void) { EACH_MODE pw_listing(mode, IMAGE, MARKS, PW_ARRIVALS_CHOSEN, bytes, input.listed, answer); }
 static void listing_with(void) { EACH_MODE pw_listing(mode, IMAGE, MARKS, PW_ARRIVALS_CHOSEN, bytes, TEXT_ROOM, answer); }
 static void list_text(void) { pw_list_text(input.text, input.written, bytes, TEXT_ROOM, answer); }
+static void report_text(void) { pw_report_text(input.term, input.told, bytes, TEXT_ROOM, answer); }
 static void read_back(void)
 {
     EACH_MODE pw_read_back(mode, input.listing, input.listed, (uint32_t)input.length, image, PW_IMAGE_LIMIT, marks, PW_IMAGE_LIMIT, answer);
@@ -125,6 +126,7 @@ const struct call calls[] = {
     {"pw_listing, chosen", listing_with},
     {"the same, exact room", listing_exactly},
     {"pw_list_text", list_text},
+    {"pw_report_text", report_text},
     {"pw_read_back", read_back},
     {"pw_map_build", map_build},
     {"pw_map_test", map_test},

@@ -77,6 +77,26 @@ static void write_text(void)
     input.written = (size_t)(at - input.text);
 }
 
+static void tell(const void *bytes, size_t count)
+{
+    memcpy(input.term + input.told, bytes, count);
+    input.told += count;
+}
+
+/* Two images by that input, the second without its last byte 10; no entries are written as a dash. */
+static void write_term(void)
+{
+    static const char name[] = "N\tABCDEFGHIJKLMNOPQRSTUVWXYZ012345\n", dash[] = "-";
+    input.told = 0;
+    for (int turn = 0; turn < 2; turn++) {
+        tell(name, sizeof name - 1);
+        tell(dash, input.count == 0 ? 1 : 0);
+        tell(input.text, input.written);
+        tell("\n", 1);
+    }
+    input.told -= 2;
+}
+
 /* A log that is accepted: the entry 0 again and again, by interrupts; none over an empty image. */
 static void write_log(void)
 {
@@ -110,6 +130,7 @@ int make_input(int number)
     }
     trace();
     write_text();
+    write_term();
     write_log();
     return 1;
 }

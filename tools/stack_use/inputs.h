@@ -10,7 +10,8 @@
 #define LOG_LINES 1023
 #define LINE_LENGTH 7
 
-/* An image with its entries and marks, a position of it, its listing with arrivals, an input of the listing program, and a log. */
+/* An image with its entries and marks, a position of it, its listing with arrivals, an input of the listing program, a term of that
+ * image twice, and a log. */
 struct input {
     uint8_t image[PW_IMAGE_LIMIT];
     size_t length;
@@ -22,6 +23,8 @@ struct input {
     size_t listed;
     uint8_t text[TEXT_ROOM];
     size_t written;
+    uint8_t term[TEXT_ROOM];
+    size_t told;
     uint8_t log[LOG_LINES * LINE_LENGTH];
     size_t logged;
 };
