@@ -4,7 +4,7 @@ mod check;
 mod walked;
 
 use crate::cases::Case;
-use crate::clock::{self, Sides, Times};
+use crate::clock::{self, Sides};
 use crate::ours::{self, Record};
 use crate::plain::replay::Replayer;
 use crate::report;
@@ -36,7 +36,10 @@ pub fn measure(lengths: &[&[Case]], random: &mut Random) -> Result<(), &'static 
         let logs = logs(longest, LINES, count, random);
         let totals = check::whole(&logs)?;
         let times = clock::measure(&[&logs], whole())[0];
-        report::line(&format!("replay, {count} entries"), per(times, LINES));
+        report::line(
+            &format!("replay, {count} entries"),
+            report::per(times, LINES),
+        );
         println!(
             "of 1,000 lines {:.1} interrupts, {:.1} free moves",
             totals[0], totals[1]
@@ -55,11 +58,6 @@ fn logs(cases: &[Case], lines: usize, entries: usize, random: &mut Random) -> Ve
     cases
         .map(|case| Log::new(case, lines, entries, random))
         .collect()
-}
-
-/// The time for one of so many, by a thousand: what is shown as microseconds are nanoseconds.
-fn per(times: Times, count: usize) -> Times {
-    times.map(|time| time.map(|time| time * 1e3 / count as f64))
 }
 
 /// The original replays no log.

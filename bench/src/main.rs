@@ -14,6 +14,7 @@ mod ours;
 mod plain;
 mod report;
 mod rows;
+mod terms;
 
 use cases::Case;
 use compare::random::Random;
@@ -66,5 +67,6 @@ fn all(random: &mut Random) -> Result<(), &'static str> {
     report::aims(&table);
     family::measure(random)?;
     ladder::measure()?;
-    logs::measure(&whole, random)
+    logs::measure(&whole, random)?;
+    terms::measure(random)
 }

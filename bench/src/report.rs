@@ -92,6 +92,11 @@ pub fn line(name: &str, times: Times) {
     );
 }
 
+/// The time for one of so many, by a thousand: what is shown as microseconds are nanoseconds.
+pub fn per(times: Times, count: usize) -> Times {
+    times.map(|time| time.map(|time| time * 1e3 / count as f64))
+}
+
 /// How many times as long one takes as the other, for ours and for the plain side.
 pub fn against(name: &str, one: Times, other: Times) {
     println!(
