@@ -10,7 +10,7 @@
 //! In a part `T` stands for a tab, as in document 01, and `$` for the letter T; `stored.rs` has the few others.
 //!
 //! The outputs are those of the plain report in `src/paper/report.rs`. Of the short cases each line is also written by hand beside it,
-//! and what the plain listing program prints of the same images must say the same: `held.rs`.
+//! and what the plain listing program prints of the same images must say the same: `held.rs`, which also tries sums that are full.
 
 #[path = "terms/held.rs"]
 mod held;
@@ -32,6 +32,7 @@ use stored::Case;
 fn main() {
     compare::paper::check_widths();
     compare::paper::flow::check_table();
+    held::full();
     let cases: Vec<Case> = [
         images::cases(),
         malformed::cases(),
