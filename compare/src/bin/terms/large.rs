@@ -6,40 +6,42 @@ use super::stored::Case;
 const BEHIND: &str = "\nN\tz\n0000\n01FE41\n";
 
 pub fn cases() -> Vec<Case> {
-    let mut cases: Vec<Case> = limits()
-        .into_iter()
-        .map(|case| case.and(1, BEHIND))
-        .collect();
-    cases.extend(long_lines().into_iter().map(|case| case.and(1, BEHIND)));
-    cases.extend(many());
-    cases
+    let single = entries().into_iter().chain(bytes()).chain(long_lines());
+    let behind = single.map(|case| case.and(1, BEHIND));
+    behind.chain(many()).collect()
 }
 
-/// On entries, on bytes, on both together.
-fn limits() -> [Case; 17] {
-    let begun = |about: &str| Case::new(about, "N\ta\n");
-    let line = |byte: &str| format!("{}\n", byte.repeat(32));
-    let full =
-        |about: &str, entries: &str, byte: &str| begun(about).and(1, entries).and(512, &line(byte));
+fn begun(about: &str) -> Case {
+    Case::new(about, "N\ta\n")
+}
+
+/// On entries, and with as many bytes as there may be on lines of their own.
+fn entries() -> [Case; 6] {
+    let first = |about: &str| begun(about).and(1, "0000");
     let longest = |about: &str| {
-        let entries = begun(about).and(1, "0000").and(255, "\tFFFF");
+        let entries = first(about).and(255, "\tFFFF");
         entries.and(1, "\n").and(16_384, "00\n")
     };
     [
-        begun("256 entries")
-            .and(1, "0000")
-            .and(255, "\t0000")
-            .and(1, "\nA0\n"),
-        begun("257 entries")
-            .and(1, "0000")
-            .and(256, "\t0000")
-            .and(1, "\nA0\n"),
+        first("256 entries").and(255, "\t0000").and(1, "\nA0\n"),
+        first("257 entries").and(256, "\t0000").and(1, "\nA0\n"),
         begun("257 entries, the last one half")
             .and(256, "0000\t")
             .and(1, "00\nA0\n"),
         begun("257 entries and no bytes")
             .and(256, "FFFF\t")
             .and(1, "FFFF\n"),
+        longest("the longest image in lines of one byte"),
+        longest("one line more than that").and(1, "00\n"),
+    ]
+}
+
+/// On bytes.
+fn bytes() -> [Case; 11] {
+    let line = |byte: &str| format!("{}\n", byte.repeat(64 / byte.len()));
+    let full =
+        |about: &str, entries: &str, byte: &str| begun(about).and(1, entries).and(512, &line(byte));
+    [
         full("16,384 bytes of data", "-\n", "FF"),
         full("16,384 Nop", "0000\n", "00"),
         full("the 16,385th byte", "-\n", "01").and(1, "01\n"),
@@ -58,11 +60,11 @@ fn limits() -> [Case; 17] {
             .and(511, &line("44"))
             .and(30, "44")
             .and(1, "5494\n"),
-        begun("a branch to itself at every second byte")
-            .and(1, "0000\t0002\n")
-            .and(512, &line("01FE")[..65]),
-        longest("the longest image in lines of one byte"),
-        longest("one line more than that").and(1, "00\n"),
+        full(
+            "two of 8,192 branches to themselves",
+            "0000\t3FFE\n",
+            "01FE",
+        ),
     ]
 }
 
