@@ -84,8 +84,8 @@
 #define PW_VERSION 5
 
 /* The number that a call answers: 0, or that of a refusal, here with its values
- * in answer[0] to answer[2]. 13 and 22 are answered by none: pw_list_text prints
- * 13, and pw_report_text both. */
+ * in answer[0] to answer[2]. 13 and 22 are answered by none: pw_list_text
+ * prints 13, and pw_report_text both. */
 #define PW_DONE 0
 /* the image is longer than 65,536: its length */
 #define PW_LONG_IMAGE 1
@@ -113,7 +113,8 @@
 #define PW_NO_ROOM 11
 /* nothing to decode: 0 */
 #define PW_NOTHING 12
-/* the listing program's input, or an image of a term, is malformed or too long */
+/* the listing program's input, or an image of a term, is malformed or too
+ * long */
 #define PW_MALFORMED_INPUT 13
 /* the base, or the position after the instruction, is over 65,536: that
  * number */
@@ -177,8 +178,8 @@
 #define PW_LISTING_ROOM 60
 #define PW_ARRIVALS_ROOM 77
 
-/* What pw_list_text takes, and pw_report_text of each image: entries, bytes on a
- * line, bytes in all; and room for all that pw_list_text prints. */
+/* What pw_list_text takes, and pw_report_text of each image: entries, bytes on
+ * a line, bytes in all; and room for all that pw_list_text prints. */
 #define PW_MOST_ENTRIES 256
 #define PW_MOST_IN_LINE 32
 #define PW_MOST_BYTES 16384
@@ -391,10 +392,10 @@ uint32_t pw_list_text(const uint8_t *text, size_t text_length,
  * Printed is a line for each, parted by tabs, in decimal: its name, its length,
  * the steps, the code bytes, the data bytes, the bytes under more than one
  * traced instruction, each counted once, and the target marks; or its name, `R`
- * and 13 where one of its lines is not of this kind, or 5 where an instruction is
- * cut off. A bad line is skipped with all up to the next empty line; where it
- * is the `N` line, the name is `-`. A last line has `T`, the six sums over the
- * images that are not refused, how many these are, and how many are refused.
+ * and 13 where one of its lines is not of this kind, or 5 where an instruction
+ * is cut off. A bad line is skipped with all up to the next empty line; where
+ * it is the `N` line, the name is `-`. A last line has `T`, the six sums over
+ * the images that are not refused, how many these are, and how many are refused.
  * Where one of the eight would pass 64 bits, a line of `R` and 22 stands in the
  * place of that image's line, and is the last.
  * 0: the number of bytes written, also where they are `R` lines. A text of no
