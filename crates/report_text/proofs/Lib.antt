@@ -5,6 +5,7 @@ pub mod ClaimsSums
 pub mod CodeAndData
 pub mod Counts
 pub mod Covering
+pub mod Finishes
 pub mod Firsts
 pub mod Gathers
 pub mod HeldTexts
@@ -18,3 +19,4 @@ pub mod ReportFed
 pub mod ReportedApart
 pub mod Runs
 pub mod Starts
+pub mod Terms

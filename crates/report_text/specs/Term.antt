@@ -1,7 +1,7 @@
 -- A term's text in blocks: what the record and the room that is lent with it hold after each byte, and what is printed. Document 02, W14, with
 -- one image's text held at a time.
 -- Assumes nothing.
-use Prim.Native.Nat.{ℕ, suc, min, _≤_}
+use Prim.Native.Nat.{ℕ, suc, _+_, min, _≤_}
 use mathlib.Core.Bool.{Bool, true, false, cond, not, _&&_}
 use mathlib.Core.List.{List, [], _∷_, _++_}
 use mathlib.Core.Path.{_≡_}
@@ -22,6 +22,7 @@ use Rattle.report_text.specs.declared.sums.Sums.{Sums}
 use Rattle.report_text.specs.declared.term.Term.{Term}
 use Rattle.report_text.specs.declared.gather.Gathered.{Gathered}
 use Rattle.report_text.specs.declared.finish.Finished.{Finished}
+use Rattle.report_text.specs.declared.whole.Progress.{Progress}
 
 -- as much of an image's text is held: more than the longest that is not malformed has, 50,467 bytes
 abbrev pub most : ℕ
@@ -165,3 +166,13 @@ pub record Finishing (s : Sums) (text out out′ : List ℕ) (r : Finished) : Ty
   pub put : Puts (imageOut s (lines text)) 0 out out′ (r .printed)
   pub term-is : r .term ≡ imageTerm s (lines text)
   pub most : r .printed ≤ 159
+
+-- of an inner function: what is printed up to the first byte that ends an image
+abbrev pub firstOut : Term → List ℕ → List ℕ → List ℕ
+firstOut t text room = fedOut (state t room) (take (usedIn (state t room) text) text)
+
+-- of an inner function: what was taken and left, and the count of what was printed, which stays at 2^63
+pub record Writing (t : Term) (text room : List ℕ) (n : ℕ) (room′ : List ℕ) (r : Progress) : Type 0 where
+  pub used-is : r .used ≡ usedIn (state t room) text
+  pub left : state (r .term) room′ ≡ fedTo (state t room) (take (usedIn (state t room) text) text)
+  pub counted : r .count ≡ min (n + length (firstOut t text room)) 9223372036854775808

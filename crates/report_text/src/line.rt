@@ -121,6 +121,7 @@ pub fn put_sum_refusal(room: &mut [u8]) -> usize
 pub fn put_total(s: Sums, room: &mut [u8], at: usize) -> usize
     requires { ⌜ at + 170 ≤ length (now room) ⌝ }
     ensures { λ r. ⌜ Puts (totalLine s) at (now (room .entry)) (now (room .exit)) r ⌝ }
+    ensures { λ r. ⌜ r ≤ at + 170 ⌝ }
 {
     room[at] = b'T';
     let numbers = [
