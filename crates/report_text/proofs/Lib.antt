@@ -20,3 +20,4 @@ pub mod ReportedApart
 pub mod Runs
 pub mod Starts
 pub mod Terms
+pub mod Writes

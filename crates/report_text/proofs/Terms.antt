@@ -74,9 +74,13 @@ module _ (t : Term) (text room out : List ℕ) where
   take-refused v e f =
       let g = refused-by rs v e f (length (fedOut s (take (usedIn s text) text))) in (
         g .2 ∙ sym (g .3),
-        (sym (ap (λ (r : Answer ℕ). after r (usedIn s text) 0) (g .3)),
-        (sym (ap (λ (r : Answer ℕ). after r (fedTo s (take (usedIn s text) text)) s) (g .3)),
-        sym (ap (λ (r : Answer ℕ). after r (laid (fedOut s (take (usedIn s text) text)) out) out) (g .3)))),
+        (
+          sym (ap (λ (r : Answer ℕ). after r (usedIn s text) 0) (g .3)),
+          (
+            sym (ap (λ (r : Answer ℕ). after r (fedTo s (take (usedIn s text) text)) s) (g .3)),
+            sym (ap (λ (r : Answer ℕ). after r (laid (fedOut s (take (usedIn s text) text)) out) out) (g .3)),
+          ),
+        ),
       )
 
   module _ (ok : judge {A = ℕ} rs 0 ≡ accepted 0) where
@@ -89,9 +93,13 @@ module _ (t : Term) (text room out : List ℕ) where
         let q : fedOut s (take (usedIn s text) text) ≡ p = ap (λ (x : ℕ). fedOut s (take x text)) (sym a) ∙ c in
         let w : fedTo s (take (usedIn s text) text) ≡ z = ap (λ (x : ℕ). fedTo s (take x text)) (sym a) ∙ b in (
           ap accepted (d ∙ ap length (sym q)) ∙ sym g,
-          (a ∙ sym (ap (λ (r : Answer ℕ). after r (usedIn s text) 0) g),
-          (sym w ∙ sym (ap (λ (r : Answer ℕ). after r (fedTo s (take (usedIn s text) text)) s) g),
-          f ∙ ap (λ (x : List ℕ). laid x out) (sym q) ∙ sym (ap (λ (r : Answer ℕ). after r (laid (fedOut s (take (usedIn s text) text)) out) out) g))),
+          (
+            a ∙ sym (ap (λ (r : Answer ℕ). after r (usedIn s text) 0) g),
+            (
+              sym w ∙ sym (ap (λ (r : Answer ℕ). after r (fedTo s (take (usedIn s text) text)) s) g),
+              f ∙ ap (λ (x : List ℕ). laid x out) (sym q) ∙ sym (ap (λ (r : Answer ℕ). after r (laid (fedOut s (take (usedIn s text) text)) out) out) g),
+            ),
+          ),
         )
 
     -- after 22 all is taken and nothing printed
