@@ -15,6 +15,7 @@ pub mod Lines
 pub mod Marked
 pub mod Named
 pub mod Names
+pub mod PrintedFits
 pub mod ReportFed
 pub mod ReportedApart
 pub mod Runs

@@ -26,6 +26,7 @@ use Rattle.report_text.specs.declared.figures.Figures.{Figures}
 use Rattle.report_text.specs.declared.sums.Sums.{Sums}
 use Rattle.report_text.specs.declared.term.Term.{Term}
 use Rattle.report_text.proofs.Blocks.{over-out, over-close}
+use Rattle.report_text.proofs.Finishes.{out-on, out-over}
 use Rattle.report_text.proofs.HeldTexts.{held-enough}
 use Rattle.report_text.proofs.ImageTexts.{endedText, texts, texts-images}
 
@@ -52,16 +53,6 @@ module _ (s : Sums) (i : List (List ℕ)) (is : List (List (List ℕ))) where
   reported-over : fitting sum ≡ false → reported s (i ∷ is) ≡ numberLine 22
   unfolding reported
   reported-over e = rw e refl
-
--- an image that is printed
-module _ (s : Sums) (i : List (List ℕ)) where
-  out-on : fitting (adding s (imageAnswer i)) ≡ true → (imageOut s i ≡ imageLine (nameOf (first i)) (imageAnswer i)) × (imageTerm s i ≡ record { sums = adding s (imageAnswer i); held = 0; fresh = true; over = false })
-  unfolding imageOut imageTerm
-  out-on e = (rw e refl, rw e refl)
-
-  out-over : fitting (adding s (imageAnswer i)) ≡ false → (imageOut s i ≡ numberLine 22) × (imageTerm s i ≡ record { sums = s; held = 0; fresh = true; over = true })
-  unfolding imageOut imageTerm
-  out-over e = (rw e refl, rw e refl)
 
 -- the same lines, the same line printed
 module _ (s : Sums) (i j : List (List ℕ)) (a : imageAnswer i ≡ imageAnswer j) (n : nameOf (first i) ≡ nameOf (first j)) where
