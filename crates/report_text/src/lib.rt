@@ -1,14 +1,14 @@
 // The term report's work: the texts of many images to a line for each, and the sums.
 mod count;
-pub mod figures;
+mod figures;
 mod finish;
 mod gather;
-pub mod image;
+mod image;
 mod line;
 mod name;
-pub mod sums;
+mod sums;
 pub mod term;
-pub mod whole;
+mod whole;
 
 pub use figures::Figures;
 pub use image::Reported;
