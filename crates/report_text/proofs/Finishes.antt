@@ -21,11 +21,13 @@ use Rattle.report_text.specs.declared.term.Term.{Term}
 
 -- an image whose sums fit, and one whose sums do not
 module _ (s : Sums) (i : List (List ℕ)) where
-  pub out-on : fitting (adding s (imageAnswer i)) ≡ true → (imageOut s i ≡ imageLine (nameOf (first i)) (imageAnswer i)) × (imageTerm s i ≡ record { sums = adding s (imageAnswer i); held = 0; fresh = true; over = false })
+  pub out-on : fitting (adding s (imageAnswer i)) ≡ true → (imageOut s i ≡ imageLine (nameOf (first i)) (imageAnswer i)) ×
+      (imageTerm s i ≡ record { sums = adding s (imageAnswer i); held = 0; fresh = true; over = false })
   unfolding imageOut imageTerm
   out-on e = (rw e refl, rw e refl)
 
-  pub out-over : fitting (adding s (imageAnswer i)) ≡ false → (imageOut s i ≡ numberLine 22) × (imageTerm s i ≡ record { sums = s; held = 0; fresh = true; over = true })
+  pub out-over : fitting (adding s (imageAnswer i)) ≡ false
+      → (imageOut s i ≡ numberLine 22) × (imageTerm s i ≡ record { sums = s; held = 0; fresh = true; over = true })
   unfolding imageOut imageTerm
   out-over e = (rw e refl, rw e refl)
 

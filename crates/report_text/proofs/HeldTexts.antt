@@ -52,7 +52,8 @@ module _ (text : List ℕ) (h : 50432 < length text) where
   refused-13 : (vs : List ℤ) × (judge {A = ℕ} (inputRefusals text) 0 ≡ refused 13 vs)
   refused-13 = by (judge (inputRefusals text) (countsOf text)) refl (lines-13 text)
     where
-      by : (r : Answer Input) → judge (inputRefusals text) (countsOf text) ≡ r → Thirteen r (countsOf text) → (vs : List ℤ) × (judge {A = ℕ} (inputRefusals text) 0 ≡ refused 13 vs)
+      by : (r : Answer Input) → judge (inputRefusals text) (countsOf text) ≡ r → Thirteen r (countsOf text)
+          → (vs : List ℤ) × (judge {A = ℕ} (inputRefusals text) 0 ≡ refused 13 vs)
       by (accepted c) e (inl v) = let k = longest text (e ∙ v) in absurd (omega arith)
       by (accepted c) e (inr q) = absurd (omega arith)
       by (refused n vs) e (inl v) = absurd (differ v)
@@ -134,7 +135,9 @@ held-long h k = by (isNameLine (first (lines h))) refl
         (long-answer (take most h) (ap isNameLine f ∙ e) (omega arith) ∙ sym (long-answer h e (omega arith)), ap nameOf f)
     by false e =
         ⊎-elim
-        (λ g. short (long-line (take most (first (lines h))) (let l = length-take-le most (first (lines h)) (omega arith) in omega arith) ∙ sym (long-line (first (lines h)) (omega arith))) e)
+        (λ g. short
+        (long-line (take most (first (lines h))) (let l = length-take-le most (first (lines h)) (omega arith) in omega arith) ∙ sym
+        (long-line (first (lines h)) (omega arith))) e)
         (λ g. short (ap isNameLine (take-all most (first (lines h)) g)) e) (lt-or-le most (length (first (lines h))))
 
 pub held-enough : (h : List ℕ) → Same (take most h) h

@@ -135,7 +135,9 @@ texts-lines ls (b ∷ p) (c ∷ t) h k =
     by true e i j =
         let q = eqb-true c 10 e in
         ap (map lines) (texts-line (joined ls ++ b ∷ p) c t e)
-        ∙ ap (λ (x : List ℕ). map lines (texts true x t)) (append-assoc (joined ls) (b ∷ p) (c ∷ []) ∙ ap (λ (d : ℕ). joined ls ++ ((b ∷ p) ++ d ∷ [])) q ∙ sym (joined-snoc ls (b ∷ p)) ∙ sym (append-nil (joined (ls ++ (b ∷ p) ∷ []))))
+        ∙ ap (λ (x : List ℕ). map lines (texts true x t))
+        (append-assoc (joined ls) (b ∷ p) (c ∷ []) ∙ ap (λ (d : ℕ). joined ls ++ ((b ∷ p) ++ d ∷ [])) q ∙ sym (joined-snoc ls (b ∷ p)) ∙ sym
+        (append-nil (joined (ls ++ (b ∷ p) ∷ []))))
         ∙ i
         ∙ sym (ap (imagesAfter ls) (ap (λ (d : ℕ). lines ((b ∷ p) ++ d ∷ t)) q ∙ line-ended (b ∷ p) t k))
     by false e i j =

@@ -73,7 +73,9 @@ printed-fits s b f = (step (completes (s .term) b), close (s .term .over) (eqb (
         let a = length-append (imageOut (s .term .sums) (lines (textIn s))) (lastOut (imageTerm (s .term .sums) (lines (textIn s)))) in
         omega (arith, a, l .0, l .1)
 
-    close : (x y : Bool) → length (cond x [] (cond y (totalLine (s .term .sums)) (imageOut (s .term .sums) (lines (textIn s)) ++ lastOut (imageTerm (s .term .sums) (lines (textIn s)))))) ≤ mostPrinted
+    close : (x y : Bool) → length
+        (cond x [] (cond y (totalLine (s .term .sums))
+        (imageOut (s .term .sums) (lines (textIn s)) ++ lastOut (imageTerm (s .term .sums) (lines (textIn s)))))) ≤ mostPrinted
     close true y = omega arith
     close false true = let l = total-length (s .term .sums) f in omega arith
     close false false = both

@@ -21,7 +21,8 @@ use Rattle.report_text.specs.Name.{nameOf}
 use Rattle.report_text.specs.Image.{imageAnswer}
 use Rattle.report_text.specs.Sums.{adding, fitting, noSums}
 use Rattle.report_text.specs.Report.{imageLine, totalLine, reported, reportOf}
-use Rattle.report_text.specs.Term.{State, state, begun, most, heldIn, textIn, imageOut, imageTerm, pushed, isEmptyLine, stepTo, stepOut, fedTo, fedOut, lastOut, closeOut}
+use Rattle.report_text.specs.Term.{State, state, begun, most, heldIn, textIn, imageOut, imageTerm}
+use Rattle.report_text.specs.Term.{pushed, isEmptyLine, stepTo, stepOut, fedTo, fedOut, lastOut, closeOut}
 use Rattle.report_text.specs.declared.figures.Figures.{Figures}
 use Rattle.report_text.specs.declared.sums.Sums.{Sums}
 use Rattle.report_text.specs.declared.term.Term.{Term}
@@ -60,7 +61,8 @@ module _ (s : Sums) (i j : List (List ℕ)) (a : imageAnswer i ≡ imageAnswer j
   unfolding imageOut imageTerm
   same-out = (
     ap₂ (λ (x : Answer Figures) (y : List ℕ). cond (fitting (adding s x)) (imageLine y x) (numberLine 22)) a n,
-    ap (λ (x : Answer Figures). cond {A = Term} (fitting (adding s x)) (record { sums = adding s x; held = 0; fresh = true; over = false }) (record { sums = s; held = 0; fresh = true; over = true })) a,
+    ap (λ (x : Answer Figures). cond {A = Term} (fitting (adding s x)) (record { sums = adding s x; held = 0; fresh = true; over = false })
+        (record { sums = s; held = 0; fresh = true; over = true })) a,
   )
 
 -- how many bytes are held
@@ -97,7 +99,8 @@ push-text room h n b e f w = ⊎-elim shorter full (lt-or-le (length h) most)
         let z : n < length room = omega arith in
         rw (lt-ltb n most (omega arith)) (
           omega (arith, more),
-          ap (λ (x : ℕ). take x (set room n b)) m ∙ take-suc-set room n b z ∙ ap (λ (x : List ℕ). x ++ b ∷ []) (f ∙ g) ∙ sym (take-all most (h ++ b ∷ []) (omega (arith, more))),
+          ap (λ (x : ℕ). take x (set room n b)) m ∙ take-suc-set room n b z ∙ ap (λ (x : List ℕ). x ++ b ∷ []) (f ∙ g) ∙ sym
+              (take-all most (h ++ b ∷ []) (omega (arith, more))),
           length-set room n b,
         )
 
@@ -185,10 +188,12 @@ module _ (s : State) (c : ℕ) (h : List ℕ) (H : Holds s (c ∷ h)) where
     on-with : (t : List ℕ) → Reports t → imageOut sums image ++ from after t ≡ reported sums (image ∷ map lines (texts true [] t))
     on-with t r = by (fitting (adding sums (imageAnswer image))) refl
       where
-        by : (x : Bool) → fitting (adding sums (imageAnswer image)) ≡ x → imageOut sums image ++ from after t ≡ reported sums (image ∷ map lines (texts true [] t))
+        by : (x : Bool) → fitting (adding sums (imageAnswer image)) ≡ x
+            → imageOut sums image ++ from after t ≡ reported sums (image ∷ map lines (texts true [] t))
         by true g =
             let o = out-on sums image g in
-            let q = r (state (record { sums = adding sums (imageAnswer image); held = 0; fresh = true; over = false }) (s .room)) [] (ended-holds (adding sums (imageAnswer image)) (s .room) (H .wide)) in
+            let q = r (state (record { sums = adding sums (imageAnswer image); held = 0; fresh = true; over = false }) (s .room)) []
+            (ended-holds (adding sums (imageAnswer image)) (s .room) (H .wide)) in
             ap₂ (λ (x : List ℕ) (y : Term). x ++ from (state y (s .room)) t) (o .0) (o .1)
             ∙ ap (λ (x : List ℕ). imageLine (nameOf (first image)) (imageAnswer image) ++ x) q ∙ sym (reported-on sums image (map lines (texts true [] t)) g)
         by false g =
@@ -228,10 +233,12 @@ one-byte : (b : ℕ) (t : List ℕ) → Reports t → Reports (b ∷ t)
 unfolding texts pushed
 one-byte b t r s h H = by (isEmptyLine (s .term) b) refl h H
   where
-    goes : (k : List ℕ) (x : Bool) → isEmptyLine (s .term) b ≡ x → texts (s .term .fresh) k (b ∷ t) ≡ cond x (endedText k ++ texts true [] t) (texts (eqb b 10) (k ++ b ∷ []) t)
+    goes : (k : List ℕ) (x : Bool) → isEmptyLine (s .term) b ≡ x
+        → texts (s .term .fresh) k (b ∷ t) ≡ cond x (endedText k ++ texts true [] t) (texts (eqb b 10) (k ++ b ∷ []) t)
     goes k x e = ap (λ (y : Bool). cond y (endedText k ++ texts true [] t) (texts (eqb b 10) (k ++ b ∷ []) t)) e
 
-    by : (x : Bool) → isEmptyLine (s .term) b ≡ x → (k : List ℕ) → Holds s k → from s (b ∷ t) ≡ reported (s .term .sums) (map lines (texts (s .term .fresh) k (b ∷ t)))
+    by : (x : Bool) → isEmptyLine (s .term) b ≡ x → (k : List ℕ) → Holds s k
+        → from s (b ∷ t) ≡ reported (s .term .sums) (map lines (texts (s .term .fresh) k (b ∷ t)))
     by true e [] K =
         let p = step-none s K b e in
         fed-on s b t ∙ ap₂ (λ (x : List ℕ) (y : State). x ++ from y t) (p .1) (p .0) ∙ r s [] K

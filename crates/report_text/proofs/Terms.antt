@@ -24,7 +24,8 @@ use Rattle.text.specs.Puts.{Puts}
 use Rattle.list_text.proofs.LaidRooms.{laid-over}
 use Rattle.report_text.specs.Report.{totalLine}
 use Rattle.report_text.specs.Term.{State, state, most, mostPrinted, heldIn, textIn, imageOut, imageTerm, isEmptyLine, completes, stepTo, stepOut}
-use Rattle.report_text.specs.Term.{fedTo, fedOut, usedIn, lastOut, closeOut, roomRefusals, takeAnswer, takeUsed, takeState, takeOut, closeAnswer, closeRoom}
+use Rattle.report_text.specs.Term.{fedTo, fedOut, usedIn, lastOut, closeOut, roomRefusals}
+use Rattle.report_text.specs.Term.{takeAnswer, takeUsed, takeState, takeOut, closeAnswer, closeRoom}
 use Rattle.report_text.specs.Term.{heldState, Gathering, Finishing}
 use Rattle.report_text.specs.declared.finish.Finished.{Finished}
 use Rattle.report_text.specs.declared.gather.Gathered.{Gathered}
@@ -109,11 +110,13 @@ module _ (t : Term) (text room out : List ℕ) where
         take-on (length text) (sym (used-over s o text)) s (p .1) [] (p .0) 0 refl out refl
 
   -- an image that is held whole, at the empty line after it
-  pub ended-as : (z : State) → completes (z .term) 10 ≡ true → (stepOut z 10 ≡ imageOut (z .term .sums) (lines (textIn z))) × (stepTo z 10 ≡ state (imageTerm (z .term .sums) (lines (textIn z))) (z .room))
+  pub ended-as : (z : State) → completes (z .term) 10 ≡ true
+      → (stepOut z 10 ≡ imageOut (z .term .sums) (lines (textIn z))) × (stepTo z 10 ≡ state (imageTerm (z .term .sums) (lines (textIn z))) (z .room))
   unfolding stepTo
   ended-as z e =
       let a : not (z .term .over) ≡ true = first-part (not (z .term .over)) (isEmptyLine (z .term) 10 && not (eqb (heldIn (z .term)) 0)) e in
-      let b : (isEmptyLine (z .term) 10 && not (eqb (heldIn (z .term)) 0)) ≡ true = second-part (not (z .term .over)) (isEmptyLine (z .term) 10 && not (eqb (heldIn (z .term)) 0)) e in
+      let b : (isEmptyLine (z .term) 10 && not (eqb (heldIn (z .term)) 0)) ≡ true = second-part (not (z .term .over))
+      (isEmptyLine (z .term) 10 && not (eqb (heldIn (z .term)) 0)) e in
       let c : isEmptyLine (z .term) 10 ≡ true = first-part (isEmptyLine (z .term) 10) (not (eqb (heldIn (z .term)) 0)) b in
       let d : not (eqb (heldIn (z .term)) 0) ≡ true = second-part (isEmptyLine (z .term) 10) (not (eqb (heldIn (z .term)) 0)) b in
       (rw e refl, rw (not-true (z .term .over) a, c, not-true (eqb (heldIn (z .term)) 0) d) refl)
@@ -136,13 +139,15 @@ module _ (t : Term) (text room out : List ℕ) where
 
 -- a call at the end
 module _ (t : Term) (room out : List ℕ) where
-  pub close-refused : (v : Viewed) → viewedOf v ≡ judge (roomRefusals room out) 0 → isWritten v ≡ false → (viewedOf v ≡ closeAnswer t room out) × (out ≡ closeRoom t room out)
+  pub close-refused : (v : Viewed) → viewedOf v ≡ judge (roomRefusals room out) 0 → isWritten v ≡ false
+      → (viewedOf v ≡ closeAnswer t room out) × (out ≡ closeRoom t room out)
   unfolding closeAnswer closeRoom
   close-refused v e f =
       let g = refused-by (roomRefusals room out) v e f (length (closeOut (state t room))) in
       (g .2 ∙ sym (g .3), sym (ap (λ (r : Answer ℕ). after r (laid (closeOut (state t room)) out) out) (g .3)))
 
-  pub close-on : judge {A = ℕ} (roomRefusals room out) 0 ≡ accepted 0 → (p : List ℕ) → closeOut (state t room) ≡ p → (n : ℕ) (o : List ℕ) → Puts p 0 out o n → n ≤ length out
+  pub close-on : judge {A = ℕ} (roomRefusals room out) 0 ≡ accepted 0 → (p : List ℕ) → closeOut (state t room) ≡ p → (n : ℕ) (o : List ℕ)
+      → Puts p 0 out o n → n ≤ length out
       → (accepted n ≡ closeAnswer t room out) × (o ≡ closeRoom t room out)
   unfolding closeAnswer closeRoom
   close-on ok p c n o q m =
@@ -150,7 +155,8 @@ module _ (t : Term) (room out : List ℕ) where
       let g : judge (roomRefusals room out) k ≡ accepted k = accepts-too (roomRefusals room out) 0 k ok in
       let l : n ≡ length p = omega (arith, q .next) in (
         ap accepted (l ∙ ap length (sym c)) ∙ sym g,
-        q .wrote ∙ laid-over p out (omega arith) ∙ ap (λ (x : List ℕ). laid x out) (sym c) ∙ sym (ap (λ (r : Answer ℕ). after r (laid (closeOut (state t room)) out) out) g),
+        q .wrote ∙ laid-over p out (omega arith) ∙ ap (λ (x : List ℕ). laid x out) (sym c) ∙ sym
+            (ap (λ (r : Answer ℕ). after r (laid (closeOut (state t room)) out) out) g),
       )
 
   module _ (o : t .over ≡ false) where
@@ -158,7 +164,8 @@ module _ (t : Term) (room out : List ℕ) where
     unfolding closeOut
     close-none h = rw (o, eq-eqb (heldIn t) 0 h) refl
 
-    pub close-some : (heldIn t ≡ 0 → ⊥) → closeOut (state t room) ≡ imageOut (t .sums) (lines (textIn (state t room))) ++ lastOut (imageTerm (t .sums) (lines (textIn (state t room))))
+    pub close-some : (heldIn t ≡ 0 → ⊥)
+        → closeOut (state t room) ≡ imageOut (t .sums) (lines (textIn (state t room))) ++ lastOut (imageTerm (t .sums) (lines (textIn (state t room))))
     unfolding closeOut
     close-some h = rw (o, ne-eqb (heldIn t) 0 h) refl
 

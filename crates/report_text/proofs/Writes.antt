@@ -20,7 +20,8 @@ use Rattle.text.specs.Puts.{Puts}
 use Rattle.text.proofs.Putting.{puts-then}
 use Rattle.list_text.proofs.LaidRooms.{laid-over}
 use Rattle.report_text.specs.Report.{highest, reportOf, reportAnswer, reportRoom, writtenIn, Filling}
-use Rattle.report_text.specs.Term.{State, state, begun, most, mostPrinted, completes, stepTo, fedTo, fedOut, usedIn, closeOut, roomRefusals, firstOut, Writing}
+use Rattle.report_text.specs.Term.{State, state, begun, most, mostPrinted, completes, stepTo}
+use Rattle.report_text.specs.Term.{fedTo, fedOut, usedIn, closeOut, roomRefusals, firstOut, Writing}
 use Rattle.report_text.specs.Term.{takeAnswer, takeUsed, takeState, takeOut, closeAnswer, closeRoom}
 use Rattle.report_text.specs.declared.term.Term.{Term}
 use Rattle.report_text.specs.declared.whole.Progress.{Progress}
@@ -106,13 +107,15 @@ pub record Counted (room out : List ℕ) (n : ℕ) (room′ : List ℕ) : Type 0
   pub count-is : n ≡ min (length out) 9223372036854775808
   pub wrote : length out ≤ highest → room′ ≡ sets room 0 out
 
-pub counted-more : (room done p : List ℕ) (n : ℕ) (old new : List ℕ) (k : ℕ) → Counted room done n old → k ≡ min (n + length p) 9223372036854775808 → new ≡ sets old n p → Counted room (done ++ p) k new
+pub counted-more : (room done p : List ℕ) (n : ℕ) (old new : List ℕ) (k : ℕ) → Counted room done n old → k ≡ min (n + length p) 9223372036854775808
+    → new ≡ sets old n p → Counted room (done ++ p) k new
 counted-more room done p n old new k c e f = record {
   count-is = let l = length-append done p in let g = c .count-is in omega (arith, l, g, e);
   wrote = λ h.
       let l = length-append done p in
       let m : n ≡ 0 + length done = omega (arith, c .count-is, l) in
-      puts-then {s = done} {t = p} {o = room} {m = old} {n = new} (record { next = m; wrote = c .wrote (omega (arith, l)) }) (record { next = refl; wrote = f }) .wrote;
+      puts-then {s = done} {t = p} {o = room} {m = old} {n = new} (record { next = m; wrote = c .wrote (omega (arith, l)) })
+      (record { next = refl; wrote = f }) .wrote;
 }
 
 -- part of the report is written, and the rest stands before what is left of the text
@@ -138,7 +141,8 @@ module _ {text room₀ : List ℕ} {s : State} {at n : ℕ} {room : List ℕ} (f
   abbrev rest : List ℕ
   rest = drop at text
 
-  pub so-far-more : (u : ℕ) → u ≡ usedIn s rest → (z : State) → z ≡ fedTo s (take u rest) → (k : ℕ) → k ≡ min (n + length (fedOut s (take u rest))) 9223372036854775808
+  pub so-far-more : (u : ℕ) → u ≡ usedIn s rest → (z : State) → z ≡ fedTo s (take u rest) → (k : ℕ)
+      → k ≡ min (n + length (fedOut s (take u rest))) 9223372036854775808
       → (new : List ℕ) → new ≡ sets room n (fedOut s (take u rest)) → SoFar text room₀ z (at + u) k new
   so-far-more u a z b k c new d = record {
     written = f .written ++ fedOut s (take u rest);
@@ -151,7 +155,8 @@ module _ {text room₀ : List ℕ} {s : State} {at n : ℕ} {room : List ℕ} (f
     counted = counted-more room₀ (f .written) (fedOut s (take u rest)) n room new k (f .counted) c d;
   }
 
-  pub so-far-whole : length text ≤ at → (k : ℕ) → k ≡ min (n + length (closeOut s)) 9223372036854775808 → (new : List ℕ) → new ≡ sets room n (closeOut s) → Filling text room₀ new k
+  pub so-far-whole : length text ≤ at → (k : ℕ) → k ≡ min (n + length (closeOut s)) 9223372036854775808 → (new : List ℕ) → new ≡ sets room n (closeOut s)
+      → Filling text room₀ new k
   unfolding fedOut fedTo
   so-far-whole h k c new d =
       let e : f .written ++ closeOut s ≡ reportOf text = sym (ap (λ (x : List ℕ). f .written ++ from s x) (drop-of-length-le text h)) ∙ f .splits in
@@ -166,7 +171,8 @@ module _ (text room : List ℕ) where
   abbrev out : List ℕ
   out = reportOf text
 
-  pub too-short : (n : ℕ) → n ≡ min (length out) 9223372036854775808 → (k : ℕ) → k ≡ min n highest → min (length room) highest < n → (refused 11 (pos k ∷ []) ≡ reportAnswer text room) × (room ≡ reportRoom text room)
+  pub too-short : (n : ℕ) → n ≡ min (length out) 9223372036854775808 → (k : ℕ) → k ≡ min n highest → min (length room) highest < n
+      → (refused 11 (pos k ∷ []) ≡ reportAnswer text room) × (room ≡ reportRoom text room)
   unfolding reportAnswer reportRoom
   too-short n e k f h =
       let g : min (length room) highest < length out = omega (arith, e) in
@@ -184,15 +190,18 @@ module _ (text room : List ℕ) where
       (ap accepted m ∙ sym r, q .wrote (omega (arith, e)) ∙ laid-over out room (omega (arith, e)) ∙ sym (ap (λ (x : Answer ℕ). after x (laid out room) room) r))
 
 -- what a call says that it wrote, and what stands in its line
-pub written-says : (v : Viewed) (k : ℕ) (p l line : List ℕ) → k ≡ writtenIn v → viewedOf v ≡ accepted (length p) → line ≡ laid p l → length line ≡ length l → (k ≡ length p) × (k ≤ length line) × (take k line ≡ p)
+pub written-says : (v : Viewed) (k : ℕ) (p l line : List ℕ) → k ≡ writtenIn v → viewedOf v ≡ accepted (length p) → line ≡ laid p l → length line ≡ length l
+    → (k ≡ length p) × (k ≤ length line) × (take k line ≡ p)
 written-says v k p l line a b c d =
     let e : k ≡ length p = a ∙ count-told v (length p) b in
     let f = laid-fits p l line c d in
     (e, omega (arith, e, f .0), ap (λ (x : ℕ). take x line) e ∙ f .1)
 
 -- one call more
-pub so-far-wrote : {text room₀ : List ℕ} {t : Term} {held : List ℕ} {at n : ℕ} {room : List ℕ} → SoFar text room₀ (state t held) at n room → (part : List ℕ) → part ≡ drop at text
-    → (left : List ℕ) (r : Progress) → Writing t part held n left r → (new : List ℕ) → new ≡ sets room n (firstOut t part held) → SoFar text room₀ (state (r .term) left) (at + r .used) (r .count) new
+pub so-far-wrote : {text room₀ : List ℕ} {t : Term} {held : List ℕ} {at n : ℕ} {room : List ℕ} → SoFar text room₀ (state t held) at n room
+    → (part : List ℕ) → part ≡ drop at text
+    → (left : List ℕ) (r : Progress) → Writing t part held n left r → (new : List ℕ) → new ≡ sets room n (firstOut t part held) → SoFar text room₀
+    (state (r .term) left) (at + r .used) (r .count) new
 so-far-wrote {text} {room₀} {t} {held} {at} {n} {room} f part e left r w new d =
     let s : State = state t held in
     let u = sym (w .used-is) in

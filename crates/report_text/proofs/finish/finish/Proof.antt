@@ -18,7 +18,8 @@ returns c =
     let f = p .before .before in
     let i = f .before .before in
     let a = i .before .before .before .args in
-    finish-over (a .s) (a .text .now) (a .out .now) _ _ (i .report-image .ensures) _ (p .put-sum-refusal .ensures .1) (sym (f .before .image-fits .ensures) ∙ not-true _ (f .if1 .taken)) (p .put-sum-refusal .ensures .0)
+    finish-over (a .s) (a .text .now) (a .out .now) _ _ (i .report-image .ensures) _ (p .put-sum-refusal .ensures .1)
+    (sym (f .before .image-fits .ensures) ∙ not-true _ (f .if1 .taken)) (p .put-sum-refusal .ensures .0)
 
 add-requires : tie.Need-add-requires
 add-requires c κs = sym (c .before .image-fits .ensures) ∙ not-false _ (c .if1 .left)
@@ -38,9 +39,11 @@ returns-2 c =
     let i = f .before .before in
     let a = i .before .before .before .args in
     finish-on (a .s) (a .text .now) (a .out .now) _ _ (i .report-image .ensures) _ (p .put-image .ensures .1) _ (d .add .ensures)
-    (sym (f .before .image-fits .ensures) ∙ not-false _ (f .if1 .left)) _ (sym (split (a .text .now) (e .end .result) (e .end .ensures) .0)) (p .put-image .ensures .0)
+    (sym (f .before .image-fits .ensures) ∙ not-false _ (f .if1 .left)) _ (sym (split (a .text .now) (e .end .result) (e .end .ensures) .0))
+    (p .put-image .ensures .0)
 
 pub finish-spec : {M : Type 1} → statement M
 finish-spec =
     tie.close
-    (tie.spec (λ c κs. search needs) (λ c κs. search needs) (λ c κs. search needs) (λ c. search needs) returns add-requires (λ c κs. search needs) (λ c. search needs) (λ c. search needs) part-end (λ c κs. search needs) (λ c. search needs) returns-2)
+    (tie.spec (λ c κs. search needs) (λ c κs. search needs) (λ c κs. search needs) (λ c. search needs) returns add-requires (λ c κs. search needs)
+    (λ c. search needs) (λ c. search needs) part-end (λ c κs. search needs) (λ c. search needs) returns-2)

@@ -13,7 +13,8 @@ use lib.ListN.{length, getD}
 use Rattle.instruction.proofs.Ands.{not-first, not-second}
 use Rattle.report_text.specs.Term.{State, state, most, stepTo, stepOut, pushed, isEmptyLine}
 use Rattle.report_text.specs.declared.sums.Sums.{Sums}
-use Rattle.report_text.proofs.Gathers.{going, Gone, gone-none, gone-more, gone-ended, gone-whole, byte-ends, byte-skipped, byte-held, not-both, pushed-as, ends, whole}
+use Rattle.report_text.proofs.Gathers.{going, Gone, gone-none, gone-more, gone-ended, gone-whole}
+use Rattle.report_text.proofs.Gathers.{byte-ends, byte-skipped, byte-held, not-both, pushed-as, ends, whole}
 use Rattle.report_text.proofs.gather.gather.Statement.{statement}
 use Rattle.report_text.proofs.gather.gather.Tie as tie
 
@@ -67,7 +68,8 @@ loop-again-2 c =
       λ s.
           let n = not-both (l .loop .fresh) (eqb b 10) (⊎-elim (λ x. inr (x .1 .left)) (λ x. inl (x .left)) (j .if1 .came)) in
           let q = byte-held s (l .loop .held) (l .loop .fresh) (l .loop .room) b n in
-          gone-more (l .loop .inv .2 s) (i .loop-test .taken) _ (q .0 ∙ pushed-as s (l .loop .held) (l .loop .fresh) (l .loop .room) b _ _ (p .push .ensures .0) (p .push .ensures .1)) (q .1),
+          gone-more (l .loop .inv .2 s) (i .loop-test .taken) _
+          (q .0 ∙ pushed-as s (l .loop .held) (l .loop .fresh) (l .loop .room) b _ _ (p .push .ensures .0) (p .push .ensures .1)) (q .1),
     )
 
 returns-2 : tie.Need-returns-2 Inv-loop μ-loop
@@ -82,4 +84,5 @@ returns-2 c =
 pub gather-spec : {M : Type 1} → statement M
 gather-spec =
     tie.close
-    (tie.spec Inv-loop μ-loop loop-holds (λ c. search needs) (λ c. search needs) (λ c. search needs) returns (λ c. search needs) loop-again (λ c κs. search needs) (λ c. search needs) loop-again-2 (λ c. search needs) returns-2)
+    (tie.spec Inv-loop μ-loop loop-holds (λ c. search needs) (λ c. search needs) (λ c. search needs) returns (λ c. search needs) loop-again
+    (λ c κs. search needs) (λ c. search needs) loop-again-2 (λ c. search needs) returns-2)

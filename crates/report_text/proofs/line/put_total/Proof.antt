@@ -35,4 +35,5 @@ pub put-total-spec : {M : Type 1} → statement M
 put-total-spec =
     tie.close
     (tie.spec (λ c. search needs) (λ c. search needs) (λ c. search needs) put-fields-requires slice-write-room-2
-    (λ c. search needs) (λ c. puts-length (line (c .before .before))) (λ c. (line (c .before .before), omega (arith, c .before .before .put-fields .ensures .1))))
+    (λ c. search needs) (λ c. puts-length (line (c .before .before)))
+    (λ c. (line (c .before .before), omega (arith, c .before .before .put-fields .ensures .1))))

@@ -39,7 +39,8 @@ returns c =
     let k = w .before in
     close-refused (term k) (room k) (out k) (k .check .result) (k .check .ensures) (sym (w .is-written .ensures) ∙ not-true _ (c .if1 .taken))
 
-accepts : (c : tie.Else1) → let k = c .before .before in (viewedOf (k .check .result) ≡ accepted 0) × (judge {A = ℕ} (roomRefusals (room k) (out k)) 0 ≡ accepted 0)
+accepts : (c : tie.Else1)
+    → let k = c .before .before in (viewedOf (k .check .result) ≡ accepted 0) × (judge {A = ℕ} (roomRefusals (room k) (out k)) 0 ≡ accepted 0)
 accepts c =
     let w = c .before in
     let k = w .before in
@@ -52,7 +53,8 @@ returns-2 : tie.Need-returns-2
 returns-2 c =
     let e = c .before in
     let k = e .before .before in
-    let g = close-on (term k) (room k) (out k) (accepts e .1) [] (over-close (state (term k) (room k)) (c .if2 .taken)) 0 (out k) (puts-none 0 (out k)) (omega arith) in
+    let g = close-on (term k) (room k) (out k) (accepts e .1) [] (over-close (state (term k) (room k)) (c .if2 .taken)) 0 (out k) (puts-none 0 (out k))
+    (omega arith) in
     (accepts e .0 ∙ g .0, g .1)
 
 abbrev judged : tie.After-sums → tie.Else1
@@ -69,7 +71,9 @@ returns-3 c =
     let h = s .before in
     let k = judged s .before .before in
     let r = rooms (judged s) in
-    close-on (term k) (room k) (out k) (accepts (judged s) .1) (totalLine (term k .sums)) (close-none (term k) (room k) (out k) (h .before .if2 .left) (sym (h .held-in .ensures) ∙ t .if3 .taken)) _ _ (p .put-total .ensures .0) (omega (arith, p .put-total .ensures .1, r .1))
+    close-on (term k) (room k) (out k) (accepts (judged s) .1) (totalLine (term k .sums))
+    (close-none (term k) (room k) (out k) (h .before .if2 .left) (sym (h .held-in .ensures) ∙ t .if3 .taken)) _ _ (p .put-total .ensures .0)
+    (omega (arith, p .put-total .ensures .1, r .1))
 
 abbrev some : tie.Else3 → tie.After-check
 some e = judged (e .before) .before .before
@@ -102,7 +106,8 @@ returns-4 c =
     let n = e .before .before in
     let r = rooms (judged (e .before)) in
     close-on (term k) (room k) (out k) (accepts (judged (e .before)) .1) _
-    (closes-over (term k) (room k) (out k) (n .before .if2 .left) (not-none e) (n .held-in .result) (n .held-in .ensures) (f .finish .result) _ (f .finish .ensures) (c .if4 .taken)) _ _ (f .finish .ensures .put)
+    (closes-over (term k) (room k) (out k) (n .before .if2 .left) (not-none e) (n .held-in .result) (n .held-in .ensures) (f .finish .result) _
+    (f .finish .ensures) (c .if4 .taken)) _ _ (f .finish .ensures .put)
     (omega (arith, most-printed d, r .1))
 
 put-total-requires-2 : tie.Need-put-total-requires-2
@@ -122,11 +127,13 @@ returns-5 c =
     let n = e .before .before in
     let r = rooms (judged (e .before)) in
     close-on (term k) (room k) (out k) (accepts (judged (e .before)) .1) _
-    (closes-on (term k) (room k) (out k) (n .before .if2 .left) (not-none e) (n .held-in .result) (n .held-in .ensures) (f .finish .result) _ (f .finish .ensures) (v .if4 .left)) _ _
+    (closes-on (term k) (room k) (out k) (n .before .if2 .left) (not-none e) (n .held-in .result) (n .held-in .ensures) (f .finish .result) _
+    (f .finish .ensures) (v .if4 .left)) _ _
     (puts-then (f .finish .ensures .put) (p .put-total2 .ensures .0)) (omega (arith, most-printed d, r .1, p .put-total2 .ensures .1))
 
 pub close-spec : {M : Type 1} → statement M
 close-spec =
     tie.close
-    (tie.spec (λ c κs. search needs) (λ c κs. search needs) (λ c. search needs) returns (λ c. search needs) returns-2 (λ c κs. search needs) put-total-requires (λ c. search needs) returns-3
+    (tie.spec (λ c κs. search needs) (λ c κs. search needs) (λ c. search needs) returns (λ c. search needs) returns-2
+    (λ c κs. search needs) put-total-requires (λ c. search needs) returns-3
     (λ c. sym (length-take-le _ _ (within (c .before)))) finish-requires (λ c. search needs) returns-4 put-total-requires-2 (λ c. search needs) returns-5)

@@ -40,7 +40,8 @@ returns c =
     let k = w .before in
     take-refused (term k) (text k) (room k) (out k) (k .check .result) (k .check .ensures) (sym (w .is-written .ensures) ∙ not-true _ (c .if1 .taken))
 
-accepts : (c : tie.Else1) → let k = c .before .before in (viewedOf (k .check .result) ≡ accepted 0) × (judge {A = ℕ} (roomRefusals (room k) (out k)) 0 ≡ accepted 0)
+accepts : (c : tie.Else1)
+    → let k = c .before .before in (viewedOf (k .check .result) ≡ accepted 0) × (judge {A = ℕ} (roomRefusals (room k) (out k)) 0 ≡ accepted 0)
 accepts c =
     let w = c .before in
     let k = w .before in
@@ -68,7 +69,8 @@ returns-3 c =
     let e = judged g in
     let k = e .before .before in
     let w = g .gather .ensures .whole (not-true _ (c .if3 .taken)) in
-    let r = take-on (term k) (text k) (room k) (out k) (accepts e .1) (g .gather .result .used) (g .gather .ensures .used-is) _ (w .0) [] (w .1) 0 refl (out k) refl in
+    let r = take-on (term k) (text k) (room k) (out k) (accepts e .1) (g .gather .result .used) (g .gather .ensures .used-is) _ (w .0) [] (w .1) 0 refl
+    (out k) refl in
     (accepts e .0 ∙ r .0, r .1)
 
 abbrev gathered : tie.After-held-in → tie.After-gather
@@ -91,10 +93,13 @@ returns-4 c =
     let g = gathered h in
     let e = judged g in
     let k = e .before .before in
-    taken (term k) (text k) (room k) (out k) (accepts e .1) (g .gather .result) (left h) (g .gather .ensures) (not-false _ (h .before .if3 .left)) (h .held-in .result) (h .held-in .ensures) (f .finish .result) _ (f .finish .ensures) (rooms e .1)
+    taken (term k) (text k) (room k) (out k) (accepts e .1) (g .gather .result) (left h) (g .gather .ensures) (not-false _ (h .before .if3 .left))
+    (h .held-in .result) (h .held-in .ensures) (f .finish .result) _ (f .finish .ensures) (rooms e .1)
 
 pub take-spec : {M : Type 1} → statement M
 take-spec =
     tie.close
-    (tie.spec (λ c κs. search needs) (λ c κs. search needs) (λ c. search needs) (λ c. search needs) returns (λ c. search needs) (λ c. search needs) returns-2 gather-requires
-    (λ c. search needs) (λ c. search needs) returns-3 (λ c κs. search needs) within (λ c. sym (length-take-le _ _ (within (c .before)))) finish-requires (λ c. search needs) (λ c. search needs) returns-4)
+    (tie.spec (λ c κs. search needs) (λ c κs. search needs) (λ c. search needs) (λ c. search needs) returns (λ c. search needs)
+    (λ c. search needs) returns-2 gather-requires
+    (λ c. search needs) (λ c. search needs) returns-3 (λ c κs. search needs) within (λ c. sym (length-take-le _ _ (within (c .before)))) finish-requires
+    (λ c. search needs) (λ c. search needs) returns-4)

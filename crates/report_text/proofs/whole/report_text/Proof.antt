@@ -32,7 +32,8 @@ returns : tie.Need-returns
 returns c =
     let f = c .before .before .before in
     let a = start f .args in
-    let g = too-short (a .text .now) (a .room .now) (f .fill .result) (f .fill .ensures .counted) 9223372036854775807 (omega (arith, c .if1 .taken)) (omega (arith, c .if1 .taken)) in
+    let g = too-short (a .text .now) (a .room .now) (f .fill .result) (f .fill .ensures .counted) 9223372036854775807 (omega (arith, c .if1 .taken))
+    (omega (arith, c .if1 .taken)) in
     (g .0, same f ∙ g .1)
 
 returns-2 : tie.Need-returns-2
@@ -40,7 +41,8 @@ returns-2 c =
     let f = c .before .before .before .before in
     let a = start f .args in
     let l = ap length (same f) in
-    let g = too-short (a .text .now) (a .room .now) (f .fill .result) (f .fill .ensures .counted) (f .fill .result) (omega (arith, c .before .if1 .left)) (omega (arith, c .if2 .taken, l)) in
+    let g = too-short (a .text .now) (a .room .now) (f .fill .result) (f .fill .ensures .counted) (f .fill .result) (omega (arith, c .before .if1 .left))
+    (omega (arith, c .if2 .taken, l)) in
     (g .0, same f ∙ g .1)
 
 returns-3 : tie.Need-returns-3
@@ -56,4 +58,5 @@ returns-3 c =
 pub report-text-spec : {M : Type 1} → statement M
 report-text-spec =
     tie.close
-    (tie.spec (λ c. search needs) (λ c. search needs) (λ c κs. search needs) (λ c. search needs) returns (λ c. search needs) returns-2 (λ c κs. search needs) (λ c. search needs) returns-3)
+    (tie.spec (λ c. search needs) (λ c. search needs) (λ c κs. search needs) (λ c. search needs) returns (λ c. search needs) returns-2
+    (λ c κs. search needs) (λ c. search needs) returns-3)

@@ -39,7 +39,8 @@ abbrev looped : tie.After-write-some Inv-loop μ-loop → tie.At-loop Inv-loop �
 looped w = w .before .before .before .before .before .before
 
 more : (w : tie.After-write-some Inv-loop μ-loop) → let l = looped w in let a = start l .args in
-    SoFar (a .text .now) (a .room .now) (state (w .write-some .result .term) (w .write-some .last .1 .1 .0)) (l .loop .at + w .write-some .result .used) (w .write-some .result .count) (w .write-some .last .1 .1 .1 .1 .0)
+    SoFar (a .text .now) (a .room .now) (state (w .write-some .result .term) (w .write-some .last .1 .1 .0)) (l .loop .at + w .write-some .result .used)
+    (w .write-some .result .count) (w .write-some .last .1 .1 .1 .1 .0)
 more w =
     let l = looped w in
     so-far-wrote (l .loop .inv .3) _ (lent-is (l .loop .inv .3)) _ (w .write-some .result) (w .write-some .ensures .0) _ (w .write-some .ensures .1)
@@ -65,8 +66,13 @@ loop-less c =
 loop-again : tie.Need-loop-again Inv-loop μ-loop
 loop-again c =
     let w = c .before .before .before .before .before .before .before .before in
-    let l = looped w in
-    (w .write-some .kept .1 .1 .0 ∙ l .loop .inv .0, w .write-some .kept .1 .1 .1 .0 ∙ l .loop .inv .1, w .write-some .kept .1 .1 .1 .1 .0 ∙ l .loop .inv .2, more w)
+    let l = looped w in (
+      w .write-some .kept .1 .1 .0 ∙ l .loop .inv .0,
+      w .write-some .kept .1 .1 .1 .0 ∙ l .loop .inv .1,
+      w .write-some .kept .1 .1 .1 .1 .0
+          ∙ l .loop .inv .2,
+      more w,
+    )
 
 last-requires : tie.Need-write-last-requires Inv-loop μ-loop
 last-requires c κs =
@@ -84,5 +90,6 @@ returns c =
 pub write-all-spec : {M : Type 1} → statement M
 write-all-spec =
     tie.close
-    (tie.spec Inv-loop μ-loop (λ c κs. search needs) loop-holds (λ c. search needs) (λ c. search needs) (λ c. search needs) some-requires add-at loop-less loop-again last-requires
+    (tie.spec Inv-loop μ-loop (λ c κs. search needs) loop-holds (λ c. search needs) (λ c. search needs)
+    (λ c. search needs) some-requires add-at loop-less loop-again last-requires
     (λ c. search needs) (λ c. search needs) (λ c. search needs) returns)

@@ -23,13 +23,15 @@ out c = let a = start c .args in closeOut (state (a .term) (a .held .now))
 abbrev line : tie.After-count-of → List ℕ
 line c = closed c .close .last .1 .1 .0
 
-says : (c : tie.After-count-of) → (c .count-of .result ≡ length (out c)) × (c .count-of .result ≤ length (line c)) × (take (c .count-of .result) (line c) ≡ out c)
+says : (c : tie.After-count-of)
+    → (c .count-of .result ≡ length (out c)) × (c .count-of .result ≤ length (line c)) × (take (c .count-of .result) (line c) ≡ out c)
 says c =
     let k = closed c in
     let s = start c in
     let a = s .args in
     let g = close-says (a .held .now) (a .line .now) (s .pre .0) (s .pre .1) (a .term) in
-    written-says (k .close .result) (c .count-of .result) (out c) (a .line .now) (line c) (c .count-of .ensures) (k .close .ensures .0 ∙ g .0) (k .close .ensures .1 ∙ g .1) (k .close .kept .1 .1 .0)
+    written-says (k .close .result) (c .count-of .result) (out c) (a .line .now) (line c) (c .count-of .ensures) (k .close .ensures .0 ∙ g .0)
+    (k .close .ensures .1 ∙ g .1) (k .close .kept .1 .1 .0)
 
 returns : tie.Need-returns
 returns c =
@@ -44,5 +46,6 @@ returns c =
 pub write-last-spec : {M : Type 1} → statement M
 write-last-spec =
     tie.close
-    (tie.spec (λ c κs. search needs) (λ c κs. search needs) (λ c. says c .1) (λ c. sym (length-take-le _ _ (says (c .before) .1))) (λ c κs. search needs) (λ c κs. search needs)
+    (tie.spec (λ c κs. search needs) (λ c κs. search needs) (λ c. says c .1) (λ c. sym (length-take-le _ _ (says (c .before) .1))) (λ c κs. search needs)
+    (λ c κs. search needs)
     (λ c. search needs) (λ c. search needs) returns)

@@ -23,13 +23,15 @@ out c = let a = start c .args in firstOut (a .term) (a .text .now) (a .held .now
 abbrev line : tie.After-count-of → List ℕ
 line c = took c .take .last .1 .1 .1 .0
 
-says : (c : tie.After-count-of) → (c .count-of .result ≡ length (out c)) × (c .count-of .result ≤ length (line c)) × (take (c .count-of .result) (line c) ≡ out c)
+says : (c : tie.After-count-of)
+    → (c .count-of .result ≡ length (out c)) × (c .count-of .result ≤ length (line c)) × (take (c .count-of .result) (line c) ≡ out c)
 says c =
     let k = took c in
     let s = start c in
     let a = s .args in
     let g = take-says (a .held .now) (a .line .now) (s .pre .0) (s .pre .1) (a .term) (a .text .now) in
-    written-says (k .take .result .printed) (c .count-of .result) (out c) (a .line .now) (line c) (c .count-of .ensures) (k .take .ensures .0 ∙ g .0) (k .take .ensures .1 .1 .1 ∙ g .1) (k .take .kept .1 .1 .1 .0)
+    written-says (k .take .result .printed) (c .count-of .result) (out c) (a .line .now) (line c) (c .count-of .ensures) (k .take .ensures .0 ∙ g .0)
+    (k .take .ensures .1 .1 .1 ∙ g .1) (k .take .kept .1 .1 .1 .0)
 
 returns : tie.Need-returns
 returns c =
@@ -51,5 +53,6 @@ returns c =
 pub write-some-spec : {M : Type 1} → statement M
 write-some-spec =
     tie.close
-    (tie.spec (λ c κs. search needs) (λ c κs. search needs) (λ c. says c .1) (λ c. sym (length-take-le _ _ (says (c .before) .1))) (λ c κs. search needs) (λ c κs. search needs)
+    (tie.spec (λ c κs. search needs) (λ c κs. search needs) (λ c. says c .1) (λ c. sym (length-take-le _ _ (says (c .before) .1))) (λ c κs. search needs)
+    (λ c κs. search needs)
     (λ c. search needs) (λ c. search needs) (λ c. search needs) returns)
