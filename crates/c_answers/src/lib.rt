@@ -24,6 +24,7 @@ pub use codec::resolve;
 pub use codec::targets;
 pub use listed::list_text;
 pub use listed::listing;
+pub use listed::report_text;
 pub use logs::replay;
 pub use logs::replay_block;
 pub use logs::replay_close;

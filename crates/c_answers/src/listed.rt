@@ -1,9 +1,10 @@
-// The listing, answered by replies.
+// The listing and the two programs' texts, answered by replies.
 ghost use mathlib.Core.Path.{_≡_};
 ghost use mathlib.Core.List.{[]};
 ghost use Rattle.views.specs.View.{roomAnswer, roomAfter};
 ghost use Rattle.listing.specs.Walk.{listingAnswer, listingRoom};
 ghost use Rattle.list_text.specs.Output.{outputOf};
+ghost use Rattle.report_text.specs.Report.{reportAnswer, reportRoom};
 ghost use Rattle.c_answers.specs.Reply.{replyOf, countValues};
 ghost use Rattle.c_answers.specs.Listing.{choiceOf};
 use crate::reply::Reply;
@@ -34,4 +35,12 @@ pub fn list_text(text: &[u8], room: &mut [u8]) -> Reply
     ensures { λ _. ⌜ now (room .exit) ≡ roomAfter [] (outputOf (now (text .entry))) (now (room .entry)) ⌝ }
 {
     view_replies::viewed(list_text::list_text(text, room))
+}
+
+// Accepted: the number of bytes written, those of `R` lines among them.
+pub fn report_text(text: &[u8], room: &mut [u8]) -> Reply
+    ensures { λ r. ⌜ r ≡ replyOf countValues (reportAnswer (now (text .entry)) (now (room .entry))) ⌝ }
+    ensures { λ _. ⌜ now (room .exit) ≡ reportRoom (now (text .entry)) (now (room .entry)) ⌝ }
+{
+    view_replies::viewed(report_text::report_text(text, room))
 }

@@ -16,6 +16,7 @@ pub use codec::pw_targets;
 pub use listed::pw_list_text;
 pub use listed::pw_listing;
 pub use listed::pw_read_back;
+pub use listed::pw_report_text;
 pub use logs::pw_replay;
 pub use logs::pw_replay_block;
 pub use logs::pw_replay_close;

@@ -1,10 +1,11 @@
-// The exported calls of the listing, and of one read back.
+// The exported calls of the listing, of the two programs' texts, and of a listing read back.
 ghost use mathlib.Core.Path.{_≡_};
 ghost use mathlib.Core.List.{[]};
 ghost use Rattle.views.specs.View.{roomAnswer, roomAfter};
 ghost use Rattle.listing.specs.Walk.{listingAnswer, listingRoom};
 ghost use Rattle.read_back.specs.Back.{backAnswer, backImage, backMarks};
 ghost use Rattle.list_text.specs.Output.{outputOf};
+ghost use Rattle.report_text.specs.Report.{reportAnswer, reportRoom};
 ghost use Rattle.c_answers.specs.Modes.{modeOf};
 ghost use Rattle.c_answers.specs.Reply.{refusalNumber, valuesOf, countValues};
 ghost use Rattle.c_answers.specs.Listing.{choiceOf};
@@ -36,6 +37,16 @@ pub extern "C" fn pw_list_text(text: &[u8], room: &mut [u8], answer: &mut [i64; 
     ensures { λ _. ⌜ now (room .exit) ≡ roomAfter [] (outputOf (now (text .entry))) (now (room .entry)) ⌝ }
 {
     c_answers::list_text(text, room).give(answer)
+}
+
+// Accepted: the number of bytes written, those of `R` lines among them.
+#[no_mangle]
+pub extern "C" fn pw_report_text(text: &[u8], room: &mut [u8], answer: &mut [i64; 5]) -> u32
+    ensures { λ r. ⌜ r ≡ refusalNumber (reportAnswer (now (text .entry)) (now (room .entry))) ⌝ }
+    ensures { λ _. ⌜ now (answer .exit) ≡ valuesOf countValues (reportAnswer (now (text .entry)) (now (room .entry))) ⌝ }
+    ensures { λ _. ⌜ now (room .exit) ≡ reportRoom (now (text .entry)) (now (room .entry)) ⌝ }
+{
+    c_answers::report_text(text, room).give(answer)
 }
 
 // Accepted: the number of lines read.
