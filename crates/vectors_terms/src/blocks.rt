@@ -56,7 +56,13 @@ fn feed(
         let after = taken.term;
         term = after;
         to = put(printed, line, to, room);
-        if used == 0 || block.len() - at < used {
+        if used == 0 {
+            return Fed {
+                term,
+                to: room.len(),
+            };
+        }
+        if block.len() - at < used {
             return Fed {
                 term,
                 to: room.len(),

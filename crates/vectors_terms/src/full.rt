@@ -1,18 +1,22 @@
 // Sums that are nearly full, which no text reaches. For each of the eight: where the image just fits, its line and the sums are printed; with
 // one more, 22 alone, whatever follows.
+ghost use Prim.Native.Nat.{_≤_};
 use crate::blocks;
 use crate::judge;
 use crate::line;
+use crate::replay;
 use crate::replay::Tally;
 use crate::rooms;
 use report_text::Sums;
 use report_text::Term;
 
-// How many sums there are. The last is that of the refused images.
-const ALL: usize = 8;
+// How many sums there are, and the last of them, that of the refused images.
+const ALL: u8 = 8;
+
+const LAST: u8 = 7;
 
 // The sums are 0 but for one.
-fn begun(at: usize, n: u64) -> Term {
+fn begun(at: u8, n: u64) -> Term {
     let mut sums = Sums::new();
     match at {
         0 => sums.length = n,
@@ -32,9 +36,16 @@ fn begun(at: usize, n: u64) -> Term {
     }
 }
 
-// What an image adds to a sum, from its `T` line alone, in which each field has one digit.
-fn added(total: &[u8], at: usize) -> u64 {
-    let i = 2 * at + 2;
+// Where a sum stands in a `T` line in which each field has one digit.
+fn place(at: u8) -> usize
+    ensures { λ r. ⌜ r ≤ 512 ⌝ }
+{
+    2 * at as usize + 2
+}
+
+// What an image adds to a sum, from such a line that has this image alone.
+fn added(total: &[u8], at: u8) -> u64 {
+    let i = place(at);
     if total.len() <= i {
         return 0;
     }
@@ -42,10 +53,13 @@ fn added(total: &[u8], at: usize) -> u64 {
 }
 
 // Whether it is that line, but with the highest number in one field.
-fn is_full(last: &[u8], total: &[u8], at: usize) -> bool {
-    let from = 2 * at + 2;
+fn is_full(last: &[u8], total: &[u8], at: u8) -> bool {
+    let from = place(at);
     let n = last.len();
-    if n != total.len() + 19 {
+    if n < 19 {
+        return false;
+    }
+    if n - 19 != total.len() {
         return false;
     }
     if !judge::begins(last, judge::part(total, 0, from)) {
@@ -58,13 +72,13 @@ fn is_full(last: &[u8], total: &[u8], at: usize) -> bool {
     judge::begins(judge::part(last, from + 20, n), rest)
 }
 
-fn is_reported(at: usize, text: &[u8], told: &[u8], total: &[u8], room: &mut [u8]) -> bool {
+fn is_reported(at: u8, text: &[u8], told: &[u8], total: &[u8], room: &mut [u8]) -> bool {
     let most = u64::MAX - added(total, at);
     let n = blocks::report(begun(at, most), 7, text, room);
     judge::begins(room, told) && is_full(judge::part(room, told.len(), n), total, at)
 }
 
-fn is_refused(at: usize, text: &[u8], total: &[u8], room: &mut [u8]) -> bool {
+fn is_refused(at: u8, text: &[u8], total: &[u8], room: &mut [u8]) -> bool {
     let k = added(total, at);
     if k == 0 {
         return false;
@@ -75,7 +89,7 @@ fn is_refused(at: usize, text: &[u8], total: &[u8], room: &mut [u8]) -> bool {
 }
 
 // The image ends its text, or another follows.
-fn holds(at: usize, text: &[u8], followed: &[u8], told: &[u8], total: &[u8]) -> bool {
+fn holds(at: u8, text: &[u8], followed: &[u8], told: &[u8], total: &[u8]) -> bool {
     let mut room = rooms::printed();
     if !is_reported(at, text, told, total, &mut room) {
         return false;
@@ -87,8 +101,8 @@ fn holds(at: usize, text: &[u8], followed: &[u8], told: &[u8], total: &[u8]) -> 
 }
 
 // An image that adds to each of the other sums, and one that is refused.
-fn is_held(at: usize) -> bool {
-    if at + 1 < ALL {
+fn is_held(at: u8) -> bool {
+    if at < LAST {
         return holds(
             at,
             b"N\ta\n0000\t0001\n0100A0FF\n",
@@ -108,9 +122,9 @@ fn is_held(at: usize) -> bool {
 
 pub fn replay() -> Tally {
     let mut held: u64 = 0;
-    let mut at: usize = 0;
+    let mut at: u8 = 0;
     while at < ALL {
-        held += is_held(at) as u64;
+        held += replay::one(is_held(at));
         at += 1;
     }
     Tally {

@@ -4,6 +4,7 @@ use crate::blocks;
 use crate::call;
 use crate::case;
 use crate::case::Case;
+use crate::replay;
 use crate::sum;
 use report_text::Term;
 
@@ -84,8 +85,5 @@ pub fn held(c: Case, letter: u8, need: usize, given: &[u8], room: &mut [u8]) -> 
     if case::ended(letter) == 0 {
         return 0;
     }
-    if holds(c, need, given, room) {
-        return 1;
-    }
-    0
+    replay::one(holds(c, need, given, room))
 }

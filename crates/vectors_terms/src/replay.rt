@@ -1,4 +1,5 @@
 // All lines of the list, one after the other.
+ghost use Prim.Native.Nat.{_≤_};
 use crate::case;
 use crate::case::Case;
 use crate::judge;
@@ -7,6 +8,16 @@ use crate::line;
 pub struct Tally {
     pub held: u64,
     pub all: u64,
+}
+
+// How many hold of one.
+pub fn one(holds: bool) -> u64
+    ensures { λ r. ⌜ r ≤ 1 ⌝ }
+{
+    if holds {
+        return 1;
+    }
+    0
 }
 
 // How many cases hold, and how many there are.
