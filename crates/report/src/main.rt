@@ -41,7 +41,8 @@ fn feed(before: Term, block: &[u8], held: &mut [u8], out: &mut [u8]) -> Term
         let taken = term::take(term, &block[at..], held, out);
         let viewed = taken.printed;
         show(viewed, out);
-        term = taken.term;
+        let after = taken.term;
+        term = after;
         at += taken.used;
     }
     term
