@@ -1,16 +1,18 @@
--- The lengths that the views' answers carry are those of lent slices and of what is shown: each fits a value of a reply.
+-- The lengths that the answers of the views and of the report carry are those of lent slices and of what is shown: each fits a value of a reply.
 -- Assumes nothing.
 use mathlib.Core.Path.{_≡_, refl, sym, _∙_}
 use mathlib.Core.List.{List, [], _∷_, _++_}
 use mathlib.Core.Logic.{⊎-elim}
-use Prim.Native.Nat.{ℕ, _+_, _<_, _≤_, _^_}
+use Prim.Native.Nat.{ℕ, _+_, _<_, _≤_, _^_, min}
 use native.Mathlib.Omega.{arith}
+use borrow.Author.Tests.{ltb-false}
 use lib.Dec.{ltb}
 use lib.IntN.{pos}
 use lib.ListN.{length}
 use Rattle.instruction.specs.Bytes.{Bytes}
 use Rattle.instruction.specs.declared.mode.Mode.{Mode}
 use Rattle.instruction.specs.Answer.{Refusal, refuse}
+use Rattle.instruction.proofs.Accepting.{passed}
 use Rattle.instruction.proofs.Judging.{accepts}
 use Rattle.instruction.proofs.Carried.{Each, each-append, carries}
 use Rattle.reach.proofs.Cases.{lt-or-le}
@@ -23,6 +25,7 @@ use Rattle.listing.specs.Walk.{listingOf}
 use Rattle.listing.specs.declared.tabbed.Arrivals.{Arrivals}
 use Rattle.listing.specs.declared.tabbed.Arrivals.the-variants.{Chosen, Declined}
 use Rattle.listing_laws.proofs.ClaimsRoomBound.{listing-bound, chosen-bound}
+use Rattle.report_text.specs.Report.{highest, reportOf, reportAnswer}
 use Rattle.c_answers.proofs.Fitting.{Fits, this, six}
 use Rattle.c_answers.specs.ViewCounts.{lengthInViewed}
 
@@ -57,3 +60,26 @@ module _ (image m : List ℕ) (i : length image < 2 ^ 63) (k : length m < 2 ^ 63
 pub listing-small : (mode : Mode) (image m : List ℕ) → Bytes image → length image ≤ 65536 → (choice : Arrivals) → length (listingOf mode image m choice) < 2 ^ 63
 listing-small mode image m B h Chosen = omega (arith, h, chosen-bound mode image m B)
 listing-small mode image m B h Declined = omega (arith, h, listing-bound mode image m B)
+
+-- of a report: what is written or needed is below 2^63
+module _ (text room : List ℕ) where
+  abbrev all : ℕ
+  all = length (reportOf text)
+
+  abbrev tooShort : Refusal
+  tooShort = refuse (ltb (min (length room) highest) all) 11 (pos (min all highest) ∷ [])
+
+  report-each : Each Fits (tooShort ∷ [])
+  report-each = (this 11 (omega arith), tt)
+
+  pub report-small : (v : Viewed) → viewedOf v ≡ reportAnswer text room → lengthInViewed v < 2 ^ 63
+  unfolding reportAnswer
+  report-small (Written n) e =
+      let g = accepts _ _ n (sym e) in
+      let p = passed tooShort [] all (sym e) in
+      let h = ltb-false (min (length room) highest) all (p .0) in
+      omega (arith, g, h)
+  report-small (LongImage n) e = carries Fits _ all 1 (pos n ∷ []) report-each e refl n refl
+  report-small (ShortMarks n) e = carries Fits _ all 2 (pos n ∷ []) report-each e refl n refl
+  report-small (Damaged p) e = omega arith
+  report-small (NoRoom n) e = carries Fits _ all 11 (pos n ∷ []) report-each e refl n refl

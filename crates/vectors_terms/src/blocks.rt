@@ -37,7 +37,26 @@ fn put(printed: Viewed, line: &[u8], at: usize, room: &mut [u8]) -> usize {
     copy(&line[0..n], at, room)
 }
 
-// As many calls as a block needs. One that takes nothing, or more than there is, fills the room.
+// The place that is so many bytes on, or the end: where it is past that, and where it is none.
+fn next_place(at: usize, n: usize, end: usize) -> usize
+    requires { ⌜ at < end ⌝ }
+    ensures { λ r. ⌜ (at < r) × (r ≤ end) ⌝ }
+{
+    if n == 0 {
+        return end;
+    }
+    if end - at < n {
+        return end;
+    }
+    at + n
+}
+
+// Whether a call took something, and no more than there is.
+fn is_taken(used: usize, left: usize) -> bool {
+    0 < used && used <= left
+}
+
+// As many calls as a block needs. One that takes nothing, or more than there is, fills the room too.
 fn feed(
     before: Term,
     block: &[u8],
@@ -56,35 +75,12 @@ fn feed(
         let after = taken.term;
         term = after;
         to = put(printed, line, to, room);
-        if used == 0 {
-            return Fed {
-                term,
-                to: room.len(),
-            };
+        if !is_taken(used, block.len() - at) {
+            to = room.len();
         }
-        if block.len() - at < used {
-            return Fed {
-                term,
-                to: room.len(),
-            };
-        }
-        at += used;
+        at = next_place(at, used, block.len());
     }
     Fed { term, to }
-}
-
-// Where a block ends that begins before the end of the text.
-fn block_end(at: usize, size: usize, end: usize) -> usize
-    requires { ⌜ at < end ⌝ }
-    ensures { λ r. ⌜ (at < r) × (r ≤ end) ⌝ }
-{
-    if size == 0 {
-        return end;
-    }
-    if end - at < size {
-        return end;
-    }
-    at + size
 }
 
 fn feed_all(
@@ -99,7 +95,7 @@ fn feed_all(
     let mut to: usize = 0;
     let mut at: usize = 0;
     while at < text.len() {
-        let end = block_end(at, size, text.len());
+        let end = next_place(at, size, text.len());
         let fed = feed(term, &text[at..end], held, line, to, room);
         let after = fed.term;
         term = after;

@@ -47,8 +47,8 @@ goes w =
     let n = left b (l .at) in
     let p = l .inv in
     let u =
-        took (l .term) (take (length b - l .at) (drop (l .at) b)) (l .held) (l .out) (omega (arith, p .1, s .pre .0))
-        (omega (arith, p .2, s .pre .1)) (omega (arith, n, i)) in
+    took (l .term) (take (length b - l .at) (drop (l .at) b)) (l .held) (l .out) (omega (arith, p .1, s .pre .0))
+    (omega (arith, p .2, s .pre .1)) (omega (arith, n, i)) in
     let e = w .take .ensures .1 .0 in
     (omega (arith, e, u .0), omega (arith, e, u .1, n, i))
 
