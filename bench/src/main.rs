@@ -12,6 +12,7 @@ mod logs;
 #[allow(dead_code)]
 mod ours;
 mod plain;
+mod programs;
 mod report;
 mod rows;
 mod terms;
@@ -25,6 +26,12 @@ use std::process::ExitCode;
 const LENGTHS: [(usize, usize); 3] = [(4_096, 128), (16_384, 64), (65_536, 32)];
 
 fn main() -> ExitCode {
+    if std::env::args().nth(1).as_deref() == Some(programs::PLAIN) {
+        return match programs::plain() {
+            Ok(()) => ExitCode::SUCCESS,
+            Err(_) => ExitCode::FAILURE,
+        };
+    }
     let seed: u64 = match std::env::args().nth(1).map(|word| word.parse()) {
         None => 1,
         Some(Ok(seed)) => seed,

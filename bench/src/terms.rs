@@ -4,6 +4,7 @@ use crate::clock::{self, Sides};
 use crate::games;
 use crate::ours;
 use crate::plain::report::Reporter;
+use crate::programs;
 use crate::report;
 use compare::answer::Answer;
 use compare::paper;
@@ -36,9 +37,9 @@ pub fn measure(random: &mut Random) -> Result<(), &'static str> {
         LENGTH / 1024
     );
     report::head(&format!("nanoseconds for an image of a term, {about}"));
-    let times = clock::measure(&[&[text]], sides())[0];
+    let times = clock::measure(&[std::slice::from_ref(&text)], sides())[0];
     report::line("report", report::per(times, IMAGES));
-    Ok(())
+    programs::measure(&text, IMAGES)
 }
 
 /// As the report reads it.
