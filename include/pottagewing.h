@@ -65,7 +65,7 @@
  * for the longest image on the stack, however short the image. A thread that
  * calls pw_listing, with arrivals or without, needs a stack of 1 MiB, of which
  * it holds some 900 KiB; one that calls pw_list_text or pw_read_back needs 256
- * KiB, one that calls pw_report_text W14-FIGURE(stack) KiB. pw_replay and
+ * KiB, one that calls pw_report_text 192 KiB. pw_replay and
  * pw_replay_block hold a table of the entries, and need 16 KiB. With too small a
  * stack the program is ended by a fault, and there is no refusal. All other
  * calls need less than 1 KiB. No call allocates memory.
