@@ -25,6 +25,7 @@ const narrow = matchMedia("(max-width: 30rem)");
 let columns = 16;
 let mapBlocks = null;
 let listingBlocks = null;
+let printing = false;
 // What is shown: a byte, the stretch of bytes marked with it, and the lines; and the line that Tab comes to.
 let place = 0;
 let stretch = [0, 0];
@@ -422,16 +423,32 @@ function offerMnemonics() {
   }));
 }
 
+function columnsWanted() {
+  return (narrow.matches ? 8 : 16) * (byId("small").checked ? 4 : 1);
+}
+
+// Not on paper, which is another width for a while and takes the map as it is.
+function widthChanged() {
+  if (!printing && columns !== columnsWanted()) {
+    drawMap();
+  }
+}
+
 function drawMap() {
-  columns = narrow.matches ? 8 : 16;
+  const hadFocus = map.contains(document.activeElement);
+  columns = columnsWanted();
+  map.classList.toggle("small", byId("small").checked);
   map.style.setProperty("--columns", columns);
   map.setAttribute("aria-rowcount", Math.ceil(length / columns));
   mapBlocks?.end();
   mapBlocks = blocksOf(map, Math.ceil(length / columns), ROWS_IN_BLOCK, makeMapRow);
   if (length === 0) {
     map.textContent = "The image has no bytes.";
-  } else {
-    cellAt(place);
+    return;
+  }
+  bring(map, cellAt(place));
+  if (hadFocus) {
+    cellAt(place).focus({ preventScroll: true });
   }
 }
 
@@ -472,9 +489,14 @@ function listen() {
   });
   byId("previous").addEventListener("click", () => findMnemonic(false));
   byId("mnemonic").addEventListener("focus", offerMnemonics, { once: true });
-  narrow.addEventListener("change", drawMap);
+  narrow.addEventListener("change", widthChanged);
+  byId("small").addEventListener("change", drawMap);
   addEventListener("hashchange", goToHash);
+  addEventListener("afterprint", () => {
+    printing = false;
+  });
   addEventListener("beforeprint", () => {
+    printing = true;
     mapBlocks.makeAll();
     listingBlocks.makeAll();
   });
