@@ -119,47 +119,57 @@ function linesAt(p) {
 }
 
 // Rows in blocks, each made when it comes near the part in view, or a row of it is asked for.
-function blocksOf(holder, rows, rowsInBlock, makeRow) {
-  const watcher = new IntersectionObserver((seen) => {
-    seen.filter((one) => one.isIntersecting).forEach((one) => make(one.target));
-  }, { root: holder, rootMargin: "600px 0px" });
-  const all = document.createDocumentFragment();
-  for (let from = 0; from < rows; from += rowsInBlock) {
-    const block = document.createElement("div");
-    block.className = "block";
-    block.setAttribute("role", "rowgroup");
-    block.style.setProperty("--rows", Math.min(rowsInBlock, rows - from));
-    block.dataset.from = from;
-    all.append(block);
+class Blocks {
+  constructor(holder, rows, rowsInBlock, makeRow) {
+    Object.assign(this, { rows, rowsInBlock, makeRow });
+    this.watcher = new IntersectionObserver((seen) => {
+      seen.filter((one) => one.isIntersecting).forEach((one) => this.make(one.target));
+    }, { root: holder, rootMargin: "600px 0px" });
+    this.blocks = Array.from({ length: Math.ceil(rows / rowsInBlock) }, (_, number) => {
+      const block = document.createElement("div");
+      block.className = "block";
+      block.setAttribute("role", "rowgroup");
+      block.style.setProperty("--rows", Math.min(rowsInBlock, rows - number * rowsInBlock));
+      block.dataset.from = number * rowsInBlock;
+      return block;
+    });
+    const all = document.createDocumentFragment();
+    this.blocks.forEach((block) => all.append(block));
+    holder.replaceChildren(all);
+    this.blocks.forEach((block) => this.watcher.observe(block));
   }
-  holder.replaceChildren(all);
-  const blocks = Array.from(holder.children);
-  blocks.forEach((block) => watcher.observe(block));
-  function make(block) {
+
+  make(block) {
     if (block.classList.contains("made")) {
       return;
     }
-    watcher.unobserve(block);
+    this.watcher.unobserve(block);
     const from = Number(block.dataset.from);
     const made = document.createDocumentFragment();
-    for (let row = from; row < Math.min(from + rowsInBlock, rows); row++) {
-      made.append(makeRow(row));
+    for (let row = from; row < Math.min(from + this.rowsInBlock, this.rows); row++) {
+      made.append(this.makeRow(row));
     }
     block.append(made);
     block.classList.add("made");
   }
-  function rowAt(row) {
-    const block = blocks[Math.floor(row / rowsInBlock)];
-    make(block);
-    return block.children[row % rowsInBlock];
+
+  makeAll() {
+    this.blocks.forEach((block) => this.make(block));
   }
-  return {
-    rowAt,
-    // The row, if its block is made already.
-    rowMade: (row) => blocks[Math.floor(row / rowsInBlock)].children[row % rowsInBlock],
-    makeAll: () => blocks.forEach(make),
-    end: () => watcher.disconnect(),
-  };
+
+  rowAt(row) {
+    this.make(this.blocks[Math.floor(row / this.rowsInBlock)]);
+    return this.rowMade(row);
+  }
+
+  // The row, if its block is made.
+  rowMade(row) {
+    return this.blocks[Math.floor(row / this.rowsInBlock)].children[row % this.rowsInBlock];
+  }
+
+  end() {
+    this.watcher.disconnect();
+  }
 }
 
 function makeCell(p) {
@@ -441,7 +451,7 @@ function drawMap() {
   map.style.setProperty("--columns", columns);
   map.setAttribute("aria-rowcount", Math.ceil(length / columns));
   mapBlocks?.end();
-  mapBlocks = blocksOf(map, Math.ceil(length / columns), ROWS_IN_BLOCK, makeMapRow);
+  mapBlocks = new Blocks(map, Math.ceil(length / columns), ROWS_IN_BLOCK, makeMapRow);
   if (length === 0) {
     map.textContent = "The image has no bytes.";
     return;
@@ -454,7 +464,7 @@ function drawMap() {
 
 function drawListing() {
   listing.setAttribute("aria-rowcount", lines.length);
-  listingBlocks = blocksOf(listing, lines.length, LINES_IN_BLOCK, makeLine);
+  listingBlocks = new Blocks(listing, lines.length, LINES_IN_BLOCK, makeLine);
   if (lines.length === 0) {
     listing.textContent = "The listing has no lines.";
   } else {
@@ -462,7 +472,7 @@ function drawListing() {
   }
 }
 
-function listen() {
+function listenToPanes() {
   map.addEventListener("click", (event) => {
     const cell = event.target.closest(".byte");
     if (cell) {
@@ -482,6 +492,9 @@ function listen() {
   });
   map.addEventListener("keydown", (event) => event.target.closest(".byte") && !event.altKey && !event.metaKey && moveInMap(event));
   listing.addEventListener("keydown", (event) => event.target.closest(".line") && !event.altKey && !event.metaKey && moveInListing(event));
+}
+
+function listenToRest() {
   byId("by-position").addEventListener("submit", findPosition);
   byId("by-mnemonic").addEventListener("submit", (event) => {
     event.preventDefault();
@@ -506,7 +519,8 @@ readLines();
 count();
 drawMap();
 drawListing();
-listen();
+listenToPanes();
+listenToRest();
 goToHash();
 requestAnimationFrame(() => setTimeout(() => performance.mark("ready")));
 })();
