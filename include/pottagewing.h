@@ -1,11 +1,28 @@
 /* Pottagewing: the instructions of the LC86K, tracing through them, and the
- * listing of what was traced, for C.
+ * listing of what was traced, for C and C++.
+ *
+ * In part a port of wtetzner/waterbear, changed. Licence: Apache-2.0; NOTICE
+ * has it whole, and says what was ported.
+ *
+ * Platform: x86-64, ELF and the System V calling convention, as on Linux. The
+ * code is independent of its place, and needs memcpy and memset of the C
+ * library. To link it:
+ *
+ *     cc -I include game.c target/staticlib/libpottagewing.a -o game
+ *
+ * and once tools/install has put it under a prefix:
+ *
+ *     cc game.c $(pkg-config --cflags --libs pottagewing) -o game
+ *
+ * Threads: no call keeps state, and none reads or writes anything but what it
+ * is lent. So all may be called from any number of threads at once, as long as
+ * what is lent to one call for writing is lent to no other at the same time.
  *
  * Every call but pw_version and pw_replay_open answers a number: 0 where it did
  * what was asked, otherwise the number of the refusal. The values that belong
  * to it stand in answer[0] to answer[4]; those that are not used are 0.
- * `answer` is the answer's own room of five numbers: every call that has it
- * writes all five, also where it refuses, and none reads them.
+ * `answer` is the answer's own room of PW_VALUES numbers: every call that has
+ * it writes all five, also where it refuses, and none reads them.
  *
  * Bytes, and lists of numbers, are lent as a pointer and then how many there
  * are. Every buffer must be at least as long as said, must stay unchanged by
@@ -66,9 +83,15 @@
  * calls pw_listing, with arrivals or without, needs a stack of 1 MiB, of which
  * it holds some 900 KiB; one that calls pw_list_text or pw_read_back needs 256
  * KiB, one that calls pw_report_text 192 KiB. pw_replay and
- * pw_replay_block hold a table of the entries, and need 16 KiB. With too small a
- * stack the program is ended by a fault, and there is no refusal. All other
+ * pw_replay_block hold a table of the entries, and need 16 KiB. With too small
+ * a stack the program is ended by a fault, and there is no refusal. All other
  * calls need less than 1 KiB. No call allocates memory.
+ *
+ * Rooms: where a call refuses with 11 its rooms stay as they were, and
+ * answer[0] is how much is needed. So a room of 0 asks how much that is; where
+ * nothing is needed, 0 is enough, and the call answers 0. Marks and order lists
+ * are none of these rooms: 2 and 3 say how long they are, and needed is the
+ * image's length. Each call with a room says what asking tells.
  *
  * The numbers have names, below. The comments of the calls name refusals by
  * their numbers, in the order in which they are judged.
@@ -82,6 +105,9 @@
 /* The version of what is declared here: it changes when a call does, or when
  * calls are added. What is linked answers its own by pw_version. */
 #define PW_VERSION 5
+
+/* The values of an answer. */
+#define PW_VALUES 5
 
 /* The number that a call answers: 0, or that of a refusal, here with its values
  * in answer[0] to answer[2]. 13 and 22 are answered by none: pw_list_text
@@ -170,8 +196,18 @@
 #define PW_MOST_OVERLAPS 3
 #define PW_WORD_BITS 64
 
-/* The numbers of a record that pw_replay_open makes. */
+/* The numbers of a record that pw_replay_open makes, and which is which: the
+ * lines, the interrupts and the free moves so far, the position of the last
+ * line, the refusal or PW_DONE, how many bytes of a line that has only begun
+ * are held, and those bytes, the first lowest. */
 #define PW_REPLAY_WORDS 7
+#define PW_REPLAY_LINES 0
+#define PW_REPLAY_INTERRUPTS 1
+#define PW_REPLAY_FREE 2
+#define PW_REPLAY_LAST 3
+#define PW_REPLAY_REFUSAL 4
+#define PW_REPLAY_HELD 5
+#define PW_REPLAY_PART 6
 
 /* Room for every listing, for each byte of the image: without `A` lines, and
  * with them. */
@@ -188,6 +224,28 @@
 /* The longest name of an image in a term. */
 #define PW_LONGEST_NAME 32
 
+/* The forms, in answer[0] of pw_decode and pw_resolve: the mnemonic, and where
+ * it has several forms, what the operand that tells them apart is: I8 an
+ * immediate, D9 a direct address, RI and RJ a register. */
+#define PW_FORMS 70
+enum pw_form {
+    PW_FORM_ADD_I8, PW_FORM_ADD_D9, PW_FORM_ADD_RI, PW_FORM_ADDC_I8,
+    PW_FORM_ADDC_D9, PW_FORM_ADDC_RI, PW_FORM_SUB_I8, PW_FORM_SUB_D9,
+    PW_FORM_SUB_RI, PW_FORM_SUBC_I8, PW_FORM_SUBC_D9, PW_FORM_SUBC_RI,
+    PW_FORM_INC_D9, PW_FORM_INC_RI, PW_FORM_DEC_D9, PW_FORM_DEC_RI, PW_FORM_MUL,
+    PW_FORM_DIV, PW_FORM_AND_I8, PW_FORM_AND_D9, PW_FORM_AND_RI, PW_FORM_OR_I8,
+    PW_FORM_OR_D9, PW_FORM_OR_RI, PW_FORM_XOR_I8, PW_FORM_XOR_D9,
+    PW_FORM_XOR_RI, PW_FORM_ROL, PW_FORM_ROLC, PW_FORM_ROR, PW_FORM_RORC,
+    PW_FORM_LD_D9, PW_FORM_LD_RI, PW_FORM_ST_D9, PW_FORM_ST_RI, PW_FORM_MOV_D9,
+    PW_FORM_MOV_RJ, PW_FORM_LDC, PW_FORM_PUSH, PW_FORM_POP, PW_FORM_XCH_D9,
+    PW_FORM_XCH_RI, PW_FORM_JMP, PW_FORM_JMPF, PW_FORM_BR, PW_FORM_BRF,
+    PW_FORM_BZ, PW_FORM_BNZ, PW_FORM_BP, PW_FORM_BPC, PW_FORM_BN,
+    PW_FORM_DBNZ_D9, PW_FORM_DBNZ_RI, PW_FORM_BE_I8, PW_FORM_BE_D9,
+    PW_FORM_BE_RJ, PW_FORM_BNE_I8, PW_FORM_BNE_D9, PW_FORM_BNE_RJ, PW_FORM_CALL,
+    PW_FORM_CALLF, PW_FORM_CALLR, PW_FORM_RET, PW_FORM_RETI, PW_FORM_CLR1,
+    PW_FORM_SET1, PW_FORM_NOT1, PW_FORM_NOP, PW_FORM_LDF, PW_FORM_STF
+};
+
 #ifdef __cplusplus
 extern "C" {
 #endif
@@ -198,21 +256,22 @@ extern "C" {
 uint32_t pw_version(void);
 
 /* The instruction at the beginning of n bytes.
- * 0: form (0 to 69, in the order of the enum), size in bytes, and the three
- *    operands, 0 where there is none. Bytes after the instruction are ignored.
+ * 0: form, an enum pw_form, size in bytes, 1 to 3, and the three operands, 0
+ *    where there is none. Bytes after the instruction are ignored.
  * 12 where n is 0; 5 with position 0, the first byte and how many are missing.
  */
-uint32_t pw_decode(const uint8_t *bytes, size_t n, int64_t answer[5]);
+uint32_t pw_decode(const uint8_t *bytes, size_t n, int64_t answer[PW_VALUES]);
 
 /* The bytes of an instruction, written to the beginning of out, which has room
  * for n. Operands are fields: short offsets -128 to 127, `jmp` and `call` 0 to
  * 4,095, sixteen-bit fields 0 to 65,535, immediates 0 to 255, direct addresses
  * 0 to 511, bit numbers 0 to 7, registers 0 to 3.
  * 0: the number of bytes written; the rest of out stays as it was.
- * 7, then 11: out stays as it was.
+ * 7, then 11 with the instruction's size: out stays as it was. So a room of 0
+ * asks for the size, 1 to 3.
  */
 uint32_t pw_encode(uint8_t first, int32_t a, int32_t b, int32_t c,
-                   uint8_t *out, size_t n, int64_t answer[5]);
+                   uint8_t *out, size_t n, int64_t answer[PW_VALUES]);
 
 /* The fields of an instruction whose operands are plain numbers: addresses for
  * jumps, calls and branches. base is the address after the instruction. The
@@ -225,7 +284,7 @@ uint32_t pw_encode(uint8_t first, int32_t a, int32_t b, int32_t c,
  * 8, 9, 10. An address is wrapped in neither mode.
  */
 uint32_t pw_resolve(uint32_t mode, uint8_t first, int32_t a, int32_t b,
-                    int32_t c, uint32_t base, int64_t answer[5]);
+                    int32_t c, uint32_t base, int64_t answer[PW_VALUES]);
 
 /* The positions to which control may go from an instruction at a position.
  * Operands are fields, as pw_encode takes them.
@@ -237,7 +296,7 @@ uint32_t pw_resolve(uint32_t mode, uint8_t first, int32_t a, int32_t b,
  * 14 with the position after the instruction, unwrapped in both modes; then 7.
  */
 uint32_t pw_targets(uint32_t mode, uint32_t position, uint8_t first, int32_t a,
-                    int32_t b, int32_t c, int64_t answer[5]);
+                    int32_t b, int32_t c, int64_t answer[PW_VALUES]);
 
 /* Clears the marks of the image, sets 4 at the pins inside it and 1 at the
  * entries inside it that are not pinned. Repeated entries count once; pins may
@@ -249,7 +308,7 @@ uint32_t pw_start(const uint8_t *image, size_t image_length,
                   uint8_t *marks, size_t marks_length,
                   const uint32_t *entries, size_t entries_length,
                   const uint32_t *pins, size_t pins_length,
-                  int64_t answer[5]);
+                  int64_t answer[PW_VALUES]);
 
 /* Takes up one waiting position: its mark becomes 2 or 3, and each of its
  * targets inside the image that was untouched becomes waiting.
@@ -260,7 +319,7 @@ uint32_t pw_start(const uint8_t *image, size_t image_length,
  */
 uint32_t pw_step(uint32_t mode, const uint8_t *image, size_t image_length,
                  uint8_t *marks, size_t marks_length,
-                 uint32_t position, int64_t answer[5]);
+                 uint32_t position, int64_t answer[PW_VALUES]);
 
 /* Starts afresh, as pw_start does, and takes positions up first come, first
  * served, for at most `limit` steps. The order list gets each position noted,
@@ -276,12 +335,12 @@ uint32_t pw_run(uint32_t mode, const uint8_t *image, size_t image_length,
                 uint32_t *order, size_t order_length,
                 const uint32_t *entries, size_t entries_length,
                 const uint32_t *pins, size_t pins_length,
-                uint32_t limit, int64_t answer[5]);
+                uint32_t limit, int64_t answer[PW_VALUES]);
 
 /* A second tracer, plain enough to be followed on paper. Starts afresh, as
- * pw_start does, and sweeps the marks upward: it takes up, as pw_step does, each
- * waiting position that it meets, but for those whose instruction is cut off.
- * What becomes waiting further up is met by the same sweep, what becomes
+ * pw_start does, and sweeps the marks upward: it takes up, as pw_step does,
+ * each waiting position that it meets, but for those whose instruction is cut
+ * off. What becomes waiting further up is met by the same sweep, what becomes
  * waiting behind by the next. It ends with the sweep that takes up none.
  * 0: the number of sweeps, that last one counted, and the number of steps (as
  *    many positions have the mark 2 or 3). A position left waiting is cut off.
@@ -298,49 +357,49 @@ uint32_t pw_sweep(uint32_t mode, const uint8_t *image, size_t image_length,
                   uint8_t *marks, size_t marks_length,
                   const uint32_t *entries, size_t entries_length,
                   const uint32_t *pins, size_t pins_length,
-                  int64_t answer[5]);
+                  int64_t answer[PW_VALUES]);
 
 /* The byte mask: 1 on each byte of a traced instruction, 0 on all others.
  * 0: the number of bytes written, which is the image's length.
- * 1, 2, 6, 11.
+ * 1, 2, 6, 11. A room of 0 asks for that length.
  */
 uint32_t pw_mask(const uint8_t *image, size_t image_length,
                  const uint8_t *marks, size_t marks_length,
-                 uint8_t *mask, size_t mask_length, int64_t answer[5]);
+                 uint8_t *mask, size_t mask_length, int64_t answer[PW_VALUES]);
 
 /* Target marks: 1 at each position that a traced jump, branch or call names, 0
  * at all others. A `jmpf` right after B8 0D names nothing where the first of
  * these two bytes is traced in the marks, whatever its own mark.
  * 0: the number of bytes written, which is the image's length.
- * 1, 2, 6, 11.
+ * 1, 2, 6, 11. A room of 0 asks for that length.
  */
 uint32_t pw_target_marks(uint32_t mode,
                          const uint8_t *image, size_t image_length,
                          const uint8_t *marks, size_t marks_length,
                          uint8_t *room, size_t room_length,
-                         int64_t answer[5]);
+                         int64_t answer[PW_VALUES]);
 
 /* Overlaps at a traced position: the one before it, if that is traced and its
  * instruction has two bytes or three, then the traced ones after it up to the
  * last byte of its instruction. None at any other position.
  * 0: the number of positions written, 0 to 3.
- * 1, 2, 6, 11.
+ * 1, 2, 6, 11. A room of 0 asks how many there are.
  */
 uint32_t pw_overlaps(const uint8_t *image, size_t image_length,
                      const uint8_t *marks, size_t marks_length,
                      uint32_t position, uint32_t *room, size_t room_length,
-                     int64_t answer[5]);
+                     int64_t answer[PW_VALUES]);
 
 /* Arrivals at a position, upward: the traced positions that had it among their
  * targets in this mode when they were taken up, of which those with the mark 3
  * had none. None at a position outside the image.
- * 0: the number of positions written.
- * 1, 2, 6, 11.
+ * 0: the number of positions written, at most the image's length.
+ * 1, 2, 6, 11. A room of 0 asks how many there are.
  */
 uint32_t pw_arrivals(uint32_t mode, const uint8_t *image, size_t image_length,
                      const uint8_t *marks, size_t marks_length,
                      uint32_t position, uint32_t *room, size_t room_length,
-                     int64_t answer[5]);
+                     int64_t answer[PW_VALUES]);
 
 /* The data run at a position: up to 16 bytes of the image from there on, which
  * end before a byte whose mask is not 0. Bytes that the mask does not have
@@ -349,7 +408,7 @@ uint32_t pw_arrivals(uint32_t mode, const uint8_t *image, size_t image_length,
  */
 uint32_t pw_data_run(const uint8_t *image, size_t image_length,
                      const uint8_t *mask, size_t mask_length,
-                     uint32_t position, int64_t answer[5]);
+                     uint32_t position, int64_t answer[PW_VALUES]);
 
 /* The listing, as text: upward by position, fields parted by tabs, each line
  * ended by byte 10. At a traced position: `L` if a traced jump, branch or call
@@ -357,18 +416,20 @@ uint32_t pw_data_run(const uint8_t *image, size_t image_length,
  * bytes, mnemonic and operands, a `?` for a target that is not 0 to 65,535,
  * which no target is in wrapping mode. Bytes that no traced instruction has
  * stand in `D` lines of up to 16, left out where all are 0.
- * arrivals: 0 leaves the `A` lines out, any other number shows them. (The
- * library's own call that takes no choice shows them; here one is always made.)
- * A room of 60 bytes for each byte of the image holds every listing without
- * `A` lines, and one of 77 every listing with them; a shorter one costs a
- * second walk, by which what is needed is known first.
+ * arrivals: PW_ARRIVALS_DECLINED leaves the `A` lines out, any other number
+ * shows them. (The library's own call that takes no choice shows them; here one
+ * is always made.)
+ * A room of PW_LISTING_ROOM bytes for each byte of the image holds every
+ * listing without `A` lines, and one of PW_ARRIVALS_ROOM every listing with
+ * them; a shorter one costs a second walk, by which what is needed is known
+ * first.
  * 0: the number of bytes written. No byte 0 follows them.
- * 1, 2, 6, 11. A room of 0 bytes serves to ask how many are needed.
+ * 1, 2, 6, 11. A room of 0 asks how many bytes there are.
  */
 uint32_t pw_listing(uint32_t mode, const uint8_t *image, size_t image_length,
                     const uint8_t *marks, size_t marks_length,
                     uint32_t arrivals, uint8_t *room, size_t room_length,
-                    int64_t answer[5]);
+                    int64_t answer[PW_VALUES]);
 
 /* What the listing program prints for an input text. Its first line has up to
  * 256 entries, four hex digits each, parted by tabs; each further line has 1 to
@@ -379,10 +440,12 @@ uint32_t pw_listing(uint32_t mode, const uint8_t *image, size_t image_length,
  * instruction is cut off, and then a tab and how many of its bytes are missing,
  * 1 or 2.
  * 0: the number of bytes written, also where they are an `R` line.
- * 11, and no other.
+ * 11, and no other. A room of 0 asks how many bytes there are; one of
+ * PW_PRINTED_ROOM is always enough.
  */
 uint32_t pw_list_text(const uint8_t *text, size_t text_length,
-                      uint8_t *room, size_t room_length, int64_t answer[5]);
+                      uint8_t *room, size_t room_length,
+                      int64_t answer[PW_VALUES]);
 
 /* What the term report prints of a text of images. An image is a line of `N`, a
  * tab and a name of 1 to 32 letters or digits, then the lines that pw_list_text
@@ -395,15 +458,16 @@ uint32_t pw_list_text(const uint8_t *text, size_t text_length,
  * and 13 where one of its lines is not of this kind, or 5 where an instruction
  * is cut off. A bad line is skipped with all up to the next empty line; where
  * it is the `N` line, the name is `-`. A last line has `T`, the six sums over
- * the images that are not refused, how many these are, and how many are refused.
- * Where one of the eight would pass 64 bits, a line of `R` and 22 stands in the
- * place of that image's line, and is the last.
+ * the images that are not refused, how many these are, and how many are
+ * refused. Where one of the eight would pass 64 bits, a line of `R` and 22
+ * stands in the place of that image's line, and is the last.
  * 0: the number of bytes written, also where they are `R` lines. A text of no
  *    bytes has a `T` line of zeros.
- * 11, and no other.
+ * 11, and no other. A room of 0 asks how many bytes there are.
  */
 uint32_t pw_report_text(const uint8_t *text, size_t text_length,
-                        uint8_t *room, size_t room_length, int64_t answer[5]);
+                        uint8_t *room, size_t room_length,
+                        int64_t answer[PW_VALUES]);
 
 /* Reads a listing back: puts the bytes of an image of `length` to the beginning
  * of image, and their marks to the beginning of marks. Where nothing is listed
@@ -418,25 +482,29 @@ uint32_t pw_report_text(const uint8_t *text, size_t text_length,
  * make theirs malformed. The last line may lack its byte 10.
  * 0: the number of lines read.
  * 1 with `length`, 2, 11 with `length`; then the first bad line, 15 before 16.
- * On any of these image and marks stay as they were.
+ * On any of these image and marks stay as they were. A room of 0 for the image
+ * asks for no more than `length`, and the text is not looked at.
  */
 uint32_t pw_read_back(uint32_t mode, const uint8_t *text, size_t text_length,
                       uint32_t length, uint8_t *image, size_t image_length,
-                      uint8_t *marks, size_t marks_length, int64_t answer[5]);
+                      uint8_t *marks, size_t marks_length,
+                      int64_t answer[PW_VALUES]);
 
 /* The packed map, built from the marks into the beginning of words. Bits past
  * the image in the last word needed become 0; further words stay as they were.
  * 0: the number of words written.
- * 1, 2, 6, 11 with the number of words needed: the words stay as they were.
+ * 1, 2, 6, 11 with the number of words needed: the words stay as they were. A
+ * room of 0 asks for that number.
  */
 uint32_t pw_map_build(const uint8_t *image, size_t image_length,
                       const uint8_t *marks, size_t marks_length,
-                      uint64_t *words, size_t words_length, int64_t answer[5]);
+                      uint64_t *words, size_t words_length,
+                      int64_t answer[PW_VALUES]);
 
 /* The three queries take the words and the image's length, and answer by the
  * bits as lent: over words that pw_map_build wrote, and pw_map_update kept up,
  * as the mask would; over other words by what stands there. Bits past the
- * image do not count.
+ * image do not count. To lend 0 words asks how many `length` needs.
  *
  * Whether a position is code.
  * 0: 1 where its bit is 1, otherwise 0.
@@ -444,7 +512,8 @@ uint32_t pw_map_build(const uint8_t *image, size_t image_length,
  * where it is not below `length`.
  */
 uint32_t pw_map_test(const uint64_t *words, size_t words_length,
-                     uint32_t length, uint32_t position, int64_t answer[5]);
+                     uint32_t length, uint32_t position,
+                     int64_t answer[PW_VALUES]);
 
 /* The code bytes of a stretch, from `begin` on and before `end`, which may be
  * `length`.
@@ -454,7 +523,7 @@ uint32_t pw_map_test(const uint64_t *words, size_t words_length,
  */
 uint32_t pw_map_count(const uint64_t *words, size_t words_length,
                       uint32_t length, uint32_t begin, uint32_t end,
-                      int64_t answer[5]);
+                      int64_t answer[PW_VALUES]);
 
 /* The first data byte at a position or after it.
  * 0: its position; `length` where no data byte is left.
@@ -463,19 +532,20 @@ uint32_t pw_map_count(const uint64_t *words, size_t words_length,
  */
 uint32_t pw_map_first_data(const uint64_t *words, size_t words_length,
                            uint32_t length, uint32_t position,
-                           int64_t answer[5]);
+                           int64_t answer[PW_VALUES]);
 
 /* Keeps the map up after a step: sets the bits of the instruction at the
  * position that was taken up, over the marks as the step left them. A map built
  * before the step is then the one that pw_map_build would write.
  * 0: the number of bits set, which is the instruction's size, 1 to 3.
  * 1, 2, 6, 11 with the number of words needed, 17 with the position where it is
- * not inside the image or not traced: the words stay as they were.
+ * not inside the image or not traced: the words stay as they were. A room of 0
+ * asks for that number of words.
  */
 uint32_t pw_map_update(const uint8_t *image, size_t image_length,
                        const uint8_t *marks, size_t marks_length,
                        uint64_t *words, size_t words_length,
-                       uint32_t position, int64_t answer[5]);
+                       uint32_t position, int64_t answer[PW_VALUES]);
 
 /* Replays a whole log, the text. Entries may be repeated; one that is not
  * traced allows nothing. No text is a log of 0 lines.
@@ -484,19 +554,20 @@ uint32_t pw_map_update(const uint8_t *image, size_t image_length,
  * 1, 2, 6, 11 with the image's length where there are fewer counts; then the
  * first bad line, with its number: 18, 19, 20, 21, in this order for a line. A
  * last line without its byte 10 is 18. On any of these the counts stay as they
- * were.
+ * were. A room of 0 counts asks for the image's length.
  */
 uint32_t pw_replay(uint32_t mode, const uint8_t *text, size_t text_length,
                    const uint8_t *image, size_t image_length,
                    const uint8_t *marks, size_t marks_length,
                    const uint32_t *entries, size_t entries_length,
-                   uint64_t *counts, size_t counts_length, int64_t answer[5]);
+                   uint64_t *counts, size_t counts_length,
+                   int64_t answer[PW_VALUES]);
 
 /* A log that arrives in blocks is replayed with a record, PW_REPLAY_WORDS
- * numbers of the caller's, and no more of the log is kept than it holds. What
- * the numbers mean is not told here, and may change. A record is all that one
- * call hands on to the next: it may be copied and moved, and it holds no
- * pointer. Other numbers than a call left there give some answer, and no fault.
+ * numbers of the caller's, and no more of the log is kept than it holds. A
+ * record is all that one call hands on to the next: it may be copied and moved,
+ * and it holds no pointer. What its numbers say may be read; other numbers than
+ * a call left there give some answer, and no fault.
  *
  * Makes a record from which the first block is taken.
  */
@@ -514,7 +585,8 @@ void pw_replay_open(uint64_t record[PW_REPLAY_WORDS]);
  * answered again, and nothing changes. Then 1, 2, 6, 11 with the image's
  * length: they refuse this block alone, nothing changes, the record neither,
  * and the block may be lent again. Then the first bad line, with its number in
- * the log: 18, 19, 20, 21. The record holds that refusal from then on.
+ * the log: 18, 19, 20, 21. The record holds that refusal from then on. A room
+ * of 0 counts asks for the image's length, where no refusal is held.
  */
 uint32_t pw_replay_block(uint32_t mode, uint64_t record[PW_REPLAY_WORDS],
                          const uint8_t *text, size_t text_length,
@@ -522,7 +594,7 @@ uint32_t pw_replay_block(uint32_t mode, uint64_t record[PW_REPLAY_WORDS],
                          const uint8_t *marks, size_t marks_length,
                          const uint32_t *entries, size_t entries_length,
                          uint64_t *counts, size_t counts_length,
-                         int64_t answer[5]);
+                         int64_t answer[PW_VALUES]);
 
 /* What the log came to, after its last block. The record stays as it was, and
  * nothing else is lent.
@@ -531,7 +603,7 @@ uint32_t pw_replay_block(uint32_t mode, uint64_t record[PW_REPLAY_WORDS],
  * where the last line lacks its byte 10.
  */
 uint32_t pw_replay_close(const uint64_t record[PW_REPLAY_WORDS],
-                         int64_t answer[5]);
+                         int64_t answer[PW_VALUES]);
 
 #ifdef __cplusplus
 }
