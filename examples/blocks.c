@@ -21,7 +21,7 @@ static uint8_t marks[LENGTH];
 static uint64_t counts[LENGTH];
 
 /* A call that was refused ends the program: it says the number, and the values that go with it, three at most. */
-static void check(const char *call, uint32_t number, const int64_t answer[5])
+static void check(const char *call, uint32_t number, const int64_t answer[PW_VALUES])
 {
     if (number == PW_DONE)
         return;
@@ -30,7 +30,7 @@ static void check(const char *call, uint32_t number, const int64_t answer[5])
 }
 
 /* Takes the log up to its end. A block ends where it happens to, also within a line: the record holds what has come of that line. */
-static void replay(int64_t answer[5])
+static void replay(int64_t answer[PW_VALUES])
 {
     uint64_t record[PW_REPLAY_WORDS];
     uint8_t block[BLOCK];
@@ -62,7 +62,7 @@ static size_t most(void)
 int main(void)
 {
     uint32_t order[LENGTH];
-    int64_t answer[5];
+    int64_t answer[PW_VALUES];
     uint32_t number;
 
     number = pw_run(MODE, image, LENGTH, marks, LENGTH, order, LENGTH, entries, COUNT_ENTRIES, pins, 0, LENGTH, answer);

@@ -22,7 +22,7 @@ static const char text[] =
     "P\t0000\nP\t0004\n";
 
 /* A call that was refused ends the program: it says the number, and the values that go with it, three at most. */
-static void check(const char *call, uint32_t number, const int64_t answer[5])
+static void check(const char *call, uint32_t number, const int64_t answer[PW_VALUES])
 {
     if (number == PW_DONE)
         return;
@@ -36,7 +36,7 @@ int main(void)
     uint32_t order[LENGTH];
     /* The log is added to what the counts hold. */
     uint64_t counts[LENGTH] = {0};
-    int64_t answer[5];
+    int64_t answer[PW_VALUES];
     uint32_t number;
 
     number = pw_run(MODE, image, LENGTH, marks, LENGTH, order, LENGTH, entries, COUNT_ENTRIES, pins, 0, LENGTH, answer);

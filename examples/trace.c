@@ -15,7 +15,7 @@ static const uint32_t entries[] = {0x0000};
 static const uint32_t pins[1];
 
 /* A call that was refused ends the program: it says the number, and the values that go with it, three at most. */
-static void check(const char *call, uint32_t number, const int64_t answer[5])
+static void check(const char *call, uint32_t number, const int64_t answer[PW_VALUES])
 {
     if (number == PW_DONE)
         return;
@@ -37,7 +37,7 @@ int main(void)
 {
     uint8_t marks[LENGTH];
     uint32_t order[LENGTH];
-    int64_t answer[5];
+    int64_t answer[PW_VALUES];
     uint32_t number;
 
     /* No position is taken up twice, so that the image's length is limit enough for every run to finish. */

@@ -6,7 +6,7 @@
 #include "samples.h"
 
 #define NO_COUNTS LIST(uint64_t, 0, 0, 0, 0, 0, 0, 0, 0)
-#define TEXT(text) lent(text, sizeof(text) - 1), sizeof(text) - 1
+#define TEXT(text) (uint8_t *)lent(text, sizeof(text) - 1), sizeof(text) - 1
 #define LENT SAMPLE, SAMPLE_LENGTH, SAMPLE_MARKS, SAMPLE_LENGTH, SAMPLE_ENTRIES, 2
 
 static uint64_t *opened(void)
@@ -26,8 +26,8 @@ static void cutting(void)
         uint64_t *counts = NO_COUNTS;
         uint64_t *record = opened();
         int64_t lines = (int64_t)(cut / LINE_LENGTH);
-        ANSWERS(PW_DONE, pw_replay_block(mode, record, lent(log, cut), cut, LENT, counts, 8, answer), lines, lines >= 8, lines >= 5);
-        ANSWERS(PW_DONE, pw_replay_block(mode, record, lent(log + cut, length - cut), length - cut, LENT, counts, 8, answer), SAMPLE_LINES);
+        ANSWERS(PW_DONE, pw_replay_block(mode, record, (uint8_t *)lent(log, cut), cut, LENT, counts, 8, answer), lines, lines >= 8, lines >= 5);
+        ANSWERS(PW_DONE, pw_replay_block(mode, record, (uint8_t *)lent(log + cut, length - cut), length - cut, LENT, counts, 8, answer), SAMPLE_LINES);
         ANSWERS(PW_DONE, pw_replay_close(record, answer), SAMPLE_LINES);
         LEFT(counts, uint64_t, SAMPLE_COUNTS);
         give_back();
@@ -43,7 +43,7 @@ static void byte_by_byte(void)
 
     for (size_t at = 0; at < strlen(log); at++) {
         int64_t lines = (int64_t)((at + 1) / LINE_LENGTH);
-        ANSWERS(PW_DONE, pw_replay_block(mode, record, lent(log + at, 1), 1, LENT, counts, 8, answer), lines, lines >= 8, lines >= 5);
+        ANSWERS(PW_DONE, pw_replay_block(mode, record, (uint8_t *)lent(log + at, 1), 1, LENT, counts, 8, answer), lines, lines >= 8, lines >= 5);
         ANSWERS(PW_DONE, pw_replay_block(mode, record, NONE(uint8_t), 0, LENT, counts, 8, answer), lines, lines >= 8, lines >= 5);
     }
     ANSWERS(PW_DONE, pw_replay_close(record, answer), SAMPLE_LINES);
@@ -60,9 +60,9 @@ static void refused_at(const char *log, uint32_t number)
         uint64_t *counts = LIST(uint64_t, 0, 0, 0, 0, 0, UINT64_MAX, 0, 0);
         uint64_t *record = opened();
         int is_done = cut < 3 * LINE_LENGTH;
-        ANSWERS(is_done ? PW_DONE : number, pw_replay_block(mode, record, lent(log, cut), cut, LENT, counts, 8, answer),
+        ANSWERS(is_done ? PW_DONE : number, pw_replay_block(mode, record, (uint8_t *)lent(log, cut), cut, LENT, counts, 8, answer),
                 is_done ? (int64_t)(cut / LINE_LENGTH) : 3);
-        ANSWERS(number, pw_replay_block(mode, record, lent(log + cut, length - cut), length - cut, LENT, counts, 8, answer), 3);
+        ANSWERS(number, pw_replay_block(mode, record, (uint8_t *)lent(log + cut, length - cut), length - cut, LENT, counts, 8, answer), 3);
         ANSWERS(number, pw_replay_block(mode, record, TEXT("P\t0000\n"), SAMPLE, SAMPLE_LENGTH, BYTES(5), 1, NO_ENTRIES, counts, 8, answer), 3);
         ANSWERS(number, pw_replay_close(record, answer), 3);
         LEFT(counts, uint64_t, 1, 0, 0, 0, 1, UINT64_MAX, 0, 0);
@@ -84,7 +84,7 @@ static void lent_badly(void)
     uint64_t *counts = NO_COUNTS;
     uint64_t *record = opened();
     ANSWERS(PW_DONE, pw_replay_block(mode, record, TEXT("P\t0000\nP\t0"), LENT, counts, 8, answer), 1);
-    uint64_t *before = lent(record, PW_REPLAY_WORDS * sizeof *record);
+    uint64_t *before = (uint64_t *)lent(record, PW_REPLAY_WORDS * sizeof *record);
     uint8_t *rest = BYTES('0', '0', '4', '\n');
 
     ANSWERS(PW_LONG_IMAGE, pw_replay_block(mode, record, rest, 4, too_long, TOO_LONG, SAMPLE_MARKS, 7, NO_ENTRIES, counts, 7, answer), TOO_LONG);
@@ -105,7 +105,7 @@ static void closing(void)
 
     ANSWERS(PW_DONE, pw_replay_close(record, answer), 0);
     ANSWERS(PW_DONE, pw_replay_block(mode, record, TEXT("P\t0000\nP"), LENT, counts, 8, answer), 1);
-    uint64_t *before = lent(record, PW_REPLAY_WORDS * sizeof *record);
+    uint64_t *before = (uint64_t *)lent(record, PW_REPLAY_WORDS * sizeof *record);
     ANSWERS(PW_MALFORMED_LOG, pw_replay_close(record, answer), 2);
     HOLDS(same(record, before, PW_REPLAY_WORDS * sizeof *record));
     ANSWERS(PW_MALFORMED_LOG, pw_replay_block(mode, record, TEXT("\t4\n"), LENT, counts, 8, answer), 2);

@@ -10,7 +10,7 @@
 #define UNWRITTEN INT64_MIN
 #define MOST_LENT 1000
 
-int64_t answer[5] = {UNWRITTEN, UNWRITTEN, UNWRITTEN, UNWRITTEN, UNWRITTEN};
+int64_t answer[PW_VALUES] = {UNWRITTEN, UNWRITTEN, UNWRITTEN, UNWRITTEN, UNWRITTEN};
 
 uint32_t mode = PW_UNWRAPPED;
 
@@ -18,16 +18,19 @@ static unsigned passed, failed;
 static void *all_lent[MOST_LENT];
 static size_t count_lent;
 
-static void say(uint32_t number, const int64_t values[5])
+static void say(uint32_t number, const int64_t values[PW_VALUES])
 {
     printf("%" PRIu32, number);
-    for (int index = 0; index < 5; index++)
+    for (int index = 0; index < PW_VALUES; index++)
         printf(" %" PRId64, values[index]);
 }
 
-void answers(const char *file, int line, const char *call, uint32_t number, uint32_t expected, const int64_t values[5])
+void answers(const char *file, int line, const char *call, uint32_t number, uint32_t expected, const int64_t *given, size_t size)
 {
     int is_known = note(call, mode, number);
+    int64_t values[PW_VALUES] = {0};
+
+    memcpy(values, given, size);
     if (is_known && number == expected && memcmp(answer, values, sizeof answer) == 0) {
         passed++;
     } else {
@@ -38,7 +41,7 @@ void answers(const char *file, int line, const char *call, uint32_t number, uint
         printf("%s\n", is_known ? "" : ", which calls.c does not have");
         failed++;
     }
-    for (int index = 0; index < 5; index++)
+    for (int index = 0; index < PW_VALUES; index++)
         answer[index] = UNWRITTEN;
 }
 

@@ -2,21 +2,20 @@
 #include "check.h"
 #include "parts.h"
 
-/* Forms by their place in the enum, and the first bytes that name them. */
-enum { MOV_D9 = 35, JMP = 42, JMPF = 43, BR = 44, BRF = 45, BZ = 46, BP = 48, CALL = 59, NOT1 = 66, NOP = 67 };
+/* First bytes that name forms. */
 enum { FIRST_NOP = 0x00, FIRST_BR = 0x01, FIRST_BRF = 0x11, FIRST_JMPF = 0x21, FIRST_MOV_RJ = 0x24, FIRST_JMP = 0x28, FIRST_BP = 0x68,
        FIRST_BZ = 0x80, FIRST_RET = 0xA0 };
 
 static void decoding(void)
 {
-    ANSWERS(PW_DONE, pw_decode(BYTES(0xB8, 0x0D), 2, answer), NOT1, 2, 0x10D, 0);
-    ANSWERS(PW_DONE, pw_decode(BYTES(0x01, 0x7F), 2, answer), BR, 2, 127);
-    ANSWERS(PW_DONE, pw_decode(BYTES(0x01, 0x80), 2, answer), BR, 2, -128);
-    ANSWERS(PW_DONE, pw_decode(BYTES(0x23, 0x00, 0x55), 3, answer), MOV_D9, 3, 0x55, 0x100);
-    ANSWERS(PW_DONE, pw_decode(BYTES(0x1F, 0x34), 2, answer), CALL, 2, 0xF34);
-    ANSWERS(PW_DONE, pw_decode(BYTES(0x21, 0x12, 0x34), 3, answer), JMPF, 3, 0x1234);
-    ANSWERS(PW_DONE, pw_decode(BYTES(0x7F, 0x21, 0xFE), 3, answer), BP, 3, 0x121, 7, -2);
-    ANSWERS(PW_DONE, pw_decode(BYTES(0x00, 0xFF, 0xFF, 0xFF), 4, answer), NOP, 1);
+    ANSWERS(PW_DONE, pw_decode(BYTES(0xB8, 0x0D), 2, answer), PW_FORM_NOT1, 2, 0x10D, 0);
+    ANSWERS(PW_DONE, pw_decode(BYTES(0x01, 0x7F), 2, answer), PW_FORM_BR, 2, 127);
+    ANSWERS(PW_DONE, pw_decode(BYTES(0x01, 0x80), 2, answer), PW_FORM_BR, 2, -128);
+    ANSWERS(PW_DONE, pw_decode(BYTES(0x23, 0x00, 0x55), 3, answer), PW_FORM_MOV_D9, 3, 0x55, 0x100);
+    ANSWERS(PW_DONE, pw_decode(BYTES(0x1F, 0x34), 2, answer), PW_FORM_CALL, 2, 0xF34);
+    ANSWERS(PW_DONE, pw_decode(BYTES(0x21, 0x12, 0x34), 3, answer), PW_FORM_JMPF, 3, 0x1234);
+    ANSWERS(PW_DONE, pw_decode(BYTES(0x7F, 0x21, 0xFE), 3, answer), PW_FORM_BP, 3, 0x121, 7, -2);
+    ANSWERS(PW_DONE, pw_decode(BYTES(0x00, 0xFF, 0xFF, 0xFF), 4, answer), PW_FORM_NOP, 1);
     ANSWERS(PW_NOTHING, pw_decode(NONE(uint8_t), 0, answer), 0);
     ANSWERS(PW_CUT_OFF, pw_decode(BYTES(0x68), 1, answer), 0, 0x68, 2);
     ANSWERS(PW_CUT_OFF, pw_decode(BYTES(0x68, 0x00), 2, answer), 0, 0x68, 1);
@@ -40,10 +39,10 @@ static void encoding(void)
 
 static void resolving(void)
 {
-    ANSWERS(PW_DONE, pw_resolve(mode, FIRST_BRF, 0, 0, 0, 3, answer), BRF, 3, 0xFFFE);
-    ANSWERS(PW_DONE, pw_resolve(mode, FIRST_BR, 129, 0, 0, 2, answer), BR, 2, 127);
-    ANSWERS(PW_DONE, pw_resolve(mode, FIRST_JMP, 0x0FFF, 0, 0, 2, answer), JMP, 2, 0xFFF);
-    ANSWERS(PW_DONE, pw_resolve(mode, FIRST_JMP, 0x0FFF, 0, 0, PW_HIGHEST_BASE, answer), JMP, 2, 0xFFF);
+    ANSWERS(PW_DONE, pw_resolve(mode, FIRST_BRF, 0, 0, 0, 3, answer), PW_FORM_BRF, 3, 0xFFFE);
+    ANSWERS(PW_DONE, pw_resolve(mode, FIRST_BR, 129, 0, 0, 2, answer), PW_FORM_BR, 2, 127);
+    ANSWERS(PW_DONE, pw_resolve(mode, FIRST_JMP, 0x0FFF, 0, 0, 2, answer), PW_FORM_JMP, 2, 0xFFF);
+    ANSWERS(PW_DONE, pw_resolve(mode, FIRST_JMP, 0x0FFF, 0, 0, PW_HIGHEST_BASE, answer), PW_FORM_JMP, 2, 0xFFF);
     ANSWERS(PW_UNFIT, pw_resolve(mode, FIRST_JMP, 65536, 0, 0, 2, answer), 1, 65536);
     ANSWERS(PW_UNFIT, pw_resolve(mode, FIRST_BP, 0, 8, -1, 2, answer), 2, 8);
     ANSWERS(PW_NO_ADDRESS, pw_resolve(mode, FIRST_BR, 65536, 0, 0, 2, answer), 65536);
@@ -66,9 +65,9 @@ static void resolving_over_an_end(void)
         ANSWERS(PW_TOO_FAR, pw_resolve(mode, FIRST_BZ, 65410, 0, 0, 2, answer), 65408);
         ANSWERS(PW_TOO_FAR, pw_resolve(mode, FIRST_BP, 0x121, 7, 65535, 0, answer), 65535);
     } else {
-        ANSWERS(PW_DONE, pw_resolve(mode, FIRST_BR, 5, 0, 0, 65534, answer), BR, 2, 7);
-        ANSWERS(PW_DONE, pw_resolve(mode, FIRST_BZ, 65410, 0, 0, 2, answer), BZ, 2, -128);
-        ANSWERS(PW_DONE, pw_resolve(mode, FIRST_BP, 0x121, 7, 65535, 0, answer), BP, 3, 0x121, 7, -1);
+        ANSWERS(PW_DONE, pw_resolve(mode, FIRST_BR, 5, 0, 0, 65534, answer), PW_FORM_BR, 2, 7);
+        ANSWERS(PW_DONE, pw_resolve(mode, FIRST_BZ, 65410, 0, 0, 2, answer), PW_FORM_BZ, 2, -128);
+        ANSWERS(PW_DONE, pw_resolve(mode, FIRST_BP, 0x121, 7, 65535, 0, answer), PW_FORM_BP, 3, 0x121, 7, -1);
     }
 }
 

@@ -21,14 +21,14 @@ static uint8_t *longest(void)
     image[1] = 0xFB;
     image[BZ_AT] = 0x80;
     image[BZ_AT + 1] = 0x01;
-    return lent(image, LENGTH);
+    return (uint8_t *)lent(image, LENGTH);
 }
 
 /* As many bytes, all of them the same. */
 static uint8_t *filled(uint8_t byte)
 {
     static uint8_t bytes[LENGTH];
-    return lent(memset(bytes, byte, LENGTH), LENGTH);
+    return (uint8_t *)lent(memset(bytes, byte, LENGTH), LENGTH);
 }
 
 /* Marks of 0 but for those of the three instructions. */
@@ -55,7 +55,7 @@ static void stepping(void)
 static void running(void)
 {
     static uint32_t none[LENGTH];
-    uint32_t *order = lent(none, sizeof none);
+    uint32_t *order = (uint32_t *)lent(none, sizeof none);
     uint8_t *marks = filled(9);
     uint32_t *entries = LIST(uint32_t, 0);
     int64_t steps = BY_MODE(1, 3);
@@ -89,9 +89,9 @@ static void viewing_ends(void)
 static void replaying_ends(void)
 {
     static uint64_t none[LENGTH];
-    uint64_t *counts = lent(none, sizeof none);
-    uint8_t *there = lent("P\t0000\nP\tFFFD\n", 14);
-    uint8_t *back = lent("P\tFFFF\nP\t0000\n", 14);
+    uint64_t *counts = (uint64_t *)lent(none, sizeof none);
+    uint8_t *there = (uint8_t *)lent("P\t0000\nP\tFFFD\n", 14);
+    uint8_t *back = (uint8_t *)lent("P\tFFFF\nP\t0000\n", 14);
 
     ANSWERS(BY_MODE(PW_FORBIDDEN_MOVE, PW_DONE),
             pw_replay(mode, there, 14, longest(), LENGTH, marked(2, 2, 2), LENGTH, NO_ENTRIES, counts, LENGTH, answer), 2);
@@ -115,10 +115,10 @@ static void listing_ends(void)
 
     ANSWERS(PW_DONE, pw_listing(mode, longest(), LENGTH, marked(2, 2, 2), LENGTH, PW_ARRIVALS_CHOSEN, room, LENGTH, answer), length);
     HOLDS(same(room, text, strlen(text)) && room[length] == 9);
-    ANSWERS(PW_MALFORMED_LINE, pw_read_back(mode, lent(other, strlen(other)), strlen(other), LENGTH, image, LENGTH, marks, LENGTH, answer),
+    ANSWERS(PW_MALFORMED_LINE, pw_read_back(mode, (uint8_t *)lent(other, strlen(other)), strlen(other), LENGTH, image, LENGTH, marks, LENGTH, answer),
             BY_MODE(3, 1));
     HOLDS(same(image, filled(9), LENGTH) && same(marks, filled(9), LENGTH));
-    ANSWERS(PW_DONE, pw_read_back(mode, lent(text, strlen(text)), strlen(text), LENGTH, image, LENGTH, marks, LENGTH, answer), BY_MODE(4, 8));
+    ANSWERS(PW_DONE, pw_read_back(mode, (uint8_t *)lent(text, strlen(text)), strlen(text), LENGTH, image, LENGTH, marks, LENGTH, answer), BY_MODE(4, 8));
     HOLDS(same(image, longest(), LENGTH));
     HOLDS(same(marks, marked(2, 2, 2), LENGTH));
 }

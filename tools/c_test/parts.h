@@ -11,5 +11,6 @@ void mapped(void);
 void replayed(void);
 void blocks(void);
 void ends(void);
+void names(void);
 
 #endif

@@ -7,7 +7,7 @@
 
 #define COUNTS(...) LIST(uint64_t, __VA_ARGS__)
 /* A text, lent without the byte 0 at its end. */
-#define TEXT(text) lent(text, sizeof(text) - 1), sizeof(text) - 1
+#define TEXT(text) (uint8_t *)lent(text, sizeof(text) - 1), sizeof(text) - 1
 /* The sample with its marks, and entries. */
 #define LENT SAMPLE, SAMPLE_LENGTH, SAMPLE_MARKS, SAMPLE_LENGTH, SAMPLE_ENTRIES, 2
 

@@ -20,8 +20,8 @@ static void prints(const char *text, const char *report)
 {
     size_t length = strlen(report);
     uint8_t *room = room_for_text();
-    uint8_t *short_room = lent(room, length - 1);
-    uint8_t *exact_room = lent(room, length);
+    uint8_t *short_room = (uint8_t *)lent(room, length - 1);
+    uint8_t *exact_room = (uint8_t *)lent(room, length);
 
     ANSWERS(PW_NO_ROOM, pw_report_text(TEXT(text), strlen(text), short_room, length - 1, answer), LENGTH(report));
     HOLDS(same(short_room, room, length - 1));
@@ -37,7 +37,7 @@ static void reporting_many(void)
     enum { MANY = 3000 };
     static const char one[] = SAMPLE_IMAGE "\n", line[] = SAMPLE_LINE, sums[] = "T\t24000\t12000\t18000\t6000\t0\t6000\t3000\t0\n";
     size_t length = MANY * strlen(one), printed = MANY * strlen(line) + strlen(sums);
-    uint8_t *text = malloc(length), *room = malloc(printed);
+    uint8_t *text = (uint8_t *)malloc(length), *room = (uint8_t *)malloc(printed);
 
     HOLDS(text != NULL && room != NULL);
     if (text == NULL || room == NULL)

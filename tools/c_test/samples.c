@@ -1,3 +1,3 @@
 #include "samples.h"
 
-const uint8_t too_long[TOO_LONG];
+const uint8_t too_long[TOO_LONG] = {0};

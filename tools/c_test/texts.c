@@ -3,7 +3,7 @@
 uint8_t *room_for_text(void)
 {
     uint8_t bytes[400];
-    return lent(memset(bytes, 9, sizeof bytes), sizeof bytes);
+    return (uint8_t *)lent(memset(bytes, 9, sizeof bytes), sizeof bytes);
 }
 
 int begins(const uint8_t *room, const char *text)

@@ -7,7 +7,7 @@
 #define MARKS input.marks, input.length
 #define ENTRIES input.entries, input.count
 
-static int64_t answer[5];
+static int64_t answer[PW_VALUES];
 static uint8_t bytes[TEXT_ROOM], marks[PW_IMAGE_LIMIT], image[PW_IMAGE_LIMIT];
 static uint32_t places[PW_IMAGE_LIMIT];
 static uint64_t words[PW_IMAGE_LIMIT / PW_WORD_BITS], counts[PW_IMAGE_LIMIT], record[PW_REPLAY_WORDS];

@@ -49,7 +49,7 @@ static void done(const char *call, uint32_t number)
 /* Marks of a run, and the listing with arrivals. */
 static void trace(void)
 {
-    int64_t answer[5];
+    int64_t answer[PW_VALUES];
     done("pw_run", pw_run(PW_UNWRAPPED, input.image, input.length, input.marks, input.length, order, PW_IMAGE_LIMIT, input.entries,
                           input.count, input.entries, 0, PW_IMAGE_LIMIT, answer));
     done("pw_listing", pw_listing(PW_UNWRAPPED, input.image, input.length, input.marks, input.length, PW_ARRIVALS_CHOSEN, input.listing,
@@ -100,7 +100,7 @@ static void write_term(void)
 /* A log that is accepted: the entry 0 again and again, by interrupts; none over an empty image. */
 static void write_log(void)
 {
-    int64_t answer[5];
+    int64_t answer[PW_VALUES];
     static uint64_t counts[PW_IMAGE_LIMIT];
     input.logged = input.length == 0 ? 0 : sizeof input.log;
     for (size_t at = 0; at < input.logged; at += LINE_LENGTH)
