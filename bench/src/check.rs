@@ -9,7 +9,7 @@ use crate::plain::sweep::Sweeper;
 use crate::plain::trace::{Ended, TRACED, Tracer, is_traced};
 use crate::plain::{maps, views};
 use crate::rows::{LONGEST_LISTING, MODE};
-use compare::answer::Answer;
+use compare::answer::{self, Answer};
 use compare::original::{self, listed, viewed};
 use compare::paper::{Mode, listing as paper, map, tracer};
 use waterbear::disasm::probe;
@@ -55,7 +55,7 @@ fn decoding(case: &Case) -> Result<(), &'static str> {
 
 fn plain_decode(bytes: &[u8]) -> Answer {
     match decode(bytes) {
-        Ok(found) => Answer::instruction(found.form.into(), found.size.into(), found.operands),
+        Ok(found) => answer::found(found.form.into(), found.size.into(), found.operands),
         Err(decode::Refused::Nothing) => Answer::new(Answer::NOTHING, &[]),
         Err(decode::Refused::CutOff(first, missing)) => {
             let values = [0, i64::from(first), i64::from(missing)];
@@ -256,8 +256,8 @@ fn plain_back(text: &[u8], length: usize) -> Back {
     let read = Reader::default().read(text, &mut image, &mut marks);
     let (number, value) = match read {
         Ok(lines) => (Answer::DONE, lines),
-        Err(Refused::Malformed(line)) => (Answer::MALFORMED, line),
-        Err(Refused::PastEnd(line)) => (Answer::PAST_END, line),
+        Err(Refused::Malformed(line)) => (Answer::MALFORMED_LINE, line),
+        Err(Refused::PastEnd(line)) => (Answer::LINE_PAST_END, line),
     };
     (Answer::new(number, &[value as i64]), image, marks)
 }

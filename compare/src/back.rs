@@ -134,7 +134,7 @@ impl Listed<'_> {
         let mut given = Given::new(random, Mode::Unwrapped, self.text, self.image.len());
         given.judge = Judge::Wrapping;
         let answer = given.judged(tally);
-        tally.wrapping.malformed += u64::from(answer.number == Answer::MALFORMED);
+        tally.wrapping.malformed += u64::from(answer.number == Answer::MALFORMED_LINE);
     }
 }
 
@@ -252,7 +252,7 @@ impl Given<'_> {
         let [image, marks] = [&self.image, &self.marks].map(|room| room.part().len());
         let lines = text.split_inclusive(|byte| *byte == b'\n');
         let before = match outcome.answer.number {
-            Answer::MALFORMED | Answer::PAST_END => outcome.answer.values[0] as usize,
+            Answer::MALFORMED_LINE | Answer::LINE_PAST_END => outcome.answer.values[0] as usize,
             _ => 0,
         };
         let skipped = lines.take(before).map(<[u8]>::len).sum::<usize>();

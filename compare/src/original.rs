@@ -4,7 +4,7 @@ pub mod listed;
 pub mod traced;
 pub mod viewed;
 
-use crate::answer::Answer;
+use crate::answer::{self, Answer};
 use std::sync::LazyLock;
 use waterbear::disasm::probe;
 use waterbear::env::Names;
@@ -52,7 +52,7 @@ pub fn size(form: usize) -> usize {
 /// The original answers nothing for nothing, and nothing for an instruction that is cut off.
 pub fn decode(bytes: &[u8]) -> Answer {
     match (Instr::decode(bytes), bytes) {
-        (Some(found), _) => Answer::instruction(found.form(), found.size(), found.operands()),
+        (Some(found), _) => answer::found(found.form(), found.size(), found.operands()),
         (None, []) => Answer::new(Answer::NOTHING, &[]),
         (None, [first, ..]) => {
             let values = [0, i64::from(*first), i64::from(missing(bytes))];
@@ -106,7 +106,7 @@ impl Resolver {
             |index| IndirectionMode::from(operands[index] as u8),
         );
         match written.eval(base as usize, waterbear::NO_LABEL, &self.names) {
-            Ok(found) => Answer::instruction(found.form(), found.size(), found.operands()),
+            Ok(found) => answer::found(found.form(), found.size(), found.operands()),
             Err(error) => refusal(error),
         }
     }
@@ -121,13 +121,13 @@ fn refusal(error: EncodingError) -> Answer {
     match error {
         EncodingError::NumOutOfRange { span, value, .. } => {
             let operand = span.start().pos() as i64 + 1;
-            Answer::new(Answer::MISFIT, &[operand, i64::from(value)])
+            Answer::new(Answer::UNFIT, &[operand, i64::from(value)])
         }
         EncodingError::InvalidAddress { value, .. } => {
             Answer::new(Answer::NO_ADDRESS, &[i64::from(value)])
         }
         EncodingError::SignedNumOutOfRange { value, .. } => {
-            Answer::new(Answer::FAR_OFFSET, &[i64::from(value)])
+            Answer::new(Answer::TOO_FAR, &[i64::from(value)])
         }
         EncodingError::AddrBitsDontMatch {
             pos_top, value_top, ..

@@ -17,7 +17,7 @@ pub mod sweep;
 pub mod tracer;
 pub mod views;
 
-use crate::answer::Answer;
+use crate::answer::{Answer, found};
 use crate::original;
 pub use mode::Mode;
 use std::ops::RangeInclusive;
@@ -132,7 +132,7 @@ impl Kind {
         match self {
             Page if page != base_page => Some(Answer::new(Answer::OTHER_PAGE, &[base_page, page])),
             Short if !(-128..=127).contains(&offset) => {
-                Some(Answer::new(Answer::FAR_OFFSET, &[offset]))
+                Some(Answer::new(Answer::TOO_FAR, &[offset]))
             }
             _ => None,
         }
@@ -146,7 +146,7 @@ pub fn numbers(form: usize, number: impl Fn(Kind) -> i32) -> [i32; 3] {
 }
 
 fn misfit(index: usize, value: i32) -> Answer {
-    Answer::new(Answer::MISFIT, &[index as i64 + 1, i64::from(value)])
+    Answer::new(Answer::UNFIT, &[index as i64 + 1, i64::from(value)])
 }
 
 /// The refusal of encode for the fields alone.
@@ -159,7 +159,7 @@ pub fn encode_refusal(form: usize, fields: [i32; 3]) -> Option<Answer> {
 
 fn resolve_refusal(mode: Mode, form: usize, operands: [i32; 3], base: u32) -> Option<Answer> {
     if base > HIGHEST_BASE {
-        return Some(Answer::new(Answer::BASE_OUTSIDE, &[i64::from(base)]));
+        return Some(Answer::new(Answer::PAST_MEMORY, &[i64::from(base)]));
     }
     let mut operands = kinds(form).iter().zip(operands).enumerate();
     operands.find_map(|(index, (kind, value))| kind.refusal(mode, index, value, i64::from(base)))
@@ -176,7 +176,7 @@ pub fn resolve(mode: Mode, first: u8, operands: [i32; 3], base: u32) -> Answer {
         let operand = i64::from(operands[index]);
         fields[index] = kind.resolved(mode, operand, i64::from(base)) as i32;
     }
-    Answer::instruction(form, flow::size(first), fields)
+    found(form, flow::size(first), fields)
 }
 
 /// Whether the original can be asked: it has registers 0 to 3 only, and no limit on the base.

@@ -58,10 +58,10 @@ fn plain_answer(told: Result<Totals, Refused>) -> Answer {
             let values = [totals.lines, totals.interrupts, totals.free];
             return Answer::new(Answer::DONE, &values.map(|value| value as i64));
         }
-        Err(Refused::Malformed(line)) => (Answer::NO_LINE, line),
-        Err(Refused::Untraced(line)) => (Answer::UNTRACED, line),
-        Err(Refused::Forbidden(line)) => (Answer::FORBIDDEN, line),
-        Err(Refused::Full(line)) => (Answer::FULL, line),
+        Err(Refused::Malformed(line)) => (Answer::MALFORMED_LOG, line),
+        Err(Refused::Untraced(line)) => (Answer::NOT_TRACED, line),
+        Err(Refused::Forbidden(line)) => (Answer::FORBIDDEN_MOVE, line),
+        Err(Refused::Full(line)) => (Answer::COUNT_FULL, line),
     };
     Answer::new(number, &[line as i64])
 }

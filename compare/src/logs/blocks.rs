@@ -248,7 +248,7 @@ impl Plan {
 
 /// The refusal of a line, which later blocks are answered with.
 pub fn is_held(answer: &Answer) -> bool {
-    (Answer::NO_LINE..=Answer::FULL).contains(&answer.number)
+    (Answer::MALFORMED_LOG..=Answer::COUNT_FULL).contains(&answer.number)
 }
 
 impl Lending {

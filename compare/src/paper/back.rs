@@ -56,12 +56,12 @@ impl Sheet {
 
     /// One line more, or its refusal.
     fn line(&mut self, line: &[u8]) -> Result<(), u32> {
-        let (letter, at, bytes) = record(self.mode, line).ok_or(Answer::MALFORMED)?;
+        let (letter, at, bytes) = record(self.mode, line).ok_or(Answer::MALFORMED_LINE)?;
         if !self.in_order(at, letter) || self.contradicted(at, &bytes) {
-            return Err(Answer::MALFORMED);
+            return Err(Answer::MALFORMED_LINE);
         }
         if !bytes.is_empty() && at + bytes.len() > self.listed.len() {
-            return Err(Answer::PAST_END);
+            return Err(Answer::LINE_PAST_END);
         }
         self.last = Some((at, letter));
         for (index, byte) in bytes.into_iter().enumerate() {

@@ -33,7 +33,7 @@ impl Blocks {
 
     /// At the end of the log.
     pub fn close(&self) -> Answer {
-        let partial = (!self.partial.is_empty()).then_some(Answer::NO_LINE);
+        let partial = (!self.partial.is_empty()).then_some(Answer::MALFORMED_LOG);
         self.answer(self.refusal.or(partial))
     }
 

@@ -115,7 +115,7 @@ pub fn targets(mode: Mode, first: u8, fields: [i32; 3], position: u32) -> Answer
     let form = original::form(first);
     let next = i64::from(position) + size(first) as i64;
     if next > MEMORY {
-        return Answer::new(Answer::BASE_OUTSIDE, &[next]);
+        return Answer::new(Answer::PAST_MEMORY, &[next]);
     }
     if let Some(refusal) = encode_refusal(form, fields) {
         return refusal;

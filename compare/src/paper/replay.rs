@@ -144,18 +144,18 @@ impl Traced<'_> {
         counts: &[u64],
     ) -> Result<(usize, By), u32> {
         let [b'P', b'\t', digits @ .., b'\n'] = line else {
-            return Err(Answer::NO_LINE);
+            return Err(Answer::MALFORMED_LOG);
         };
-        let at = input::position(digits).ok_or(Answer::NO_LINE)? as usize;
+        let at = input::position(digits).ok_or(Answer::MALFORMED_LOG)? as usize;
         if !self.is_traced(at) {
-            return Err(Answer::UNTRACED);
+            return Err(Answer::NOT_TRACED);
         }
         let by = match last {
             None => By::Beginning,
-            Some(last) => self.come(last, at).ok_or(Answer::FORBIDDEN)?,
+            Some(last) => self.come(last, at).ok_or(Answer::FORBIDDEN_MOVE)?,
         };
         match counts[at] {
-            u64::MAX => Err(Answer::FULL),
+            u64::MAX => Err(Answer::COUNT_FULL),
             _ => Ok((at, by)),
         }
     }

@@ -6,16 +6,16 @@ use compare::answer::Answer;
 
 /// Document 01's example, whose image has 8 bytes, with other lengths; the answer and its value.
 const LENGTHS: [(&str, usize, u32, usize); 9] = [
-    ("no length", 0, Answer::PAST_END, 2),
+    ("no length", 0, Answer::LINE_PAST_END, 2),
     (
         "a length inside the first instruction",
         1,
-        Answer::PAST_END,
+        Answer::LINE_PAST_END,
         2,
     ),
-    ("a length before the data", 2, Answer::PAST_END, 3),
-    ("a length inside an instruction", 6, Answer::PAST_END, 6),
-    ("a byte less", 7, Answer::PAST_END, 7),
+    ("a length before the data", 2, Answer::LINE_PAST_END, 3),
+    ("a length inside an instruction", 6, Answer::LINE_PAST_END, 6),
+    ("a byte less", 7, Answer::LINE_PAST_END, 7),
     ("a byte more", 9, Answer::DONE, 7),
     ("1,000 bytes", 1_000, Answer::DONE, 7),
     ("65,536 bytes", 65_536, Answer::DONE, 7),
@@ -130,14 +130,14 @@ const LONG_ROOMS: [Lent; 8] = [
         "longer rooms, and malformed",
         "D\t0000\tA0\nL\t0000\n",
         [8, 12, 11],
-        Answer::MALFORMED,
+        Answer::MALFORMED_LINE,
         2,
     ),
     (
         "longer rooms, and past the length",
         TEXT,
         [7, 12, 11],
-        Answer::PAST_END,
+        Answer::LINE_PAST_END,
         7,
     ),
 ];

@@ -5,8 +5,8 @@ use super::stored::Case;
 use compare::answer::Answer;
 use compare::paper::{Mode, listing};
 
-const MALFORMED: u32 = Answer::MALFORMED;
-const PAST_END: u32 = Answer::PAST_END;
+const MALFORMED: u32 = Answer::MALFORMED_LINE;
+const PAST_END: u32 = Answer::LINE_PAST_END;
 
 /// Each with its length.
 const ORDER: [(&str, &str, usize, usize); 24] = [

@@ -126,6 +126,6 @@ pub fn cases() -> Vec<Case> {
     ];
     let cases = spoiled.chain(further);
     cases
-        .map(|(about, line, text)| Case::new(about, &text, length).answers(Answer::MALFORMED, line))
+        .map(|(about, line, text)| Case::new(about, &text, length).answers(Answer::MALFORMED_LINE, line))
         .collect()
 }

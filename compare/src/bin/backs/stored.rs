@@ -113,8 +113,8 @@ fn letter(number: u32) -> char {
         Answer::LONG_IMAGE => 'l',
         Answer::SHORT_MARKS => 's',
         Answer::NO_ROOM => 'r',
-        Answer::MALFORMED => 'm',
-        Answer::PAST_END => 'p',
+        Answer::MALFORMED_LINE => 'm',
+        Answer::LINE_PAST_END => 'p',
         number => panic!("no answer has {number}"),
     }
 }

@@ -39,37 +39,37 @@ const LINES: [Line; 9] = [
         "a wrapped target below 0",
         "I\t0000\t01FD\tbr\tFFFF\n",
         4,
-        [(Answer::MALFORMED, 1), (Answer::DONE, 1)],
+        [(Answer::MALFORMED_LINE, 1), (Answer::DONE, 1)],
     ),
     (
         "? for a target below 0",
         "I\t0000\t01FD\tbr\t?\n",
         4,
-        [(Answer::DONE, 1), (Answer::MALFORMED, 1)],
+        [(Answer::DONE, 1), (Answer::MALFORMED_LINE, 1)],
     ),
     (
         "another wrapped target",
         "I\t0000\t01FD\tbr\tFFFE\n",
         4,
-        [(Answer::MALFORMED, 1); 2],
+        [(Answer::MALFORMED_LINE, 1); 2],
     ),
     (
         "a wrapped target above FFFF",
         "I\tFFFE\t0100\tbr\t0000\n",
         65_536,
-        [(Answer::MALFORMED, 1), (Answer::DONE, 1)],
+        [(Answer::MALFORMED_LINE, 1), (Answer::DONE, 1)],
     ),
     (
         "a wrapped target past the length",
         "L\t0000\nI\t0001\t80FA\tbz\tFFFD\n",
         2,
-        [(Answer::MALFORMED, 2), (Answer::PAST_END, 2)],
+        [(Answer::MALFORMED_LINE, 2), (Answer::LINE_PAST_END, 2)],
     ),
     (
         "next is 65,537, its target wrapped",
         "I\tFFFF\t0102\tbr\t0003\n",
         65_536,
-        [(Answer::MALFORMED, 1); 2],
+        [(Answer::MALFORMED_LINE, 1); 2],
     ),
     (
         "next is 65,536, and goes on",
@@ -112,7 +112,7 @@ fn both_ways(about: &str, image: &[u8], marks: &[u8], line: usize) -> Vec<Case> 
         let text = listing::listing(listed, image, marks, Arrivals::Declined);
         let about = format!("{about}, listed {} and read {}", word(listed), word(read));
         let case = Case::new(&about, &text, image.len()).in_mode(read);
-        case.answers(Answer::MALFORMED, line)
+        case.answers(Answer::MALFORMED_LINE, line)
     });
     whole.into_iter().chain(crossed).collect()
 }

@@ -16,14 +16,14 @@ type Full = (
 
 #[rustfmt::skip]
 const FULL: [Full; 10] = [
-    ("full at the first line", &[0, 4], &[(0, TOP)], (Answer::FULL, &[1])),
-    ("full at the second line", &[0, 4], &[(4, TOP)], (Answer::FULL, &[2])),
-    ("full at the last line", &[0, 4, 5, 7], &[(7, TOP)], (Answer::FULL, &[4])),
+    ("full at the first line", &[0, 4], &[(0, TOP)], (Answer::COUNT_FULL, &[1])),
+    ("full at the second line", &[0, 4], &[(4, TOP)], (Answer::COUNT_FULL, &[2])),
+    ("full at the last line", &[0, 4, 5, 7], &[(7, TOP)], (Answer::COUNT_FULL, &[4])),
     ("one below the top", &[0, 4], &[(4, TOP - 1)], (Answer::DONE, &[2, 0, 0])),
-    ("one below the top, twice", &[0, 4, 5, 0, 4], &[(4, TOP - 1)], (Answer::FULL, &[5])),
+    ("one below the top, twice", &[0, 4, 5, 0, 4], &[(4, TOP - 1)], (Answer::COUNT_FULL, &[5])),
     ("two below the top, twice", &[0, 4, 5, 0, 4], &[(4, TOP - 2)], (Answer::DONE, &[5, 0, 0])),
-    ("full at an interrupt", &[4, 0], &[(0, TOP)], (Answer::FULL, &[2])),
-    ("full at a free move", &[7, 5], &[(5, TOP)], (Answer::FULL, &[2])),
+    ("full at an interrupt", &[4, 0], &[(0, TOP)], (Answer::COUNT_FULL, &[2])),
+    ("full at a free move", &[7, 5], &[(5, TOP)], (Answer::COUNT_FULL, &[2])),
     ("full where no line leads", &[0, 4], &[(1, TOP), (7, TOP)], (Answer::DONE, &[2, 0, 0])),
     ("half the range", &[0, 4], &[(0, TOP / 2), (4, TOP / 2 + 1)], (Answer::DONE, &[2, 0, 0])),
 ];

@@ -100,7 +100,7 @@ fn longer() -> [Case; 4] {
             .answers(Answer::DONE, &[5, 0, 1]),
         lent("a traced mark behind the image", &log(&[7, 9]))
             .marked(9, 2)
-            .answers(Answer::UNTRACED, &[2]),
+            .answers(Answer::NOT_TRACED, &[2]),
     ]
 }
 

@@ -76,5 +76,5 @@ fn spoiled(about: &str, before: &[usize], line: &str, after: &[usize], number: i
     let line: Vec<u8> = line.chars().map(byte).collect();
     let text = [log(before), line, log(after)].concat();
     let case = Case::new(about, Mode::Unwrapped, &EXAMPLE, &[0], &text);
-    case.answers(Answer::NO_LINE, &[number])
+    case.answers(Answer::MALFORMED_LOG, &[number])
 }

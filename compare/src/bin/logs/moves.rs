@@ -15,7 +15,7 @@ type Move = (
 );
 
 const DONE: u32 = Answer::DONE;
-const FORBIDDEN: u32 = Answer::FORBIDDEN;
+const FORBIDDEN: u32 = Answer::FORBIDDEN_MOVE;
 
 #[rustfmt::skip]
 const MOVES: [Move; 48] = [

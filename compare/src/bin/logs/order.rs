@@ -7,28 +7,28 @@ use compare::paper::Mode;
 
 /// The lines' positions, and the refusal with its line.
 const UNTRACED: [(&str, &[usize], u32, i64); 9] = [
-    ("inside an instruction", &[1], Answer::UNTRACED, 1),
-    ("data", &[0, 4, 3], Answer::UNTRACED, 3),
-    ("the image's length", &[0, 8], Answer::UNTRACED, 2),
-    ("the last of memory", &[65_535], Answer::UNTRACED, 1),
-    ("after a Ret, not traced", &[7, 2], Answer::UNTRACED, 2),
-    ("not traced, and no move", &[4, 6], Answer::UNTRACED, 2),
+    ("inside an instruction", &[1], Answer::NOT_TRACED, 1),
+    ("data", &[0, 4, 3], Answer::NOT_TRACED, 3),
+    ("the image's length", &[0, 8], Answer::NOT_TRACED, 2),
+    ("the last of memory", &[65_535], Answer::NOT_TRACED, 1),
+    ("after a Ret, not traced", &[7, 2], Answer::NOT_TRACED, 2),
+    ("not traced, and no move", &[4, 6], Answer::NOT_TRACED, 2),
     (
         "no move, and then not traced",
         &[0, 5, 6],
-        Answer::FORBIDDEN,
+        Answer::FORBIDDEN_MOVE,
         2,
     ),
     (
         "not traced, and then no move",
         &[0, 6, 5],
-        Answer::UNTRACED,
+        Answer::NOT_TRACED,
         2,
     ),
     (
         "no move, after which a line would be one",
         &[0, 5, 7],
-        Answer::FORBIDDEN,
+        Answer::FORBIDDEN_MOVE,
         2,
     ),
 ];
@@ -42,11 +42,11 @@ pub fn cases() -> Vec<Case> {
         .map(|(about, lines, number, line)| example(about, &log(lines)).answers(*number, &[*line]));
     let marked = MARKS.iter().map(|(about, mark)| {
         let case = example(&format!("a target that is {about}"), &log(&[0, 4]));
-        case.marked(4, *mark).answers(Answer::UNTRACED, &[2])
+        case.marked(4, *mark).answers(Answer::NOT_TRACED, &[2])
     });
     let entered = MARKS.iter().map(|(about, mark)| {
         let case = example(&format!("an entry that is {about}"), &log(&[4, 0]));
-        case.marked(0, *mark).answers(Answer::UNTRACED, &[2])
+        case.marked(0, *mark).answers(Answer::NOT_TRACED, &[2])
     });
     let all = untraced.chain(marked).chain(entered);
     all.chain(between()).collect()
@@ -63,23 +63,23 @@ fn between() -> Vec<Case> {
     let forbidden = [log(&[0, 5]), b"P".to_vec()].concat();
     let full = u64::MAX;
     vec![
-        example("not traced, and then malformed", &untraced).answers(Answer::UNTRACED, &[2]),
-        example("malformed, and then not traced", &malformed).answers(Answer::NO_LINE, &[2]),
-        example("no move, and then a part of a line", &forbidden).answers(Answer::FORBIDDEN, &[2]),
+        example("not traced, and then malformed", &untraced).answers(Answer::NOT_TRACED, &[2]),
+        example("malformed, and then not traced", &malformed).answers(Answer::MALFORMED_LOG, &[2]),
+        example("no move, and then a part of a line", &forbidden).answers(Answer::FORBIDDEN_MOVE, &[2]),
         example("no move, and its count full", &log(&[0, 5]))
             .counted(5, full)
-            .answers(Answer::FORBIDDEN, &[2]),
+            .answers(Answer::FORBIDDEN_MOVE, &[2]),
         example("not traced, and its count full", &log(&[0, 6]))
             .counted(6, full)
-            .answers(Answer::UNTRACED, &[2]),
+            .answers(Answer::NOT_TRACED, &[2]),
         example("a count full, and then no move", &log(&[0, 4, 7]))
             .counted(4, full)
-            .answers(Answer::FULL, &[2]),
+            .answers(Answer::COUNT_FULL, &[2]),
         example(
             "a count full, and then malformed",
             &[&log(&[0])[..], b"\n"].concat(),
         )
         .counted(0, full)
-        .answers(Answer::FULL, &[1]),
+        .answers(Answer::COUNT_FULL, &[1]),
     ]
 }

@@ -157,10 +157,10 @@ fn end(answer: &Answer) -> String {
         Answer::SHORT_MARKS => 's',
         Answer::DAMAGED => 'd',
         Answer::NO_ROOM => 'r',
-        Answer::NO_LINE => 'm',
-        Answer::UNTRACED => 'u',
-        Answer::FORBIDDEN => 'f',
-        Answer::FULL => 'o',
+        Answer::MALFORMED_LOG => 'm',
+        Answer::NOT_TRACED => 'u',
+        Answer::FORBIDDEN_MOVE => 'f',
+        Answer::COUNT_FULL => 'o',
         number => panic!("no answer has {number}"),
     };
     format!("{letter}{a:08X}\n")

@@ -5,8 +5,8 @@ use super::units::{MODES, ring, word};
 use compare::answer::Answer;
 
 const DONE: u32 = Answer::DONE;
-const UNTRACED: u32 = Answer::UNTRACED;
-const FORBIDDEN: u32 = Answer::FORBIDDEN;
+const UNTRACED: u32 = Answer::NOT_TRACED;
+const FORBIDDEN: u32 = Answer::FORBIDDEN_MOVE;
 const LAST: usize = 65_535;
 
 /// A Br to -1, which is FFFF, and at FFFF a Nop.

@@ -169,7 +169,7 @@ pub fn cases(lines: &mut Lines) {
 /// by a base, or next, as it is.
 fn in_modes(lines: &mut Lines, letter: char, inputs: [i64; 5], answer: impl Fn(Mode) -> Answer) {
     let [unwrapped, wrapping] = [Mode::Unwrapped, Mode::Wrapping].map(answer);
-    if unwrapped != wrapping || unwrapped.number == Answer::BASE_OUTSIDE {
+    if unwrapped != wrapping || unwrapped.number == Answer::PAST_MEMORY {
         lines.case(letter, inputs, unwrapped);
     }
     lines.case(letter.to_ascii_lowercase(), inputs, wrapping);
