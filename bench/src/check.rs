@@ -8,7 +8,7 @@ use crate::plain::listing::Lister;
 use crate::plain::sweep::Sweeper;
 use crate::plain::trace::{Ended, TRACED, Tracer, is_traced};
 use crate::plain::{maps, views};
-use crate::rows::{LONGEST_LISTING, MODE};
+use crate::rows::{DECLINED, LONGEST_LISTING, MODE};
 use compare::answer::{self, Answer};
 use compare::original::{self, listed, viewed};
 use compare::paper::{Mode, listing as paper, map, tracer};
@@ -292,7 +292,7 @@ fn wrapping(case: &Case) -> Result<(), &'static str> {
     let ran = (answer, marks, order) == (plain, plain_marks, plain_order);
     same(ran, "run, wrapping")?;
     let mut room = vec![9; LONGEST_LISTING];
-    let answer = ours::listing(mode, image, &case.marks, 0, &mut room);
+    let answer = ours::listing(mode, image, &case.marks, DECLINED, &mut room);
     let plain = paper::listing(mode, image, &case.marks, paper::Arrivals::Declined);
     let ours = &room[..answer.values[0] as usize];
     same(ours == plain.as_bytes(), "listing, wrapping")

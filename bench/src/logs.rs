@@ -10,6 +10,7 @@ use crate::plain::replay::Replayer;
 use crate::report;
 use compare::answer::Answer;
 use compare::random::Random;
+use pottagewing::IMAGE_LIMIT;
 use std::hint::black_box;
 use walked::Log;
 
@@ -62,7 +63,7 @@ fn logs(cases: &[Case], lines: usize, entries: usize, random: &mut Random) -> Ve
 
 /// The original replays no log.
 fn whole() -> Sides<'static, Log> {
-    let (mut counts, mut plain_counts) = (vec![0; 65_536], vec![0; 65_536]);
+    let (mut counts, mut plain_counts) = (vec![0; IMAGE_LIMIT], vec![0; IMAGE_LIMIT]);
     let mut replayer = Replayer::default();
     [
         Some(Box::new(move |log| {
@@ -78,7 +79,7 @@ fn whole() -> Sides<'static, Log> {
 
 /// In blocks of so many bytes.
 fn cut(size: usize) -> Sides<'static, Log> {
-    let mut counts = vec![0; 65_536];
+    let mut counts = vec![0; IMAGE_LIMIT];
     let ours = move |log: &Log| {
         black_box(by_blocks(log, size, &mut counts));
     };
@@ -87,7 +88,7 @@ fn cut(size: usize) -> Sides<'static, Log> {
 
 /// The answer after closing.
 fn by_blocks(log: &Log, size: usize, counts: &mut [u64]) -> Answer {
-    let mut record: Record = [0; 7];
+    let mut record: Record = Default::default();
     ours::replay_open(&mut record);
     for block in log.text.chunks(size) {
         black_box(ours::replay_block(&mut record, log.traced(), block, counts));
@@ -137,8 +138,8 @@ fn empty(lengths: &[&[Case]], few: usize, random: &mut Random) {
 }
 
 fn taking_nothing() -> Sides<'static, Log> {
-    let mut counts = vec![0; 65_536];
-    let mut record: Record = [0; 7];
+    let mut counts = vec![0; IMAGE_LIMIT];
+    let mut record: Record = Default::default();
     ours::replay_open(&mut record);
     let ours = move |log: &Log| {
         black_box(ours::replay_block(

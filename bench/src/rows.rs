@@ -11,6 +11,7 @@ use crate::plain::trace::Tracer;
 use crate::plain::{maps, views};
 use compare::answer::Answer;
 use compare::paper::Mode;
+use pottagewing::{ARRIVALS_ROOM, Arrivals, IMAGE_LIMIT, WORD_BITS};
 use std::hint::black_box;
 use std::io::Write;
 use waterbear::disasm::{self, probe};
@@ -19,8 +20,10 @@ use waterbear::instruction::Instr;
 /// The original's mode: all rows are in it that do not say otherwise.
 pub const MODE: Mode = Mode::Unwrapped;
 
-/// More than the longest listing of an image of 65,536 bytes.
-pub const LONGEST_LISTING: usize = 1 << 23;
+/// Room for the longest listing of the longest image.
+pub const LONGEST_LISTING: usize = ARRIVALS_ROOM * IMAGE_LIMIT;
+/// The choice of a listing without arrivals.
+pub const DECLINED: u32 = Arrivals::Declined as u32;
 
 /// What is measured, in the order of the report.
 #[derive(Clone, Copy, PartialEq, Debug)]
@@ -115,7 +118,7 @@ fn decoding() -> Sides<'static, Case> {
 }
 
 pub fn running() -> Sides<'static, Case> {
-    let (mut marks, mut order) = (vec![0; 65_536], vec![0; 65_536]);
+    let (mut marks, mut order) = (vec![0; IMAGE_LIMIT], vec![0; IMAGE_LIMIT]);
     let mut tracer = Tracer::default();
     [
         Some(Box::new(move |case| {
@@ -133,7 +136,7 @@ pub fn running() -> Sides<'static, Case> {
 
 /// From entry 0, without the original.
 pub fn running_alone() -> Sides<'static, Vec<u8>> {
-    let (mut marks, mut order) = (vec![0; 65_536], vec![0; 65_536]);
+    let (mut marks, mut order) = (vec![0; IMAGE_LIMIT], vec![0; IMAGE_LIMIT]);
     let mut tracer = Tracer::default();
     [
         Some(Box::new(move |image| {
@@ -149,7 +152,7 @@ pub fn running_alone() -> Sides<'static, Vec<u8>> {
 
 /// The original does not sweep.
 fn sweeping() -> Sides<'static, Case> {
-    let mut marks = vec![0; 65_536];
+    let mut marks = vec![0; IMAGE_LIMIT];
     let mut sweeper = Sweeper::default();
     [
         Some(Box::new(move |case| {
@@ -170,7 +173,7 @@ fn sweeping() -> Sides<'static, Case> {
 
 /// From entry 0.
 pub fn sweeping_alone() -> Sides<'static, Vec<u8>> {
-    let mut marks = vec![0; 65_536];
+    let mut marks = vec![0; IMAGE_LIMIT];
     let mut sweeper = Sweeper::default();
     [
         Some(Box::new(move |image| {
@@ -189,7 +192,7 @@ fn run(mode: Mode, case: &Case, marks: &mut [u8], order: &mut [u32]) -> Answer {
 }
 
 fn running_wrapping() -> Sides<'static, Case> {
-    let (mut marks, mut order) = (vec![0; 65_536], vec![0; 65_536]);
+    let (mut marks, mut order) = (vec![0; IMAGE_LIMIT], vec![0; IMAGE_LIMIT]);
     let ours = move |case: &Case| {
         black_box(run(Mode::Wrapping, case, &mut marks, &mut order));
     };
@@ -201,13 +204,19 @@ fn listing_wrapping() -> Sides<'static, Case> {
     let mut room = vec![0; LONGEST_LISTING];
     let ours = move |case: &Case| {
         let (image, marks) = (&case.image, &case.marks);
-        black_box(ours::listing(Mode::Wrapping, image, marks, 0, &mut room));
+        black_box(ours::listing(
+            Mode::Wrapping,
+            image,
+            marks,
+            DECLINED,
+            &mut room,
+        ));
     };
     [Some(Box::new(ours)), None, None]
 }
 
 fn masking() -> Sides<'static, Case> {
-    let mut room = vec![0; 65_536];
+    let mut room = vec![0; IMAGE_LIMIT];
     let mut mask = vec![];
     [
         Some(Box::new(move |case| {
@@ -224,7 +233,7 @@ fn masking() -> Sides<'static, Case> {
 }
 
 fn marking() -> Sides<'static, Case> {
-    let mut room = vec![0; 65_536];
+    let mut room = vec![0; IMAGE_LIMIT];
     let mut labels = vec![];
     [
         Some(Box::new(move |case| {
@@ -301,14 +310,20 @@ fn listing(arrivals: bool) -> Sides<'static, Case> {
 }
 
 fn whole() -> Sides<'static, Case> {
-    let (mut marks, mut order) = (vec![0; 65_536], vec![0; 65_536]);
+    let (mut marks, mut order) = (vec![0; IMAGE_LIMIT], vec![0; IMAGE_LIMIT]);
     let mut room = vec![0; LONGEST_LISTING];
     let (mut tracer, mut lister) = (Tracer::default(), Lister::default());
     let mut text = vec![];
     [
         Some(Box::new(move |case| {
             run(MODE, case, &mut marks, &mut order);
-            black_box(ours::listing(MODE, &case.image, &marks, 0, &mut room));
+            black_box(ours::listing(
+                MODE,
+                &case.image,
+                &marks,
+                DECLINED,
+                &mut room,
+            ));
         })),
         Some(Box::new(move |case| {
             text.clear();
@@ -325,7 +340,7 @@ fn whole() -> Sides<'static, Case> {
 
 /// The original reads no listing.
 fn reading_back() -> Sides<'static, Case> {
-    let (mut image, mut marks) = (vec![0; 65_536], vec![0; 65_536]);
+    let (mut image, mut marks) = (vec![0; IMAGE_LIMIT], vec![0; IMAGE_LIMIT]);
     let (mut plain_image, mut plain_marks) = (image.clone(), marks.clone());
     let mut reader = Reader::default();
     [
@@ -347,7 +362,7 @@ fn reading_back() -> Sides<'static, Case> {
 
 /// The original has no map.
 fn mapping() -> Sides<'static, Case> {
-    let mut room = vec![0; 1_024];
+    let mut room = vec![0; IMAGE_LIMIT / WORD_BITS];
     let mut words = vec![];
     [
         Some(Box::new(move |case| {

@@ -12,9 +12,9 @@ use compare::random::Random;
 use std::hint::black_box;
 
 const IMAGES: usize = 1_000;
-const LENGTH: usize = 16_384;
+const LENGTH: usize = pottagewing::MOST_BYTES;
 /// So many bytes on a line.
-const WIDTH: usize = 32;
+const WIDTH: usize = pottagewing::MOST_IN_LINE;
 /// For each image: more than a line has, and the one of the sums.
 const LINE: usize = 256;
 /// Images of the term that is changed at some places before anything is measured.

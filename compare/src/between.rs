@@ -14,14 +14,15 @@ use compare::images;
 use compare::paper::reached::{Follow, covered, fits, reached};
 use compare::paper::{Mode, tracer};
 use compare::random::Random;
+use pottagewing::Mark;
 use std::fmt::Debug;
 use ways::End;
 
 const IMAGES: u64 = 100_000;
-const WAITING: u8 = 1;
-const TRACED: u8 = 2;
-const UNFOLLOWED: u8 = 3;
-const PINNED: u8 = 4;
+const WAITING: u8 = Mark::Waiting as u8;
+const TRACED: u8 = Mark::Traced as u8;
+const UNFOLLOWED: u8 = Mark::Flash as u8;
+const PINNED: u8 = Mark::Pinned as u8;
 
 /// What is traced.
 struct Given {

@@ -7,7 +7,7 @@ use compare::random::Random;
 /// Bytes that matter in a listing, right ones and wrong ones.
 const TELLING: &[u8] = b"0123456789ABCDEFLOAID#@R?acdefilo\t\t\n\n\r \0\0\x7F\xFF";
 /// The highest position.
-const HIGHEST: usize = 65_535;
+const HIGHEST: usize = pottagewing::HIGHEST_ADDRESS as usize;
 
 /// The text with a change, seldom with two or three. What is put in is listed in this mode.
 pub fn text(mode: Mode, random: &mut Random, image: &[u8], text: &[u8]) -> Vec<u8> {

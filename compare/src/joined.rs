@@ -10,6 +10,7 @@ use compare::answer::Answer;
 use compare::images::{self, KINDS};
 use compare::paper::{Mode, map};
 use compare::random::Random;
+use pottagewing::Mark;
 
 const PAIRS: u64 = 100_000;
 /// Of so many images the last leads over the end of memory, and the last but one is long. The others are short.
@@ -18,9 +19,9 @@ const TURNS: u64 = 128;
 const LONG: [usize; 3] = [1_000, 3_000, 8_000];
 const SHORT: u64 = 40;
 const NO_LIMIT: u32 = u32::MAX;
-const WAITING: u8 = 1;
-const TRACED: u8 = 2;
-const PINNED: u8 = 4;
+const WAITING: u8 = Mark::Waiting as u8;
+const TRACED: u8 = Mark::Traced as u8;
+const PINNED: u8 = Mark::Pinned as u8;
 /// The exception's bytes, and what else may stand in the place of each.
 const FLASH: [u8; 3] = [0xB8, 0x0D, 0x21];
 const OTHERS: [u8; 3] = [0xB9, 0x0C, 0x20];

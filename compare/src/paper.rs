@@ -24,7 +24,7 @@ use std::ops::RangeInclusive;
 use std::sync::LazyLock;
 
 /// The highest base that resolving takes.
-pub const HIGHEST_BASE: u32 = 65_536;
+pub use pottagewing::HIGHEST_BASE;
 
 #[derive(Clone, Copy, PartialEq, Eq, Debug)]
 pub enum Kind {

@@ -35,7 +35,7 @@ const EVERY_SIZE: usize = 1_200;
 /// Of so many images one goes through the built listing program.
 const LISTED: u64 = 400;
 /// More than the listing program prints.
-const LISTING: usize = 983_040;
+const LISTING: usize = pottagewing::PRINTED_ROOM;
 /// So much of a text is shown.
 const SHOWN: usize = 240;
 

@@ -6,7 +6,7 @@ use compare::paper::flow;
 use compare::random::Random;
 
 /// The longest image.
-const LONGEST: usize = 65_536;
+const LONGEST: usize = pottagewing::IMAGE_LIMIT;
 /// The most bytes of code at an end: a short branch leads from any of them over the end of memory.
 const END: u64 = 126;
 const RET: u8 = 0xA0;

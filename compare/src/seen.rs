@@ -2,6 +2,7 @@
 //! their first visits, and the traced set. How many positions were noted and not taken up cannot.
 
 use crate::answer::Answer;
+use pottagewing::Mark;
 
 #[derive(PartialEq, Debug)]
 pub enum End {
@@ -34,12 +35,12 @@ impl Seen {
     /// Read off an answer, the marks of the image and the order list. `known` says whether the original
     /// tells which Jmpf were not followed.
     pub fn of(answer: &Answer, marks: &[u8], order: &[u32], known: bool) -> Seen {
-        let traced = with(marks, &[2, 3]);
+        let traced = with(marks, &[Mark::Traced as u8, Mark::Flash as u8]);
         Seen {
             end: end(answer),
             taken: order[..traced.len()].to_vec(),
             traced,
-            unfollowed: known.then(|| with(marks, &[3])),
+            unfollowed: known.then(|| with(marks, &[Mark::Flash as u8])),
         }
     }
 }

@@ -11,6 +11,7 @@ use compare::images::{self, FLASH, KINDS, TELLING};
 use compare::original::traced;
 use compare::paper::{Mode, flow, tracer};
 use compare::random::Random;
+use pottagewing::Mark;
 
 const CALLS: u64 = 1_000_000;
 const WALKS: u64 = 100_000;
@@ -20,7 +21,7 @@ const RINGS: u64 = 4_000;
 const RING_WALKS: u64 = 300;
 /// From so many positions at each end a short branch can leave memory.
 const END: u32 = 128;
-const WAITING: u8 = 1;
+const WAITING: u8 = Mark::Waiting as u8;
 /// A longer walk round takes too long.
 const MOST_STEPS: i64 = 600;
 /// The first byte of a Jmpf.

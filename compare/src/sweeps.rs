@@ -14,6 +14,7 @@ use compare::images::{self, Kind};
 use compare::original::traced::Told;
 use compare::paper::{Mode, sweep as paper, views};
 use compare::random::Random;
+use pottagewing::Mark;
 
 /// Numbers of their own, so that the other comparisons are the same with this one and without.
 const OWN: u64 = 0x5EED_50E3;
@@ -25,8 +26,8 @@ const AROUND: [u8; 8] = [0xB8, 0x0D, 0x21, 0x00, 0x01, 0x80, 0xF9, 0xA0];
 const FLASHING: u64 = 40_000;
 /// Images whose sweeps are counted beforehand.
 const PLANNED: u64 = 6_000;
-const WAITING: u8 = 1;
-const TRACED: u8 = 2;
+const WAITING: u8 = Mark::Waiting as u8;
+const TRACED: u8 = Mark::Traced as u8;
 
 /// Images and entries with nothing to sweep, nothing to take, or something cut off.
 const EDGES: [&[u8]; 7] = [

@@ -126,8 +126,8 @@ struct Counts {
     wrapping_differ: u64,
 }
 
-/// The documents' refusal numbers end at 22; any other number is counted in the last place.
-const NUMBERS: usize = 24;
+/// As many as the documents have refusals, and 0; any other number is counted in the last place.
+const NUMBERS: usize = Answer::SUM_FULL as usize + 2;
 const SHOWN: u64 = 20;
 
 /// What the runs came to.

@@ -20,7 +20,7 @@ const REPEATED: [&[u8]; 5] = [
     &[0x31, 0x00, 0x81],
     &[0x01, 0x7D, 0x00],
 ];
-const LONGEST: usize = 65_536;
+const LONGEST: usize = pottagewing::IMAGE_LIMIT;
 
 pub fn compare(tally: &mut Tally, random: &mut Random) {
     resolve::compare_wrapping(tally, random);

@@ -4,6 +4,7 @@ use super::{Log, by_blocks};
 use crate::ours;
 use crate::plain::replay::{Refused, Replayer, Totals};
 use compare::answer::Answer;
+use pottagewing::IMAGE_LIMIT;
 
 /// What a byte of a log is changed to.
 const CHANGES: &[u8; 8] = b"0137AFf\n";
@@ -33,7 +34,7 @@ pub fn whole(logs: &[Log]) -> Result<[f64; 2], &'static str> {
 /// After closing, the same as whole.
 pub fn in_blocks(logs: &[Log], size: usize) -> Result<(), &'static str> {
     for log in logs {
-        let mut counts = vec![0; 65_536];
+        let mut counts = vec![0; IMAGE_LIMIT];
         let answer = by_blocks(log, size, &mut counts);
         if (answer, counts) != both(log)? {
             return Err("a log in blocks");
@@ -43,7 +44,7 @@ pub fn in_blocks(logs: &[Log], size: usize) -> Result<(), &'static str> {
 }
 
 fn both(log: &Log) -> Result<Outcome, &'static str> {
-    let (mut counts, mut plain) = (vec![0; 65_536], vec![0; 65_536]);
+    let (mut counts, mut plain) = (vec![0; IMAGE_LIMIT], vec![0; IMAGE_LIMIT]);
     let answer = ours::replay(log.traced(), &log.text, &mut counts);
     let told = log.plain(&mut Replayer::default(), &mut plain);
     match (answer, &counts) == (plain_answer(told), &plain) {

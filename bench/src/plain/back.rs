@@ -5,10 +5,10 @@ use super::forms::{FORMS, MNEMONICS, Shape};
 use super::trace::TRACED;
 
 /// The most bytes on a `D` line, and of an instruction.
-const RUN: usize = 16;
-const LONGEST: usize = 3;
+const RUN: usize = pottagewing::RUN_LENGTH;
+const LONGEST: usize = pottagewing::INSTRUCTION_LENGTH;
 /// The end of memory.
-const MEMORY: usize = 65_536;
+const MEMORY: usize = pottagewing::IMAGE_LIMIT;
 
 /// The value of each digit; any other byte has one that is too high.
 static DIGITS: [u8; 256] = {

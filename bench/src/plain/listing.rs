@@ -5,7 +5,7 @@ use super::forms::{FORMS, Flow, MNEMONICS, Shape};
 use super::trace::{UNFOLLOWED, is_traced, named};
 use super::views;
 
-const RUN: usize = 16;
+const RUN: usize = pottagewing::RUN_LENGTH;
 const DIGITS: &[u8; 16] = b"0123456789ABCDEF";
 
 /// A writer with the memory that it uses again from one listing to the next.

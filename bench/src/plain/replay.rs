@@ -30,7 +30,7 @@ pub struct Replayer {
 impl Default for Replayer {
     fn default() -> Replayer {
         Replayer {
-            is_entry: vec![false; 65_536],
+            is_entry: vec![false; pottagewing::IMAGE_LIMIT],
         }
     }
 }

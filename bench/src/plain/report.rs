@@ -2,15 +2,11 @@
 
 use super::forms::FORMS;
 use super::trace::{Ended, Tracer, is_exempt, is_traced, named};
+use pottagewing::{Answer, LONGEST_NAME, MOST_BYTES, MOST_ENTRIES, MOST_IN_LINE};
 use std::io::Write;
 
-const MOST_ENTRIES: usize = 256;
-const MOST_IN_LINE: usize = 32;
-const MOST_BYTES: usize = 16_384;
-const LONGEST_NAME: usize = 32;
-
-const CUT_OFF: u32 = 5;
-const MALFORMED: u32 = 13;
+const CUT_OFF: u32 = Answer::CUT_OFF;
+const MALFORMED: u32 = Answer::MALFORMED_INPUT;
 
 /// The value of each hex digit, and 255 for all other bytes.
 const DIGITS: [u8; 256] = digits();

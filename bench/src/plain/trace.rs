@@ -1,12 +1,13 @@
 //! The tracer: one mark a position, and a worklist that is taken first come, first served.
 
 use super::forms::{FORMS, Flow, Form, Shape};
+use pottagewing::Mark;
 
-pub const UNTOUCHED: u8 = 0;
-pub const WAITING: u8 = 1;
-pub const TRACED: u8 = 2;
+pub const UNTOUCHED: u8 = Mark::Untouched as u8;
+pub const WAITING: u8 = Mark::Waiting as u8;
+pub const TRACED: u8 = Mark::Traced as u8;
 /// A traced Jmpf that is not followed.
-pub const UNFOLLOWED: u8 = 3;
+pub const UNFOLLOWED: u8 = Mark::Flash as u8;
 
 #[derive(Clone, Copy, PartialEq, Debug)]
 pub enum Ended {

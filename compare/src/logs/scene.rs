@@ -6,14 +6,15 @@ use compare::images::{self, KINDS};
 use compare::paper::replay::Traced;
 use compare::paper::{Mode, flow, tracer};
 use compare::random::Random;
+use pottagewing::Mark;
 use std::sync::LazyLock;
 
 /// The lengths of the images that look like games.
 const GAMES: [usize; 3] = [1_024, 4_096, 16_384];
 /// The most entries of the listing program.
 const MANY: u64 = 256;
-const TRACED: u8 = 2;
-const UNFOLLOWED: u8 = 3;
+const TRACED: u8 = Mark::Traced as u8;
+const UNFOLLOWED: u8 = Mark::Flash as u8;
 
 /// An image, traced from entries.
 pub struct Scene {

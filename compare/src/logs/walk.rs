@@ -7,7 +7,7 @@ use compare::random::Random;
 /// One move in so many is an interrupt, where there is an entry to come to.
 const INTERRUPTS: u64 = 12;
 /// A line tells one of so many positions.
-const MEMORY: usize = 65_536;
+const MEMORY: usize = pottagewing::IMAGE_LIMIT;
 /// One return in so many goes to an entry.
 const TO_ENTRY: u64 = 4;
 

@@ -15,7 +15,7 @@ const OVERLAPS: &str = "Overlaps with: ";
 const ARRIVALS: &str = "Arrived from: ";
 const LABEL: &str = "label_";
 /// The highest position that a target is printed for.
-const HIGHEST: i64 = 65_535;
+const HIGHEST: i64 = pottagewing::HIGHEST_ADDRESS as i64;
 
 /// The listing of an image that the original traces to its end, which it does here without a limit.
 pub fn text(entries: &[u32], image: &[u8], arrivals: bool) -> String {

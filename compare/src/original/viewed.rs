@@ -4,7 +4,7 @@ use crate::answer::Answer;
 use waterbear::disasm::probe::{self, Graph};
 
 /// The longest data run that the original prints.
-const RUN: usize = 16;
+const RUN: usize = pottagewing::RUN_LENGTH;
 
 pub fn mask(graph: &Graph, image: &[u8]) -> Vec<u8> {
     graph.mask(image).into_iter().map(u8::from).collect()

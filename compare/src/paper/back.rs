@@ -3,11 +3,12 @@
 use super::input::{self, lines};
 use super::{Mode, flow, listing, tracer};
 use crate::answer::Answer;
+use pottagewing::Mark;
 
 /// The most bytes on a `D` line.
-const MOST_BYTES: usize = 16;
+const MOST_BYTES: usize = pottagewing::RUN_LENGTH;
 /// An instruction's mark.
-const TRACED: u8 = 2;
+const TRACED: u8 = Mark::Traced as u8;
 
 /// Fills the rooms up to the length, or leaves them and says why not.
 pub fn read(mode: Mode, text: &[u8], length: usize, image: &mut [u8], marks: &mut [u8]) -> Answer {

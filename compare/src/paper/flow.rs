@@ -6,7 +6,7 @@ use crate::answer::Answer;
 use crate::original;
 
 /// The end of memory: no instruction asked for alone may end past it.
-const MEMORY: i64 = 65_536;
+const MEMORY: i64 = pottagewing::HIGHEST_ADDRESS as i64 + 1;
 
 /// Where control goes from an instruction.
 #[derive(Clone, Copy, PartialEq, Debug)]

@@ -1,8 +1,6 @@
 //! Document 01's input of the listing program, written out a second time and plainly.
 
-pub const MOST_ENTRIES: usize = 256;
-pub const MOST_IN_LINE: usize = 32;
-pub const MOST_BYTES: usize = 16_384;
+pub use pottagewing::{MOST_BYTES, MOST_ENTRIES, MOST_IN_LINE};
 
 pub struct Input {
     pub entries: Vec<u32>,

@@ -6,7 +6,7 @@ use super::views;
 use crate::answer::Answer;
 
 /// The bits of a word.
-const BITS: usize = 64;
+const BITS: usize = pottagewing::WORD_BITS;
 
 /// What is asked of a map: whether a position is code, how many positions of a stretch are, and which one
 /// from a position on is the first that is not.

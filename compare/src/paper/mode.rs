@@ -1,7 +1,7 @@
 //! Document 02's two modes, W7: what becomes of a short branch, and of next, at the ends of memory.
 
 /// The positions of memory.
-const MEMORY: i64 = 65_536;
+const MEMORY: i64 = pottagewing::HIGHEST_ADDRESS as i64 + 1;
 
 #[derive(Clone, Copy, PartialEq, Eq, Debug)]
 pub enum Mode {

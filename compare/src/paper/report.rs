@@ -6,7 +6,7 @@ use crate::answer::Answer;
 use std::fmt::Write;
 
 /// The longest name.
-pub const LONGEST_NAME: usize = 32;
+pub use pottagewing::LONGEST_NAME;
 /// Length, steps, code bytes, data bytes, bytes under more than one instruction, target marks.
 pub const FIGURES: usize = 6;
 

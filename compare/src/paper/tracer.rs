@@ -2,15 +2,16 @@
 
 use super::{Mode, flow};
 use crate::answer::Answer;
+use pottagewing::Mark;
 
 /// The longest image.
-pub const LONGEST: usize = 65_536;
+pub const LONGEST: usize = pottagewing::IMAGE_LIMIT;
 
-const UNTOUCHED: u8 = 0;
-const WAITING: u8 = 1;
-const TRACED: u8 = 2;
-pub(super) const UNFOLLOWED: u8 = 3;
-pub(super) const PINNED: u8 = 4;
+const UNTOUCHED: u8 = Mark::Untouched as u8;
+const WAITING: u8 = Mark::Waiting as u8;
+const TRACED: u8 = Mark::Traced as u8;
+pub(super) const UNFOLLOWED: u8 = Mark::Flash as u8;
+pub(super) const PINNED: u8 = Mark::Pinned as u8;
 
 fn length(number: u32, length: usize) -> Option<Answer> {
     Some(Answer::new(number, &[length as i64]))

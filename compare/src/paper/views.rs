@@ -6,7 +6,7 @@ use super::tracer::{self, PINNED, UNFOLLOWED};
 use crate::answer::Answer;
 
 /// The longest data run.
-const RUN: usize = 16;
+const RUN: usize = pottagewing::RUN_LENGTH;
 /// The first byte of a Jmpf.
 const JMPF: u8 = 0x21;
 

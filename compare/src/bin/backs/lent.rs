@@ -14,7 +14,12 @@ const LENGTHS: [(&str, usize, u32, usize); 9] = [
         2,
     ),
     ("a length before the data", 2, Answer::LINE_PAST_END, 3),
-    ("a length inside an instruction", 6, Answer::LINE_PAST_END, 6),
+    (
+        "a length inside an instruction",
+        6,
+        Answer::LINE_PAST_END,
+        6,
+    ),
     ("a byte less", 7, Answer::LINE_PAST_END, 7),
     ("a byte more", 9, Answer::DONE, 7),
     ("1,000 bytes", 1_000, Answer::DONE, 7),

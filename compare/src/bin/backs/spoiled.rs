@@ -126,6 +126,8 @@ pub fn cases() -> Vec<Case> {
     ];
     let cases = spoiled.chain(further);
     cases
-        .map(|(about, line, text)| Case::new(about, &text, length).answers(Answer::MALFORMED_LINE, line))
+        .map(|(about, line, text)| {
+            Case::new(about, &text, length).answers(Answer::MALFORMED_LINE, line)
+        })
         .collect()
 }

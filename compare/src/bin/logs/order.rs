@@ -65,7 +65,8 @@ fn between() -> Vec<Case> {
     vec![
         example("not traced, and then malformed", &untraced).answers(Answer::NOT_TRACED, &[2]),
         example("malformed, and then not traced", &malformed).answers(Answer::MALFORMED_LOG, &[2]),
-        example("no move, and then a part of a line", &forbidden).answers(Answer::FORBIDDEN_MOVE, &[2]),
+        example("no move, and then a part of a line", &forbidden)
+            .answers(Answer::FORBIDDEN_MOVE, &[2]),
         example("no move, and its count full", &log(&[0, 5]))
             .counted(5, full)
             .answers(Answer::FORBIDDEN_MOVE, &[2]),

@@ -7,7 +7,7 @@ use compare::answer::Answer;
 const DONE: u32 = Answer::DONE;
 const UNTRACED: u32 = Answer::NOT_TRACED;
 const FORBIDDEN: u32 = Answer::FORBIDDEN_MOVE;
-const LAST: usize = 65_535;
+const LAST: usize = pottagewing::HIGHEST_ADDRESS as usize;
 
 /// A Br to -1, which is FFFF, and at FFFF a Nop.
 const BACK: (&[u8], &[u8]) = (&[0x01, 0xFD], &[0x00]);

@@ -8,6 +8,7 @@ use compare::images::{self, KINDS, Kind};
 use compare::original::traced;
 use compare::paper::{Mode, sweep, tracer};
 use compare::random::Random;
+use pottagewing::Mark;
 
 /// The original's mode, in which it is asked what it traced.
 const MODE: Mode = Mode::Unwrapped;
@@ -18,8 +19,8 @@ const TURNING: usize = 8;
 const SHORTEST: usize = 5;
 const SEED: u64 = 6;
 /// The marks of a position that waits, and of one that is traced.
-const WAITING: u8 = 1;
-const TRACED: u8 = 2;
+const WAITING: u8 = Mark::Waiting as u8;
+const TRACED: u8 = Mark::Traced as u8;
 
 /// An image swept by hand, from entry 0: a Br to 5, an Inc, a Bz to 7, a Br to 2, a Ret.
 const BY_HAND: [u8; 8] = [0x01, 0x03, 0x64, 0x80, 0x02, 0x01, 0xFB, 0xA0];
