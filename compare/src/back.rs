@@ -4,6 +4,7 @@
 use crate::changed;
 use crate::lent::Lent;
 use crate::ours;
+use crate::share;
 use crate::tally::{Call, Judge, Tally};
 use crate::views;
 use compare::answer::Answer;
@@ -88,7 +89,7 @@ impl Listed<'_> {
     fn all(&self, tally: &mut Tally, random: &mut Random, changes: u64) {
         self.whole(tally, random);
         let own = self.image.len();
-        for _ in 0..changes {
+        for _ in 0..share::times(changes) {
             let changed = self.changed(random);
             Given::new(random, self.mode, &changed, own).changed(tally);
         }

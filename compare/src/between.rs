@@ -7,6 +7,7 @@ mod made;
 mod ways;
 
 use crate::ours;
+use crate::share;
 use crate::steps::shown;
 use crate::tally::{Call, Judge, Tally};
 use compare::answer::Answer;
@@ -47,7 +48,7 @@ struct Sets {
 struct Fault(&'static str, &'static str, Vec<u32>);
 
 pub fn compare(tally: &mut Tally, random: &mut Random) {
-    for turn in 0..IMAGES {
+    for turn in 0..share::times(IMAGES) {
         let given = made::given(random, turn);
         between(tally, random, &given);
         ceilings::compare(tally, random, &given);

@@ -2,6 +2,7 @@
 
 use crate::encode;
 use crate::ours;
+use crate::share;
 use crate::tally::{Call, Judge, Tally};
 use compare::original;
 use compare::random::Random;
@@ -12,7 +13,7 @@ pub fn compare(tally: &mut Tally, random: &mut Random) {
         one(tally, &[a], random);
         for b in 0..=255 {
             one(tally, &[a, b], random);
-            for c in 0..=255 {
+            for c in (0..=255).step_by(share::stride()) {
                 one(tally, &[a, b, c], random);
             }
         }

@@ -2,6 +2,7 @@
 
 use crate::ours;
 use crate::room::{LONGEST, Room};
+use crate::share;
 use crate::tally::{Call, Judge, Tally};
 use compare::answer::Answer;
 use compare::original;
@@ -17,12 +18,12 @@ pub fn compare(tally: &mut Tally, random: &mut Random) {
         let lists: Vec<Vec<i32>> = kinds.iter().map(|kind| values::fields(*kind)).collect();
         let firsts = original::firsts(form);
         values::products(&lists, &mut |fields| {
-            for length in 0..=LONGEST {
+            for length in (0..=LONGEST).filter(|_| share::is_tried()) {
                 one(tally, random.pick(firsts), fields, length, random.any());
             }
         });
     }
-    for _ in 0..RANDOM_CALLS {
+    for _ in 0..share::times(RANDOM_CALLS) {
         let first = random.any() as u8;
         let kinds = paper::kinds(original::form(first));
         let fields = random.numbers(kinds, |kind| kind.fields());

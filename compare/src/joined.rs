@@ -4,6 +4,7 @@
 use crate::lent::Lent;
 use crate::ours;
 use crate::rings;
+use crate::share;
 use crate::steps::shown;
 use crate::tally::{Call, Judge, Tally};
 use compare::answer::Answer;
@@ -57,7 +58,7 @@ struct Said {
 }
 
 pub fn compare(tally: &mut Tally, random: &mut Random) {
-    for turn in 0..PAIRS {
+    for turn in 0..share::times(PAIRS) {
         let image = image(random, turn);
         pair(tally, random, &image);
     }

@@ -4,6 +4,7 @@
 use crate::lent::Lent;
 use crate::ours;
 use crate::program::{Printed, Program};
+use crate::share;
 use crate::tally::{Call, Judge, Tally};
 use crate::texts;
 use crate::views::{self, Outcome};
@@ -26,7 +27,7 @@ const SHOWN: usize = 240;
 pub fn compare(tally: &mut Tally, random: &mut Random) {
     let program = Program::list();
     for (make, count, of) in TEXTS {
-        for turn in 0..count {
+        for turn in 0..share::times(count) {
             let text = make(random);
             let printed = listing::output(&text);
             tally.texts.count(&text, &printed);

@@ -12,6 +12,7 @@ mod walk;
 use crate::lent::Lent;
 use crate::ours;
 use crate::rings;
+use crate::share;
 use crate::steps::shown;
 use crate::tally::{Call, Judge, Tally};
 use crate::views::{self, Outcome};
@@ -41,7 +42,7 @@ const SHOWN: usize = 240;
 pub fn compare(tally: &mut Tally, random: &mut Random) {
     every::compare(tally, random);
     for (make, scenes, logs, most) in WALKED {
-        for _ in 0..scenes {
+        for _ in 0..share::times(scenes) {
             let scene = make(random);
             (0..logs).for_each(|_| walked(tally, random, &scene, most));
             leaving(tally, random, &scene);

@@ -1,5 +1,5 @@
-//! Compares our archive with the original: `compare [SEED]`. The last line says how many calls were
-//! compared and how many differ; the exit status is 1 if any does.
+//! Compares our archive with the original: `compare [SEED]`, or `compare --short [SEED]`, in a part of the calls. The last line
+//! says how many calls were compared and how many differ; the exit status is 1 if any does.
 
 mod back;
 mod between;
@@ -20,6 +20,7 @@ mod resolve;
 mod rings;
 mod room;
 mod run;
+mod share;
 mod steps;
 mod sweeps;
 mod tally;
@@ -35,7 +36,11 @@ use compare::random::Random;
 use std::process::ExitCode;
 
 fn main() -> ExitCode {
-    let seed: u64 = match std::env::args().nth(1).map(|word| word.parse()) {
+    let mut words = std::env::args().skip(1).peekable();
+    if words.next_if_eq("--short").is_some() {
+        share::shorten();
+    }
+    let seed: u64 = match words.next().map(|word| word.parse()) {
         None => 1,
         Some(Ok(seed)) => seed,
         Some(Err(_)) => {

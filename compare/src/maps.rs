@@ -6,6 +6,7 @@ mod queries;
 use crate::lent::Lent;
 use crate::ours;
 use crate::run;
+use crate::share;
 use crate::steps::shown;
 use crate::tally::{Call, Judge, Tally};
 use crate::views::{self, Outcome};
@@ -39,7 +40,7 @@ const NOP: u8 = 0x00;
 pub fn compare(tally: &mut Tally, random: &mut Random) {
     for (low, high, count) in LENGTHS {
         for length in low..=high {
-            for turn in 0..count {
+            for turn in 0..share::times(count) {
                 let image = image(random, length, turn);
                 of_trace(tally, random, &image);
                 of_step(tally, random, &image);
@@ -49,7 +50,7 @@ pub fn compare(tally: &mut Tally, random: &mut Random) {
         }
     }
     queries::compare(tally, random);
-    (0..WALKS).for_each(|_| walk(tally, random));
+    (0..share::times(WALKS)).for_each(|_| walk(tally, random));
 }
 
 /// One of each kind in turn, and then one that is code from 0 up to some position.

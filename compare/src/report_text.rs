@@ -4,6 +4,7 @@
 use crate::lent::Lent;
 use crate::ours;
 use crate::program::{Printed, Program};
+use crate::share;
 use crate::tally::{Call, Judge, Tally};
 use crate::terms;
 use crate::views::{self, Outcome};
@@ -57,7 +58,7 @@ pub fn compare(tally: &mut Tally, random: &mut Random) {
         room: vec![0; LISTING],
     };
     for (make, count, of) in TEXTS {
-        for turn in 0..count {
+        for turn in 0..share::times(count) {
             let text = make(reports.random);
             let printed = report::output(&text);
             reports.one(&text, &printed);
@@ -173,7 +174,7 @@ impl Reports<'_> {
             text.extend(terms::mixed(self.random));
         }
         let printed = report::output(&text);
-        for block in 1..=text.len() + 1 {
+        for block in (1..=text.len() + 1).step_by(share::stride()) {
             self.through(&text, &printed, block);
         }
     }

@@ -3,6 +3,7 @@
 //! document 02 judges alone.
 
 use crate::ours;
+use crate::share;
 use crate::tally::{Call, Judge, Tally};
 use compare::answer::Answer;
 use compare::original::{self, Resolver};
@@ -73,7 +74,9 @@ impl Comparison<'_> {
             let kinds = paper::kinds(form).iter();
             let lists: Vec<Vec<i32>> = kinds.map(|kind| values::operands(*kind, base)).collect();
             values::products(&lists, &mut |operands| {
-                self.one(random.pick(firsts), operands, base);
+                if share::is_tried() {
+                    self.one(random.pick(firsts), operands, base);
+                }
             });
         }
     }
@@ -82,7 +85,7 @@ impl Comparison<'_> {
     fn every_address(&mut self, form: usize, last: usize) {
         let first = original::firsts(form)[0];
         for base in SOME_BASES {
-            for address in -300..=65_836 {
+            for address in (-300..=65_836).step_by(share::stride()) {
                 self.one(first, with(last, address), base);
             }
         }
@@ -90,7 +93,7 @@ impl Comparison<'_> {
 
     fn every_base(&mut self, form: usize, last: usize) {
         let first = original::firsts(form)[0];
-        for base in 0..=65_540 {
+        for base in (0..=65_540).step_by(share::stride()) {
             for address in values::addresses(base) {
                 self.one(first, with(last, address), base);
             }
@@ -100,7 +103,7 @@ impl Comparison<'_> {
     /// Every offset near a short one, on either side of both ends, and where the difference turns.
     fn ends(&mut self, form: usize, last: usize) {
         let first = original::firsts(form)[0];
-        for base in ENDS.into_iter().flatten() {
+        for base in ENDS.into_iter().flatten().step_by(share::stride()) {
             for address in values::wrapping_addresses(base) {
                 self.one(first, with(last, address), base);
             }
@@ -108,7 +111,7 @@ impl Comparison<'_> {
     }
 
     fn random(&mut self, random: &mut Random, calls: u64) {
-        for _ in 0..calls {
+        for _ in 0..share::times(calls) {
             let first = random.any() as u8;
             let base = random.base();
             let kinds = paper::kinds(original::form(first));

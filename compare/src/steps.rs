@@ -5,6 +5,7 @@
 use crate::lent::Lent;
 use crate::ours;
 use crate::rings;
+use crate::share;
 use crate::tally::{Call, Judge, Tally};
 use compare::answer::Answer;
 use compare::images::{self, FLASH, KINDS, TELLING};
@@ -30,7 +31,7 @@ const JMPF: u8 = 0x21;
 const ENOUGH: u64 = 4_000;
 
 pub fn compare(tally: &mut Tally, random: &mut Random) {
-    for turn in 0..CALLS {
+    for turn in 0..share::times(CALLS) {
         let image = short(random);
         match turn % 4 {
             0 => start(tally, random, &image),
@@ -38,22 +39,22 @@ pub fn compare(tally: &mut Tally, random: &mut Random) {
         }
     }
     long(tally, random);
-    for _ in 0..WALKS {
+    for _ in 0..share::times(WALKS) {
         walk(tally, random);
     }
 }
 
 pub fn compare_wrapping(tally: &mut Tally, random: &mut Random) {
-    for _ in 0..WRAPPING_CALLS {
+    for _ in 0..share::times(WRAPPING_CALLS) {
         let image = short(random);
         step(Mode::Wrapping, tally, random, &image);
     }
-    for _ in 0..RINGS {
+    for _ in 0..share::times(RINGS) {
         let (image, _) = rings::image(random);
         step(Mode::Wrapping, tally, random, &image);
         leave(tally, random, &image);
     }
-    for _ in 0..RING_WALKS {
+    for _ in 0..share::times(RING_WALKS) {
         walk_round(tally, random);
     }
 }

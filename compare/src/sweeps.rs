@@ -7,6 +7,7 @@ mod planned;
 use crate::lent::Lent;
 use crate::ours;
 use crate::run;
+use crate::share;
 use crate::steps;
 use crate::tally::{Call, Judge, Tally};
 use compare::answer::Answer;
@@ -102,20 +103,20 @@ pub fn wrapping(tally: &mut Tally, random: &mut Random, image: &[u8], entries: &
 pub fn compare(tally: &mut Tally, random: &mut Random) {
     for image in EDGES {
         for entries in EDGE_ENTRIES {
-            for _ in 0..16 {
+            for _ in 0..share::times(16) {
                 Given::new(random, image, entries).compare(tally, None);
             }
         }
     }
     lengths(tally, random);
     around(tally, random);
-    for _ in 0..FLASHING {
+    for _ in 0..share::times(FLASHING) {
         let length = random.below(64) as usize;
         let image = images::image(Kind::Flashing, length, random);
         let entries = images::entries(length, random);
         Given::new(random, &image, &entries).compare(tally, None);
     }
-    for turn in 0..PLANNED {
+    for turn in 0..share::times(PLANNED) {
         planned(tally, random, turn);
     }
 }
@@ -154,7 +155,7 @@ fn lengths(tally: &mut Tally, random: &mut Random) {
 
 /// B8 0D 21 to each position of ten bytes, with every four bytes around it.
 fn around(tally: &mut Tally, random: &mut Random) {
-    for bytes in images::strings(&AROUND, 4) {
+    for bytes in images::strings(&AROUND, 4).step_by(share::stride()) {
         let [a, b, c, d] = bytes[..] else {
             unreachable!("strings of four");
         };

@@ -2,6 +2,7 @@
 //! some fields, and random ones; in wrapping mode too, where document 02 judges alone.
 
 use crate::ours;
+use crate::share;
 use crate::tally::{Call, Judge, Tally};
 use compare::answer::Answer;
 use compare::original;
@@ -59,7 +60,7 @@ fn in_mode(mode: Mode, tally: &mut Tally, random: &mut Random, calls: u64) {
         limits(mode, tally, random, form);
         every_position(mode, tally, form);
     }
-    for _ in 0..calls {
+    for _ in 0..share::times(calls) {
         let first = random.any() as u8;
         let kinds = paper::kinds(original::form(first));
         let fields = random.numbers(kinds, |kind| kind.fields());
@@ -73,7 +74,7 @@ fn limits(mode: Mode, tally: &mut Tally, random: &mut Random, form: usize) {
     let kinds = paper::kinds(form).iter();
     let lists: Vec<Vec<i32>> = kinds.map(|kind| values::fields(*kind)).collect();
     values::products(&lists, &mut |fields| {
-        for position in POSITIONS {
+        for position in POSITIONS.into_iter().filter(|_| share::is_tried()) {
             one(mode, tally, random.pick(firsts), fields, position);
         }
     });
@@ -81,7 +82,7 @@ fn limits(mode: Mode, tally: &mut Tally, random: &mut Random, form: usize) {
 
 fn every_position(mode: Mode, tally: &mut Tally, form: usize) {
     let first = original::firsts(form)[0];
-    for position in 0..=65_540 {
+    for position in (0..=65_540).step_by(share::stride()) {
         for end in [low, high] {
             one(mode, tally, first, paper::numbers(form, end), position);
         }
@@ -92,7 +93,7 @@ fn every_position(mode: Mode, tally: &mut Tally, form: usize) {
 fn every_offset(tally: &mut Tally, form: usize) {
     let first = original::firsts(form)[0];
     for position in ENDS.into_iter().flatten() {
-        for offset in -128..=127 {
+        for offset in (-128..=127).step_by(share::stride()) {
             let fields = paper::numbers(form, |kind| match kind {
                 Kind::Short => offset,
                 _ => low(kind),

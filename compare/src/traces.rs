@@ -1,6 +1,7 @@
 //! Whole traces: short images exhaustively, and images by chance of every length around each limit.
 
 use crate::run;
+use crate::share;
 use crate::tally::Tally;
 use compare::images::{self, FLASH, KINDS, TELLING};
 use compare::random::Random;
@@ -38,11 +39,11 @@ impl Traces<'_> {
         self.each(&[], &[&[], &[0, 1]]);
         for a in 0..=255 {
             self.each(&[a], &[&[], &[0], &[0, 0], &[1, 0]]);
-            for b in 0..=255 {
+            for b in (0..=255).step_by(share::stride()) {
                 self.each(&[a, b], &[&[0], &[1], &[0, 1], &[1, 0, 1]]);
             }
             for b in TELLING {
-                for c in TELLING {
+                for c in TELLING.into_iter().step_by(share::stride()) {
                     self.each(&[a, b, c], &[&[0], &[2, 0, 1]]);
                 }
             }
@@ -50,7 +51,7 @@ impl Traces<'_> {
     }
 
     fn every_string(&mut self, alphabet: &[u8], length: u32, lists: &[&[u32]]) {
-        for image in images::strings(alphabet, length) {
+        for image in images::strings(alphabet, length).step_by(share::stride()) {
             self.each(&image, lists);
         }
     }
@@ -58,7 +59,7 @@ impl Traces<'_> {
     fn by_chance(&mut self) {
         for (low, high, count) in LENGTHS {
             for length in low..=high {
-                for turn in 0..count * KINDS.len() as u64 {
+                for turn in 0..share::times(count) * KINDS.len() as u64 {
                     let kind = KINDS[turn as usize % KINDS.len()];
                     let image = images::image(kind, length, self.random);
                     let entries = images::entries(length, self.random);

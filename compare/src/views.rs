@@ -6,6 +6,7 @@ use crate::lent::Lent;
 use crate::listing;
 use crate::ours;
 use crate::rings;
+use crate::share;
 use crate::steps::{self, shown};
 use crate::tally::{Call, Judge, Tally};
 use compare::answer::Answer;
@@ -135,28 +136,28 @@ fn position(random: &mut Random, length: usize, noted: &[u32]) -> u32 {
 
 pub fn compare(tally: &mut Tally, random: &mut Random) {
     let mode = Mode::Unwrapped;
-    for _ in 0..CALLS {
+    for _ in 0..share::times(CALLS) {
         let image = steps::short(random);
         any_marks(mode, tally, random, &image);
     }
     for length in 65_530..=65_540 {
         for kind in KINDS {
             let image = images::image(kind, length, random);
-            (0..8).for_each(|_| any_marks(mode, tally, random, &image));
+            (0..share::times(8)).for_each(|_| any_marks(mode, tally, random, &image));
         }
     }
-    for _ in 0..RUNS {
+    for _ in 0..share::times(RUNS) {
         any_mask(tally, random);
     }
 }
 
 /// Over marks of any content.
 pub fn compare_wrapping(tally: &mut Tally, random: &mut Random) {
-    for _ in 0..WRAPPING_CALLS {
+    for _ in 0..share::times(WRAPPING_CALLS) {
         let image = steps::short(random);
         any_marks(Mode::Wrapping, tally, random, &image);
     }
-    for _ in 0..RINGS {
+    for _ in 0..share::times(RINGS) {
         let (image, _) = rings::image(random);
         any_marks(Mode::Wrapping, tally, random, &image);
     }

@@ -2,6 +2,7 @@
 //! Where nothing leaves memory, our two modes are held against each other.
 
 use crate::rings;
+use crate::share;
 use crate::tally::Tally;
 use crate::{resolve, run, steps, sweeps, targets, views};
 use compare::random::Random;
@@ -29,7 +30,7 @@ pub fn compare(tally: &mut Tally, random: &mut Random) {
     views::compare_wrapping(tally, random);
     leaving(tally, random);
     repeated(tally, random);
-    for _ in 0..RINGS {
+    for _ in 0..share::times(RINGS) {
         let (image, entries) = rings::image(random);
         one(tally, random, &image, &entries);
     }
@@ -54,7 +55,7 @@ fn one(tally: &mut Tally, random: &mut Random, image: &[u8], entries: &[u32]) {
 
 /// Short images with a branch of each offset, which leaves memory below 0: it has no target inside, and is listed.
 fn leaving(tally: &mut Tally, random: &mut Random) {
-    for offset in 0..=255 {
+    for offset in (0..=255).step_by(share::stride()) {
         for image in [
             &[0x01, offset][..],
             &[0x80, offset, 0xA0],

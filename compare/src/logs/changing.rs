@@ -6,6 +6,7 @@ use super::scene::{self, Scene};
 use super::{spoil, walk};
 use crate::lent::Lent;
 use crate::ours::Record;
+use crate::share;
 use crate::steps::shown;
 use crate::tally::{Call, Judge, Tally};
 use compare::answer::Answer;
@@ -24,8 +25,8 @@ const COUNTS: usize = 44;
 struct Fed(Vec<Answer>, Lent<u64>);
 
 pub fn compare(tally: &mut Tally, random: &mut Random) {
-    (0..LOGS).for_each(|_| other_lent(tally, random));
-    (0..MADE_UP).for_each(|_| made_up(tally, random));
+    (0..share::times(LOGS)).for_each(|_| other_lent(tally, random));
+    (0..share::times(MADE_UP)).for_each(|_| made_up(tally, random));
 }
 
 /// A text and the scene that is lent with it.

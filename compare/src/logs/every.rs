@@ -3,6 +3,7 @@
 use super::scene::{self, Scene};
 use super::{Given, spoil, walk};
 use crate::lent::Lent;
+use crate::share;
 use crate::tally::Tally;
 use compare::random::Random;
 
@@ -35,7 +36,7 @@ pub fn compare(tally: &mut Tally, random: &mut Random) {
         let text = walk::text(positions);
         changes(tally, random, (&scene, entries), &text);
     }
-    for _ in 0..IMAGES {
+    for _ in 0..share::times(IMAGES) {
         moves(tally, random);
     }
 }
