@@ -6,8 +6,8 @@
 
 /* A br at 0 to -3, at 65,533 a bz to 65,536, and a nop at 65,535. Wrapping, each leads over the end of memory. */
 #define LENGTH PW_IMAGE_LIMIT
-#define BZ_AT 65533
-#define NOP_AT 65535
+#define BZ_AT (PW_IMAGE_LIMIT - 3)
+#define NOP_AT PW_HIGHEST_ADDRESS
 
 #define UNWRAPPED_TEXT "I\t0000\t01FB\tbr\t?\nI\tFFFD\t8001\tbz\t?\nA\tFFFF\tFFFD\nI\tFFFF\t00\tnop\n"
 #define WRAPPING_TEXT \

@@ -1,5 +1,5 @@
-/* The values of the header's names, against what the library answers. Refusals, marks, modes and choices are seen in the other parts; a sum that
- * passes 64 bits, PW_SUM_FULL, needs more text than a memory holds and is seen in none. */
+/* The values of the header's names, against what the library answers. Refusals, marks, modes and choices are seen in the other parts. A sum
+ * that passes 64 bits needs more text than a memory holds: its number is held against document 02 alone. */
 #include <ctype.h>
 #include <stdio.h>
 
@@ -112,6 +112,7 @@ static void naming_rooms(void)
     HOLDS(pw_listing(mode, image, LONG_LENGTH, marks, LONG_LENGTH, PW_ARRIVALS_CHOSEN, room, 0, answer) == PW_NO_ROOM);
     HOLDS(answer[0] <= PW_ARRIVALS_ROOM * LONG_LENGTH && answer[0] > (PW_ARRIVALS_ROOM - 1) * LONG_LENGTH);
     HOLDS(PW_PRINTED_ROOM == PW_LISTING_ROOM * PW_MOST_BYTES);
+    HOLDS(PW_SUM_FULL == 22);
 }
 
 /* An input of the listing program of so many entries, and so many bytes of A0, so many a line. */
