@@ -13,6 +13,7 @@ use compare::paper::input::Input;
 use compare::paper::listing::{self, Arrivals};
 use compare::paper::{Mode, back as paper, tracer};
 use compare::random::Random;
+use pottagewing::Mark;
 
 /// Numbers of their own, so that the other comparisons are the same with this one and without.
 const OWN: u64 = 0x5EED_BACC;
@@ -107,10 +108,12 @@ impl Listed<'_> {
     /// The image comes back, and the marks but for 1 and 4, which become 0, and 3, which becomes 2.
     fn whole(&self, tally: &mut Tally, random: &mut Random) {
         let Listed { image, text, .. } = self;
-        let restored = self.marks[..image.len()].iter().map(|mark| match mark {
-            0 | 1 | 4 => 0,
-            _ => 2,
-        });
+        let restored = self.marks[..image.len()]
+            .iter()
+            .map(|mark| match Mark::of(*mark) {
+                Some(Mark::Traced | Mark::Flash) => Mark::Traced as u8,
+                _ => Mark::Untouched as u8,
+            });
         let restored: Vec<u8> = restored.collect();
         let lines = text.iter().filter(|byte| **byte == b'\n').count();
         let mut enough = || image.len() + random.pick(&[0, 0, 1, 3]);

@@ -20,6 +20,7 @@ const TURNS: u64 = 128;
 const LONG: [usize; 3] = [1_000, 3_000, 8_000];
 const SHORT: u64 = 40;
 const NO_LIMIT: u32 = u32::MAX;
+const UNTOUCHED: u8 = Mark::Untouched as u8;
 const WAITING: u8 = Mark::Waiting as u8;
 const TRACED: u8 = Mark::Traced as u8;
 const PINNED: u8 = Mark::Pinned as u8;
@@ -132,7 +133,7 @@ impl Given<'_> {
     /// Pins on what is noted without them, and elsewhere.
     fn some_pins(&self, random: &mut Random, entries: &[u32]) -> Vec<u32> {
         let marks = self.traced(random, entries);
-        let noted = places(&marks, |mark| mark != 0);
+        let noted = places(&marks, |mark| mark != UNTOUCHED);
         images::pins(self.image, entries, &noted, random)
     }
 
@@ -197,7 +198,7 @@ impl Given<'_> {
     fn by_joined(&self, random: &mut Random, lists: &[Vec<u32>; 2], joined: &Left) -> Said {
         let [first, second] = lists;
         let with = |wanted: u8| places(&joined.marks, |mark| mark == wanted);
-        let is_strange = |mark| ![0, WAITING, TRACED, PINNED].contains(&mark);
+        let is_strange = |mark| ![UNTOUCHED, WAITING, TRACED, PINNED].contains(&mark);
         let mut traced = |one: &[u32], other: &[u32]| self.traced(random, &[one, other].concat());
         Said {
             traced: with(TRACED),

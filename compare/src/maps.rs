@@ -15,6 +15,7 @@ use compare::original::{traced, viewed};
 use compare::paper::map::{self as paper, Query};
 use compare::paper::{Mode, tracer, views as mask};
 use compare::random::Random;
+use pottagewing::Mark;
 
 /// The lengths of images around a word's border and around each limit, and how many there are of one.
 const LENGTHS: [(usize, usize, u64); 8] = [
@@ -122,7 +123,7 @@ fn of_step(tally: &mut Tally, random: &mut Random, image: &[u8]) {
     let (mut marks, order) = marks_after(image, &entries, limit);
     let waiting = order
         .into_iter()
-        .find(|at| marks.get(*at as usize) == Some(&1));
+        .find(|at| marks.get(*at as usize) == Some(&(Mark::Waiting as u8)));
     let Some(position) = waiting else { return };
     let words = built(random, image, &marks);
     if tracer::step(MODE, image, &mut marks, position).done() {

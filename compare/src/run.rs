@@ -14,6 +14,7 @@ use compare::original::traced;
 use compare::paper::{Mode, tracer, views as plain};
 use compare::random::Random;
 use compare::seen::Seen;
+use pottagewing::Mark;
 
 /// What a run is given.
 struct Given<'a> {
@@ -118,8 +119,10 @@ fn count_pinned(tally: &mut Tally, given: &Given, without: &Outcome, expected: &
         return;
     }
     let (before, after) = (without.marks.part(), expected.marks.part());
-    let is_traced = |mark: u8| mark == 2 || mark == 3;
-    let is_other = |at: usize| after[at] != 4 && is_traced(before[at]) != is_traced(after[at]);
+    let is_traced = |mark| matches!(Mark::of(mark), Some(Mark::Traced | Mark::Flash));
+    let is_other = |at: usize| {
+        after[at] != Mark::Pinned as u8 && is_traced(before[at]) != is_traced(after[at])
+    };
     tally.pinned.other += u64::from((0..given.image.len()).any(is_other));
 }
 

@@ -301,7 +301,9 @@ fn walk_round(tally: &mut Tally, random: &mut Random) {
 
 /// Nothing once each position could have been taken up: a step that changes nothing is found by its marks.
 fn any_waiting(marks: &[u8], random: &mut Random) -> Option<u32> {
-    let waiting: Vec<usize> = (0..marks.len()).filter(|at| marks[*at] == 1).collect();
+    let waiting: Vec<usize> = (0..marks.len())
+        .filter(|at| marks[*at] == WAITING)
+        .collect();
     (!waiting.is_empty()).then(|| random.pick(&waiting) as u32)
 }
 

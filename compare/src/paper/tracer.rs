@@ -115,7 +115,11 @@ pub fn step(mode: Mode, image: &[u8], marks: &mut [u8], position: u32) -> Answer
         return refusal;
     }
     let at = position as usize;
-    let mark = if at < image.len() { marks[at] } else { 0 };
+    let mark = if at < image.len() {
+        marks[at]
+    } else {
+        UNTOUCHED
+    };
     if mark > PINNED {
         return Answer::new(Answer::DAMAGED, &[i64::from(position)]);
     }
