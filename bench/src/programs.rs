@@ -48,7 +48,11 @@ pub fn measure(text: &[u8], images: usize) -> Result<(), &'static str> {
     let [ours, plain] = times.map(median);
     let times = [Some(ours), None, Some(plain)];
     report::line("report, the program", report::per(times, images));
-    report::aim("report, the program, ours/plain, at most 2", ours / plain, ours <= plain * 2.0);
+    report::aim(
+        "report, the program, ours/plain, at most 2",
+        ours / plain,
+        ours <= plain * 2.0,
+    );
     Ok(())
 }
 
@@ -81,7 +85,11 @@ unsafe extern "C" {
 /// The seconds of all programs that ran to their end.
 fn of_children() -> f64 {
     const CHILDREN: c_int = -1;
-    let mut usage = Usage { user: [0; 2], system: [0; 2], rest: [0; 14] };
+    let mut usage = Usage {
+        user: [0; 2],
+        system: [0; 2],
+        rest: [0; 14],
+    };
     unsafe { getrusage(CHILDREN, &mut usage) };
     let seconds = |[whole, millionths]: [c_long; 2]| whole as f64 + millionths as f64 / 1e6;
     seconds(usage.user) + seconds(usage.system)
