@@ -3,6 +3,7 @@
 
 pub mod back;
 pub mod decode;
+pub mod digits;
 pub mod forms;
 pub mod listing;
 pub mod maps;

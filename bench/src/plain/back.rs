@@ -1,6 +1,7 @@
 //! A listing read back into an image and marks.
 
 use super::decode::decode;
+use super::digits::DIGITS;
 use super::forms::{FORMS, MNEMONICS, Shape};
 use super::trace::TRACED;
 
@@ -9,17 +10,6 @@ const RUN: usize = pottagewing::RUN_LENGTH;
 const LONGEST: usize = pottagewing::INSTRUCTION_LENGTH;
 /// The end of memory.
 const MEMORY: usize = pottagewing::IMAGE_LIMIT;
-
-/// The value of each digit; any other byte has one that is too high.
-static DIGITS: [u8; 256] = {
-    let mut values = [0xFF; 256];
-    let mut value = 0;
-    while value < 16 {
-        values[b"0123456789ABCDEF"[value] as usize] = value as u8;
-        value += 1;
-    }
-    values
-};
 
 /// The first bad line, counted from 1.
 #[derive(Clone, Copy, PartialEq, Debug)]

@@ -1,5 +1,6 @@
 //! The term report: one pass over the text, one image at a time.
 
+use super::digits::DIGITS;
 use super::forms::FORMS;
 use super::trace::{Ended, Tracer, is_exempt, is_traced, named};
 use pottagewing::{Answer, LONGEST_NAME, MOST_BYTES, MOST_ENTRIES, MOST_IN_LINE};
@@ -7,19 +8,6 @@ use std::io::Write;
 
 const CUT_OFF: u32 = Answer::CUT_OFF;
 const MALFORMED: u32 = Answer::MALFORMED_INPUT;
-
-/// The value of each hex digit, and 255 for all other bytes.
-const DIGITS: [u8; 256] = digits();
-
-const fn digits() -> [u8; 256] {
-    let mut table = [255; 256];
-    let mut value = 0;
-    while value < 16 {
-        table[b"0123456789ABCDEF"[value] as usize] = value as u8;
-        value += 1;
-    }
-    table
-}
 
 /// What the next line of an image is.
 #[derive(Clone, Copy, PartialEq)]
