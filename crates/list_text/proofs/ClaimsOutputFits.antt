@@ -21,7 +21,7 @@ use Rattle.listing.specs.Walk.{listingOf}
 use Rattle.listing.specs.declared.tabbed.Arrivals.the-variants.{Declined}
 use Rattle.listing_laws.proofs.ClaimsRoomBound.{listing-bound}
 use Rattle.list_text.specs.ClaimsOutput.{OutputFits}
-use Rattle.list_text.specs.Output.{lentRoom, refusalLine, tracedText, textListed, outputText, outputOf}
+use Rattle.list_text.specs.Output.{lentRoom, refusalLine, tracedWith, tracedText, textListed, outputText, outputOf}
 use Rattle.list_text.specs.Decimal.{width}
 use Rattle.list_text.proofs.Decimals.{width-one}
 use Rattle.list_text.proofs.RefusalPutting.{number-length, value-length}
@@ -51,7 +51,7 @@ shown-fits (refused n vs) f g = omega (arith, g n vs refl)
 
 -- what is accepted is a listing
 listed : (image entries out : List ℕ) → length image ≤ 16384 → Bytes image → tracedText image entries ≡ accepted out → length out ≤ 983040
-unfolding tracedText
+unfolding tracedWith
 listed image entries out h B e =
     let m = runMarks Unwrapped image (lentRoom image) (lentRoom image) entries [] (length image) in
     let a = or-accepted (runAnswer Unwrapped image (lentRoom image) (lentRoom image) entries [] (length image)) (judge (viewRefusals image m) (listingOf Unwrapped image m Declined)) out e in

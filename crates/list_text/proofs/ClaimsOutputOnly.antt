@@ -34,7 +34,7 @@ use Rattle.list_text.proofs.Longest.{Thirteen, lines-13, most-held}
 use Rattle.listing.specs.Walk.{listingOf}
 use Rattle.listing.specs.declared.tabbed.Arrivals.the-variants.{Declined}
 use Rattle.list_text.specs.ClaimsOutput.{ListedMissing, OnlyTwo}
-use Rattle.list_text.specs.Output.{lentRoom, tracedText, textListed}
+use Rattle.list_text.specs.Output.{lentRoom, tracedWith, tracedText, textListed}
 use Rattle.list_text.proofs.ImageBytes.{image-bytes}
 use Rattle.list_text.proofs.Images.{marks-sound}
 use Rattle.list_text.proofs.Parts.{or-refused}
@@ -74,7 +74,7 @@ module _ (image entries : List ℕ) (small : length image ≤ 16384) where
 
   -- what is refused, the run refused
   run-refused : (n : ℕ) (vs : List ℤ) → tracedText image entries ≡ refused n vs → runAnswer Unwrapped image (lentRoom image) (lentRoom image) entries [] (length image) ≡ refused n vs
-  unfolding tracedText
+  unfolding tracedWith
   run-refused n vs e = by (or-refused (runAnswer Unwrapped image (lentRoom image) (lentRoom image) entries [] (length image)) _ n vs e)
     where
       m : List ℕ

@@ -15,7 +15,7 @@ use Rattle.views_laws.proofs.ClaimsSoundRun.{run-undamaged}
 use Rattle.trace_laws.proofs.Finished.{marks-are}
 use Rattle.listing.specs.Walk.{listingOf}
 use Rattle.listing.specs.declared.tabbed.Arrivals.the-variants.{Declined}
-use Rattle.list_text.specs.Output.{lentRoom, outputText, tracedText, refusalLine}
+use Rattle.list_text.specs.Output.{lentRoom, outputText, tracedWith, tracedText, refusalLine}
 use Rattle.list_text.proofs.Sounding.{sound, judged-on, answer-on, room-on}
 
 -- the same line printed
@@ -34,7 +34,7 @@ module _ (image entries : List ℕ) where
 
   -- a run that is refused
   pub refused-text : (b o : List ℕ) → b ≡ lentRoom image → o ≡ lentRoom image → (n : ℕ) (vs : List ℤ) → refused n vs ≡ runAnswer Unwrapped image b o entries [] (length image) → refusalLine n vs ≡ outputText (tracedText image entries)
-  unfolding tracedText
+  unfolding tracedWith
   refused-text b o e f n vs g =
       let h : answer ≡ refused n vs = sym (g ∙ ap₂ (λ (x y : List ℕ). runAnswer Unwrapped image x y entries [] (length image)) e f) in
       sym (ap (λ (r : Answer RunResult). outputText (andThen r (judge (viewRefusals image marks) out))) h)
@@ -50,7 +50,7 @@ module _ (image entries : List ℕ) where
         (subst (Undamaged image) (sym (marks-are Unwrapped image (lentRoom image) (lentRoom image) entries [] (length image) s a)) (run-undamaged Unwrapped image (lentRoom image) entries [] (length image) covered))
 
     listed-text : Sound image marks → out ≡ outputText (tracedText image entries)
-    unfolding tracedText
+    unfolding tracedWith
     listed-text S =
         sym (ap (λ (r : Answer RunResult). outputText (andThen r (judge (viewRefusals image marks) out))) a ∙ ap outputText (judged-on (viewRefusals image marks) S out))
 

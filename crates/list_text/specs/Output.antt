@@ -8,11 +8,13 @@ use lib.Dec.{eqb}
 use lib.IntN.{ℤ, pos, natAbs}
 use lib.ListN.{length, getD, replicate}
 use Rattle.instruction.specs.Answer.{Answer, accepted, refused, judge}
+use Rattle.instruction.specs.declared.mode.Mode.{Mode}
 use Rattle.instruction.specs.declared.mode.Mode.the-variants.{Unwrapped}
 use Rattle.trace.specs.Run.{andThen, runAnswer, runMarks}
 use Rattle.views.specs.View.{viewRefusals}
 use Rattle.list_text.specs.Text.{countsOf, entriesOf, imageOf, inputRefusals}
 use Rattle.listing.specs.Walk.{listingOf}
+use Rattle.listing.specs.declared.tabbed.Arrivals.{Arrivals}
 use Rattle.listing.specs.declared.tabbed.Arrivals.the-variants.{Declined}
 use Rattle.list_text.specs.Refusal.{numberLine, valueLine}
 
@@ -24,12 +26,16 @@ refusalLine n vs = cond (eqb n 5) (valueLine n (natAbs (getD vs 2 (pos 0)))) (nu
 abbrev pub lentRoom : List ℕ → List ℕ
 lentRoom image = replicate (length image) 0
 
--- the listing of a run in this image from these entries, with no arrivals; or a refusal
-unfoldable pub tracedText : List ℕ → List ℕ → Answer (List ℕ)
-tracedText image entries =
+-- the listing of a run in this image from these entries with these pins, in a mode, with arrivals as they are chosen; or a refusal
+unfoldable pub tracedWith : Mode → List ℕ → List ℕ → List ℕ → Arrivals → Answer (List ℕ)
+tracedWith mode image entries pins arrivals =
     let room = lentRoom image in
-    let m = runMarks Unwrapped image room room entries [] (length image) in
-    andThen (runAnswer Unwrapped image room room entries [] (length image)) (judge (viewRefusals image m) (listingOf Unwrapped image m Declined))
+    let m = runMarks mode image room room entries pins (length image) in
+    andThen (runAnswer mode image room room entries pins (length image)) (judge (viewRefusals image m) (listingOf mode image m arrivals))
+
+-- of the listing program: with no pins and no arrivals
+abbrev pub tracedText : List ℕ → List ℕ → Answer (List ℕ)
+tracedText image entries = tracedWith Unwrapped image entries [] Declined
 
 -- the same of a text; a line that is malformed first
 unfoldable pub textListed : List ℕ → Answer (List ℕ)

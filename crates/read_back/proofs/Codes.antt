@@ -15,9 +15,10 @@ use Rattle.text.specs.Bytes.{bytesOf}
 use Rattle.text.specs.Cut.{upTo}
 use Rattle.text.proofs.Cuts.{take-first}
 use Rattle.text.proofs.Pairs.{pairs, bytes-small}
-use Rattle.read_back.specs.Line.{same, isCode}
+use Rattle.text.specs.Same.{same}
+use Rattle.read_back.specs.Line.{isCode}
 use Rattle.read_back.specs.Offsets.{positionAt, digitsAt, bytesAt}
-use Rattle.read_back.proofs.Sames.{other-length, same-false, same-but-last}
+use Rattle.text.proofs.Sames.{other-length, same-false, same-but-last}
 
 -- what is written from the start on stands at the start
 sets-cons : (room : List ℕ) (x : ℕ) (i : ℕ) (s : List ℕ) → sets (x ∷ room) (suc i) s ≡ x ∷ sets room i s

@@ -1,7 +1,6 @@
 pub mod Letters
 pub mod NoLetters
 pub mod Lines
-pub mod Sames
 pub mod Pieces
 pub mod Rests
 pub mod Shapes

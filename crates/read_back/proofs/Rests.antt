@@ -26,7 +26,7 @@ use Rattle.read_back.specs.Line.{isLabel, isFound, isData, isCode}
 use Rattle.read_back.specs.Offsets.{arePlaces, isLabelRest, isFoundRest, isDataRest}
 use Rattle.read_back.proofs.Lines.{few, five}
 use Rattle.read_back.proofs.Pieces.{tabbed, NoTab, NoTabs}
-use Rattle.read_back.proofs.Sames.{same-false}
+use Rattle.text.proofs.Sames.{same-false}
 
 -- a tab is no digit
 pub tab-among : (k : ℕ) (g t : List ℕ) → length g < k → allHex (take k (g ++ 9 ∷ t)) ≡ false

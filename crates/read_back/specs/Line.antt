@@ -12,6 +12,7 @@ use Rattle.instruction.specs.declared.mode.Mode.{Mode}
 use Rattle.text.specs.Bytes.{bytesOf, isBytes}
 use Rattle.text.specs.Cut.{fields}
 use Rattle.text.specs.Four.{isFour, allFour, fourOf}
+use Rattle.text.specs.Same.{same}
 use Rattle.listing.specs.Lines.{codeLine}
 use Rattle.read_back.specs.declared.place.Record.{Record}
 
@@ -54,13 +55,6 @@ abbrev pub isData : List (List ℕ) → Bool
 isData [] = false
 isData (f ∷ []) = isBytes 16 f
 isData (f ∷ g ∷ fs) = false
-
--- two texts are the same
-unfoldable pub same : List ℕ → List ℕ → Bool
-same [] [] = true
-same [] (b ∷ t) = false
-same (a ∷ s) [] = false
-same (a ∷ s) (b ∷ t) = eqb a b && same s t
 
 -- `I`, judged whole: the line is the one that the writer prints for these bytes at this position
 unfoldable pub isCode : Mode → ℕ → List ℕ → List ℕ → Bool

@@ -2,13 +2,14 @@
 ghost use mathlib.Core.Path.{_≡_};
 ghost use Prim.Native.Nat.{_≤_};
 ghost use lib.ListN.{length};
-ghost use Rattle.read_back.specs.Line.{hasBytes, same, isCode, isLine, recordOf};
+ghost use Rattle.read_back.specs.Line.{hasBytes, isCode, isLine, recordOf};
 ghost use Rattle.read_back.specs.Offsets.{arePlaces, isFoundRest, isDataRest, positionAt, digitsAt, bytesAt, Spaced};
 use crate::place::Record;
 use instruction::Mode;
 use text::bytes;
 use text::cut;
 use text::four;
+use text::same;
 use text::hex;
 
 // A line's letter, tab and position.
@@ -79,22 +80,6 @@ pub fn digits(line: &[u8]) -> &[u8]
     &line[START + 1..e]
 }
 
-fn same(a: &[u8], b: &[u8]) -> bool
-    ensures { λ r. ⌜ r ≡ same (now (a .entry)) (now (b .entry)) ⌝ }
-{
-    if a.len() != b.len() {
-        return false;
-    }
-    let mut i: usize = 0;
-    while i < a.len() {
-        if a[i] != b[i] {
-            return false;
-        }
-        i += 1;
-    }
-    true
-}
-
 // `I`: the line is written again, from its bytes and its position, and compared.
 fn is_code(mode: Mode, line: &[u8]) -> bool
     requires { ⌜ 6 ≤ length (now line) ⌝ }
@@ -120,7 +105,7 @@ fn is_code(mode: Mode, line: &[u8]) -> bool
     if room[n] != cut::LINE_END {
         return false;
     }
-    same(line, &room[..n])
+    same::same(line, &room[..n])
 }
 
 pub fn is_line(mode: Mode, line: &[u8]) -> bool

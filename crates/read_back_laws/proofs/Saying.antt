@@ -18,7 +18,8 @@ use Rattle.listing.specs.Hex.{hex2, hex3, hex4, hexes}
 use Rattle.listing.specs.Line.{fieldsText, line}
 use Rattle.listing.specs.Lines.{codeLine}
 use Rattle.listing.proofs.Hexing.{hexes-length}
-use Rattle.read_back.specs.Line.{positionOn, bytesOn, furtherOn, isStart, isLabel, isFound, isData, same, isCode, byLetter, isLine}
+use Rattle.text.specs.Same.{same}
+use Rattle.read_back.specs.Line.{positionOn, bytesOn, furtherOn, isStart, isLabel, isFound, isData, isCode, byLetter, isLine}
 use Rattle.read_back.specs.Sheet.{listedOn}
 use Rattle.read_back.proofs.Pieces.{tabbed, fields-are}
 use Rattle.read_back_laws.proofs.Digits.{four-back, four-hex, Small, bytes-back, bytes-hex}

@@ -6,3 +6,4 @@ pub mod Fours
 pub mod Pairs
 pub mod PairPuts
 pub mod FourRead
+pub mod Sames

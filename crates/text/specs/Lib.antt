@@ -3,3 +3,4 @@ pub mod Bytes
 pub mod Cut
 pub mod Four
 pub mod Hex
+pub mod Same

@@ -3,3 +3,4 @@ pub mod bytes;
 pub mod cut;
 pub mod four;
 pub mod hex;
+pub mod same;

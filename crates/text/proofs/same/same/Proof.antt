@@ -1,14 +1,14 @@
--- `line::same` meets its contract.
+-- `same::same` meets its contract.
 -- Assumes nothing.
 use mathlib.Core.Path.{_≡_, refl, sym, _∙_}
 use Prim.Native.Nat.{_-_, _≤_}
 use native.Mathlib.Omega.{arith}
 use borrow.Author.Needs.{needs}
 use lib.ListN.{length, drop}
-use Rattle.read_back.specs.Line.{same}
-use Rattle.read_back.proofs.Sames.{other-length, same-off, same-on, same-end}
-use Rattle.read_back.proofs.line.same.Statement.{statement}
-use Rattle.read_back.proofs.line.same.Tie as tie
+use Rattle.text.specs.Same.{same}
+use Rattle.text.proofs.Sames.{other-length, same-off, same-on, same-end}
+use Rattle.text.proofs.same.same.Statement.{statement}
+use Rattle.text.proofs.same.same.Tie as tie
 
 abbrev Inv-loop : tie.InvT-loop
 Inv-loop a b i₀ i = (i ≤ length a) × (same a b ≡ same (drop i a) (drop i b))

@@ -12,7 +12,7 @@ use lib.ListN.{length, getD, take, drop, drop-of-length-le}
 use lib.Seq.{drop-cons}
 use Rattle.instruction.proofs.Sign.{never}
 use Rattle.instruction.proofs.Ands.{first-part, second-part}
-use Rattle.read_back.specs.Line.{same}
+use Rattle.text.specs.Same.{same}
 
 pub same-true : (s t : List ℕ) → same s t ≡ true → s ≡ t
 unfolding same
