@@ -87,7 +87,10 @@ fn main() {
     let mut words = io::large_buffer();
     let k = gather(&mut words);
     if k == words.len() {
-        io::write_all(STDERR_FILENO, b"dis: the arguments are longer than 65535 bytes\n");
+        io::write_all(
+            STDERR_FILENO,
+            b"dis: the arguments are longer than 65535 bytes\n",
+        );
         return;
     }
     dis(&name[0..n], &words[0..k]);

@@ -1,12 +1,13 @@
 -- What is claimed of the output of `dis`.
 -- Assumes nothing.
-use Prim.Native.Nat.{ℕ, _≤_, _<_}
+use Prim.Native.Nat.{ℕ, _≤_}
 use mathlib.Core.List.{List}
 use mathlib.Core.Logic.{_⊎_}
 use mathlib.Core.Path.{_≡_}
 use lib.IntN.{ℤ}
-use lib.ListN.{All, length}
+use lib.ListN.{length}
 use Rattle.instruction.specs.Answer.{refused, Apart}
+use Rattle.instruction.specs.Bytes.{Bytes}
 use Rattle.dis_text.specs.Output.{disOf, printed, shownOf}
 
 -- the number and values of the answers tell all cases and all values apart

@@ -2,9 +2,9 @@
 -- Assumes nothing.
 use Prim.Native.Nat.{ℕ, _+_, _*_, _-_}
 use Prim.Native.Char.{code}
-use Prim.Native.String.{String, toList}
+use Prim.Native.String.{String, [] as none, _∷_ as _then_}
 use mathlib.Core.Bool.{Bool, true, cond, _&&_}
-use mathlib.Core.List.{List, [], _∷_, map}
+use mathlib.Core.List.{List, [], _∷_}
 use lib.Dec.{leb, ltb}
 use lib.ListN.{length}
 use Rattle.text.specs.Hex.{within, valueOf}
@@ -13,8 +13,9 @@ use Rattle.dis_text.specs.declared.word.Word.{Word}
 use Rattle.dis_text.specs.declared.word.Word.the-variants.{Number, Wraps, NoArrivals, Pin, Other}
 
 -- the bytes of a text
-abbrev pub codes : String → List ℕ
-codes s = map code (toList s)
+unfoldable pub codes : String → List ℕ
+codes none = []
+codes (c then s) = code c ∷ codes s
 
 -- the value of a hex digit of either case; 16, which none has, for any other byte
 abbrev pub valueIn : ℕ → ℕ

@@ -19,7 +19,7 @@ pub enum Read {
 const WORD_END: u8 = 0;
 
 // Reads all words into rooms for entries and pins.
-pub fn read(words: &[u8], entries: &mut [u32], pins: &mut [u32]) -> Read
+pub fn ask(words: &[u8], entries: &mut [u32], pins: &mut [u32]) -> Read
     requires { ⌜ (length (now entries) ≡ 256) × (length (now pins) ≡ 256) ⌝ }
     ensures { λ r. ⌜ readOf r (now (entries .exit)) (now (pins .exit)) ≡ askedIn (now (words .entry)) ⌝ }
     ensures { λ r. ⌜ CountedRead r ⌝ }

@@ -31,13 +31,7 @@ impl Asked {
     // As many entries, and as many pins.
     pub const MOST: usize = 256;
 
-    pub fn of(
-        entries: usize,
-        pins: usize,
-        mode: Mode,
-        arrivals: Arrivals,
-        pinning: bool,
-    ) -> Self
+    pub fn of(entries: usize, pins: usize, mode: Mode, arrivals: Arrivals, pinning: bool) -> Self
         ensures { λ r. ⌜ r ≡ counts entries pins mode arrivals pinning ⌝ }
     {
         Self {

@@ -43,8 +43,20 @@ pub fn list_image(
         pins,
         n as u32,
     ) {
-        Ran::Finished(_) => shown::listing_in(listing::listing_with(mode, image, &marks[..n], arrivals, room)),
-        Ran::Stopped(_) => shown::listing_in(listing::listing_with(mode, image, &marks[..n], arrivals, room)),
+        Ran::Finished(_) => shown::listing_in(listing::listing_with(
+            mode,
+            image,
+            &marks[..n],
+            arrivals,
+            room,
+        )),
+        Ran::Stopped(_) => shown::listing_in(listing::listing_with(
+            mode,
+            image,
+            &marks[..n],
+            arrivals,
+            room,
+        )),
         Ran::LongImage(n) => message::tell(Trouble::Long(n), room),
         Ran::ShortMarks(_) => message::tell(Trouble::Other(2), room),
         Ran::ShortOrder(_) => message::tell(Trouble::Other(3), room),

@@ -1,7 +1,7 @@
 // The line that says what is wrong.
 ghost use mathlib.Core.Path.{_≡_};
-ghost use mathlib.Core.List.{[], _∷_};
-ghost use Prim.Native.Nat.{_≤_};
+ghost use mathlib.Core.List.{[]};
+ghost use Prim.Native.Nat.{_+_, _≤_};
 ghost use lib.ListN.{length};
 ghost use Rattle.instruction.specs.Answer.{refused};
 ghost use Rattle.views.specs.View.{roomAfter};

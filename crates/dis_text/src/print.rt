@@ -20,7 +20,18 @@ fn game_entries() -> [u32; 12]
     ensures { λ r. ⌜ r ≡ gameEntries ⌝ }
 {
     [
-        0x0000, 0x0003, 0x000B, 0x0013, 0x001B, 0x0023, 0x002B, 0x0033, 0x003B, 0x0043, 0x004B, 0x0130,
+        0x0000,
+        0x0003,
+        0x000B,
+        0x0013,
+        0x001B,
+        0x0023,
+        0x002B,
+        0x0033,
+        0x003B,
+        0x0043,
+        0x004B,
+        0x0130,
     ]
 }
 
@@ -52,7 +63,7 @@ pub fn dis_text(words: &[u8], image: &[u8], room: &mut [u8]) -> Shown
 {
     let mut entries = rooms::numbers();
     let mut pins = rooms::numbers();
-    match arguments::read(words, &mut entries, &mut pins) {
+    match arguments::ask(words, &mut entries, &mut pins) {
         Read::Asks(asked) => list_asked(asked, image, &entries, &pins, room),
         Read::Bad(k) => message::tell(Trouble::Bad(k), room),
     }

@@ -9,8 +9,8 @@ use instruction::Mode;
 use text::bytes;
 use text::cut;
 use text::four;
-use text::same;
 use text::hex;
+use text::same;
 
 // A line's letter, tab and position.
 const START: usize = 6;
