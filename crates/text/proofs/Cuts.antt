@@ -109,24 +109,34 @@ module _ (s : ℕ) (t : List ℕ) (at e : ℕ) (p : e ≡ at + length (upTo s (d
   to-end : e ≡ length t → length (upTo s (drop at t)) ≡ length (drop at t)
   to-end g = simp length-drop (omega arith)
 
+-- the piece at `at`, which byte s ends or the text, and then those of the rest
+module _ (s : ℕ) (t : List ℕ) (at : ℕ) where
+  pub piece-next : (e : ℕ) → e ≡ at + length (upTo s (drop at t)) → at < length t
+      → cut s [] (drop at t) ≡ take (e - at) (drop at t) ∷ cut s [] (drop (e + 1) t)
+  unfolding cut
+  piece-next e p h = by (ltb e (length t)) refl
+    where
+      by : (x : Bool) → ltb e (length t) ≡ x → cut s [] (drop at t) ≡ take (e - at) (drop at t) ∷ cut s [] (drop (e + 1) t)
+      by true f = piece-more s t at e p [] (ltb-true e (length t) f)
+      by false f =
+          let g = ltb-false e (length t) f in
+          let k = piece-inside s t at e p (omega arith) in
+          let k′ : length t ≤ e + 1 = omega arith in
+          cut-last s [] (λ (b : ℕ). refl) (drop at t) (simp length-drop (omega arith)) (to-end s t at e p (omega arith))
+          ∙ rw (← the-piece s t at e p, drop-of-length-le t k′)
+
+  -- none is left
+  pub pieces-end : length t ≤ at → cut s [] (drop at t) ≡ []
+  unfolding cut
+  pieces-end h = rw (drop-of-length-le t h)
+
 -- the line at `at`, and then the lines of the rest
 pub line-next : (t : List ℕ) (at e : ℕ) → e ≡ at + length (upTo 10 (drop at t)) → at < length t → lines (drop at t) ≡ take (e - at) (drop at t) ∷ lines (drop (e + 1) t)
-unfolding cut
-line-next t at e p h = by (ltb e (length t)) refl
-  where
-    by : (x : Bool) → ltb e (length t) ≡ x → lines (drop at t) ≡ take (e - at) (drop at t) ∷ lines (drop (e + 1) t)
-    by true f = piece-more 10 t at e p [] (ltb-true e (length t) f)
-    by false f =
-        let g = ltb-false e (length t) f in
-        let k = piece-inside 10 t at e p (omega arith) in
-        let k′ : length t ≤ e + 1 = omega arith in
-        cut-last 10 [] (λ (b : ℕ). refl) (drop at t) (simp length-drop (omega arith)) (to-end 10 t at e p (omega arith))
-        ∙ rw (← the-piece 10 t at e p, drop-of-length-le t k′)
+line-next = piece-next 10
 
 -- no line is left
 pub lines-end : (t : List ℕ) (at : ℕ) → length t ≤ at → lines (drop at t) ≡ []
-unfolding cut
-lines-end t at h = rw (drop-of-length-le t h)
+lines-end = pieces-end 10
 
 -- the field at `at`: the last one, or others follow
 pub field-last : (t : List ℕ) (at e : ℕ) → e ≡ at + length (upTo 9 (drop at t)) → e ≡ length t → cut 9 ([] ∷ []) (drop at t) ≡ take (e - at) (drop at t) ∷ []

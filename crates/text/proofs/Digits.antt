@@ -18,13 +18,13 @@ or-false : (t : Bool) → t ≡ (t || false)
 or-false true = refl
 or-false false = refl
 
-inside : (low high b : ℕ) → low ≤ b → b ≤ high → within low high b ≡ true
+pub inside : (low high b : ℕ) → low ≤ b → b ≤ high → within low high b ≡ true
 inside low high b h k = rw (le-leb low b h, le-leb b high k)
 
-under : (low high b : ℕ) → b < low → within low high b ≡ false
+pub under : (low high b : ℕ) → b < low → within low high b ≡ false
 under low high b h = rw (lt-leb low b h)
 
-over : (low high b : ℕ) → high < b → within low high b ≡ false
+pub over : (low high b : ℕ) → high < b → within low high b ≡ false
 over low high b h = rw (lt-leb b high h) (not-second (leb low b) false refl)
 
 module _ (b : ℕ) where
