@@ -1,3 +1,4 @@
 mod Numbers
 mod WordKinds
 mod Takes
+mod Asking

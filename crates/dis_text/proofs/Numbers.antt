@@ -2,7 +2,7 @@
 -- Assumes nothing.
 use mathlib.Core.Path.{_≡_, refl, sym, ap, _∙_}
 use mathlib.Core.Logic.{_⊎_, inl, inr}
-use mathlib.Core.Bool.{Bool, true, false, cond, _&&_}
+use mathlib.Core.Bool.{true, false, cond, _&&_}
 use mathlib.Core.List.{List, [], _∷_}
 use Prim.Native.Nat.{ℕ, zero, suc, _+_, _*_, _-_, _≤_, _<_}
 use native.Mathlib.Numerals.{add-one}
@@ -12,7 +12,7 @@ use lib.Dec.{leb, ltb}
 use lib.ListN.{length, getD, drop, drop-of-length-le}
 use lib.Seq.{drop-cons}
 use Rattle.instruction.proofs.Ands.{first-part, second-part}
-use Rattle.text.specs.Hex.{within, valueOf}
+use Rattle.text.specs.Hex.{valueOf}
 use Rattle.text.proofs.Digits.{inside, under, over}
 use Rattle.dis_text.specs.Word.{valueIn, allDigits, numberFrom, isNumber, numberIn}
 

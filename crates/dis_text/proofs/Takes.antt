@@ -3,14 +3,14 @@
 use mathlib.Core.Path.{_≡_, refl, sym, ap, _∙_}
 use mathlib.Core.Bool.{Bool, true, false, cond, not}
 use mathlib.Core.List.{List, [], _∷_, _++_}
-use Prim.Native.Nat.{ℕ, suc, _+_, _≤_, _<_}
+use Prim.Native.Nat.{ℕ, _+_, _≤_}
 use native.Mathlib.Numerals.{add-one}
 use native.Mathlib.Omega.{arith}
 use borrow.Author.Tests.{ltb-true}
 use lib.Dec.{ltb}
 use lib.ListN.{length, take, set}
 use lib.Seq.{length-take-le, take-suc-set}
-use Rattle.instruction.specs.Answer.{Answer, accepted, refused}
+use Rattle.instruction.specs.Answer.{accepted, refused}
 use Rattle.instruction.specs.declared.mode.Mode.{Mode}
 use Rattle.instruction.specs.declared.mode.Mode.the-variants.{Wrapping}
 use Rattle.listing.specs.declared.tabbed.Arrivals.{Arrivals}

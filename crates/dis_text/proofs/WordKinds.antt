@@ -1,13 +1,12 @@
 -- What a word is, test by test.
 -- Assumes nothing.
-use mathlib.Core.Path.{_≡_, refl, sym, ap, _∙_}
+use mathlib.Core.Path.{_≡_, refl, ap, _∙_}
 use mathlib.Core.Bool.{Bool, true, false, cond}
 use mathlib.Core.List.{List}
 use Prim.Native.Nat.{ℕ}
 use native.Mathlib.Omega.{arith}
 use Rattle.text.specs.Same.{same}
 use Rattle.dis_text.specs.Word.{codes, numberFrom, isNumber, numberIn, wordOf}
-use Rattle.dis_text.specs.declared.word.Word.{Word}
 use Rattle.dis_text.specs.declared.word.Word.the-variants.{Number, Wraps, NoArrivals, Pin, Other}
 use Rattle.dis_text.proofs.Numbers.{number-small}
 

@@ -12,9 +12,11 @@ returns c =
     let p = c .before .before .before in
     let t = p .before .before in
     let s = t .before .before .before in
-    let a = s .args in
-    (pin-off (a .asked) (a .n) (a .entries .now) (a .pins .now) (s .pre .0) (s .pre .1) (s .pre .2) (t .if1 .taken)
-    (sym (not-true _ (c .if2 .taken)) ∙ p .push .ensures .0), tt)
+    let a = s .args in (
+      pin-off (a .asked) (a .n) (a .entries .now) (a .pins .now) (s .pre .0) (s .pre .1) (s .pre .2) (t .if1 .taken)
+          (sym (not-true _ (c .if2 .taken)) ∙ p .push .ensures .0),
+      tt,
+    )
 
 returns-2 : tie.Need-returns-2
 returns-2 c =
@@ -31,9 +33,11 @@ returns-3 c =
     let p = c .before .before .before in
     let t = p .before .before in
     let s = t .before .before .before in
-    let a = s .args in
-    (entry-off (a .asked) (a .n) (a .entries .now) (a .pins .now) (s .pre .0) (s .pre .1) (s .pre .2) (t .if1 .left)
-    (sym (not-true _ (c .if3 .taken)) ∙ p .push2 .ensures .0), tt)
+    let a = s .args in (
+      entry-off (a .asked) (a .n) (a .entries .now) (a .pins .now) (s .pre .0) (s .pre .1) (s .pre .2) (t .if1 .left)
+          (sym (not-true _ (c .if3 .taken)) ∙ p .push2 .ensures .0),
+      tt,
+    )
 
 returns-4 : tie.Need-returns-4
 returns-4 c =
