@@ -2,8 +2,8 @@
 // Ported from `targets`, `rel8` and `rel16` of src/disasm.rs of wtetzner/waterbear, and changed: targets are signed numbers, and the arms
 // for 70 forms go by the flow and by the kind of the last operand.
 ghost use mathlib.Core.Path.{_≡_};
-ghost use mathlib.Core.Bool.{true, false};
-ghost use Prim.Native.Nat.{_+_, _-_, _*_, _/_, _%_, _≤_, _<_};
+ghost use mathlib.Core.Bool.{false};
+ghost use Prim.Native.Nat.{_+_, _-_, _*_, _/_, _%_, _≤_};
 ghost use lib.IntN.{pos, negsuc, natAbs};
 ghost use lib.Signed.{ltZ};
 ghost use Rattle.instruction.specs.Answer.{accepted};
@@ -11,13 +11,7 @@ ghost use Rattle.instruction.specs.Range.{outside, unfit};
 ghost use Rattle.instruction.specs.ResolveOperand.{wrapped};
 ghost use Rattle.instruction.specs.declared.kind.Kind.the-variants.{Page, Short, Long};
 ghost use Rattle.instruction.specs.Encode.{fitAnswer};
-ghost use lib.ListN.{length};
-ghost use Rattle.targets.specs.At.{sizeHere, fitsHere, instrHere, placeOf};
 ghost use Rattle.targets.specs.Targets.{inMode, addressOf, addressIn, targetsIn, targetsOf};
-use crate::here;
-use crate::here::Here;
-use crate::image::Image;
-use crate::place;
 use crate::target::Targets;
 use instruction::Flow;
 use instruction::Instr;
@@ -133,19 +127,6 @@ pub fn address_in(mode: Mode, next: u32, instr: Instr) -> i32
         return address_of(mode, next, kb, v.b);
     }
     address_of(mode, next, ka, v.a)
-}
-
-// The position that the address of the instruction at p names.
-pub fn place_at(mode: Mode, image: &[u8], p: u32, next: u32) -> u32
-    requires { ⌜ (p < length (now image)) × (length (now image) ≤ 65536) ⌝ }
-    requires { ⌜ (fitsHere (now image) p ≡ true) × (next ≡ p + sizeHere (now image) p) ⌝ }
-    ensures { λ r. ⌜ r ≡ placeOf (addressIn mode (p + sizeHere (now (image .entry)) p) (instrHere (now (image .entry)) p)) ⌝ }
-{
-    match here::instr_at(image, p) {
-        Here::Whole(i) => place::place(address_in(mode, next, i)),
-        Here::Cut(_) => Image::NOWHERE,
-        Here::Outside => Image::NOWHERE,
-    }
 }
 
 // The targets of an instruction whose fields are in range and that ends within memory.

@@ -6,6 +6,7 @@ pub mod image;
 pub mod instr_targets;
 pub mod name;
 mod opening;
+mod operand;
 pub mod place;
 pub mod target;
 

@@ -7,10 +7,10 @@ ghost use Rattle.instruction.specs.Flow.{flowOf};
 ghost use lib.ListN.{length};
 ghost use Rattle.targets.specs.At.{formHere, sizeHere, fitsHere, nameHere};
 ghost use Rattle.targets.specs.Ways.{nameOf};
-use crate::address;
 use crate::image::Image;
 use crate::opening;
 use crate::opening::Opening;
+use crate::operand;
 use instruction::Flow;
 use instruction::Mode;
 
@@ -23,8 +23,8 @@ fn name_by(mode: Mode, image: &[u8], p: u32, next: u32, flow: Flow) -> u32
     match flow {
         Flow::Stop => Image::NOWHERE,
         Flow::Next => Image::NOWHERE,
-        Flow::Jump => address::place_at(mode, image, p, next),
-        Flow::Branch => address::place_at(mode, image, p, next),
+        Flow::Jump => operand::place_at(mode, image, p, next),
+        Flow::Branch => operand::place_at(mode, image, p, next),
     }
 }
 

@@ -8,10 +8,10 @@ ghost use Rattle.targets.specs.At.{formHere, sizeHere, fitsHere, placeOf
 ghost use lib.IntN.{pos};
 ghost use Rattle.targets.specs.Targets.{inMode};
 ghost use Rattle.targets.specs.Ways.{placesIn, waysOf, goesOn, fallsTo};
-use crate::address;
 use crate::image::Image;
 use crate::opening;
 use crate::opening::Opening;
+use crate::operand;
 use instruction::CutOff;
 use instruction::Flow;
 use instruction::Mode;
@@ -61,9 +61,9 @@ fn places_by(mode: Mode, image: &[u8], p: u32, next: u32, flow: Flow) -> Places
     match flow {
         Flow::Stop => Places::Nothing,
         Flow::Next => Places::First(next_place(mode, next)),
-        Flow::Jump => Places::First(address::place_at(mode, image, p, next)),
+        Flow::Jump => Places::First(operand::place_at(mode, image, p, next)),
         Flow::Branch => {
-            let to = address::place_at(mode, image, p, next);
+            let to = operand::place_at(mode, image, p, next);
             Places::Both(to, next_place(mode, next))
         }
     }

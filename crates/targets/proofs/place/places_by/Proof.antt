@@ -8,6 +8,7 @@ use lib.IntN.{pos}
 use Rattle.instruction.specs.declared.flow.Flow.{Flow}
 use Rattle.instruction.specs.declared.mode.Mode.{Mode}
 use Rattle.targets.specs.At.{sizeHere, instrHere, waysHere, placeOf}
+use Rattle.targets.specs.Naming.{isNaming}
 use Rattle.targets.specs.Targets.{inMode, byFlow, addressIn}
 use Rattle.targets.proofs.Openings.{goes}
 use Rattle.targets.proofs.place.places_by.Statement.{statement}
@@ -36,11 +37,22 @@ two e f = ap₂ (λ (k : ℕ) (l : ℕ). k ∷ l ∷ []) e f
 next : (c : tie.After-shared-slice-known) → placeOf (inMode (mode c) (pos (c .before .args .next))) ≡ placeOf (inMode (mode c) (pos (p c + sizeHere (image c) (p c))))
 next c = ap (λ (n : ℕ). placeOf (inMode (mode c) (pos n))) (c .before .pre .1 .1)
 
+-- a jump and a branch name an address
+place-at-requires : tie.Need-place-at-requires
+place-at-requires c κs =
+    let s = c .before .before .before in
+    (s .pre .0, (s .pre .1 .0, s .pre .1 .1, ap isNaming (sym (s .pre .1 .2) ∙ c .enum-told3 .given .1)))
+
+place-at-requires-2 : tie.Need-place-at-requires-2
+place-at-requires-2 c κs =
+    let s = c .before .before .before in
+    (s .pre .0, (s .pre .1 .0, s .pre .1 .1, ap isNaming (sym (s .pre .1 .2) ∙ c .enum-told4 .given .1)))
+
 pub places-by-spec : {M : Type 1} → statement M
 places-by-spec =
     tie.close
-    (tie.spec (λ c. search needs) (λ c. search needs) (λ c κs. search needs) (λ c. search needs) (λ c κs. search needs) (λ c. search needs)
-    (λ c κs. search needs) (λ c κs. search needs)
+    (tie.spec (λ c. search needs) (λ c. search needs) (λ c κs. search needs) (λ c. search needs) place-at-requires (λ c. search needs)
+    place-at-requires-2 (λ c κs. search needs)
     (λ c. by-flow (c .before .before) _ (c .enum-told .given .1))
     (λ c. one (c .next-place .ensures ∙ next (c .before .before .before)) ∙ by-flow (c .before .before .before) _ (c .before .enum-told2 .given .1))
     (λ c. one (c .place-at .ensures) ∙ by-flow (c .before .before .before) _ (c .before .enum-told3 .given .1))
