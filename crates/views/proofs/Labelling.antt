@@ -9,7 +9,7 @@ use native.Mathlib.Nat.{zero-add, le-antisymm}
 use lib.Dec.{ltb, eqb}
 use lib.ListN.{length, getD, set, take, drop, replicate, length-map, length-replicate, getD-replicate, take-append-drop, List·getD-append}
 use lib.Seq.{getD-set-same, getD-set-other, getD-take, ext-getD, length-take-le, drop-set-lt, drop-at}
-use borrow.Author.Tests.{le-ltb, ltb-true, ltb-false, eqb-true, eqb-false}
+use borrow.Author.Tests.{lt-ltb, le-ltb, ltb-true, ltb-false, eqb-true, eqb-false}
 use Rattle.instruction.specs.declared.mode.Mode.{Mode}
 use Rattle.reach.specs.Mark.{cleared, tracedMark}
 use Rattle.marks.specs.Clear.{wiped}
@@ -20,16 +20,37 @@ use Rattle.views.proofs.Ors.{or-second, or-start}
 use Rattle.views.proofs.Ups.{up-length, up-at, some-snoc}
 use Rattle.views.specs.Labels.{namedFrom, names, labelled, labelsOf, labelAt}
 
-module _ (mode : Mode) (image m : List ℕ) (p : ℕ) where
-  pub from-untraced : tracedMark (getD m p 0) ≡ false → 65536 ≡ namedFrom mode image m p
-  from-untraced t = rw t
+-- one position: where it names none inside, the room stays
+module _ (mode : Mode) (image m : List ℕ) (p : ℕ) (room : List ℕ) (small : length image ≤ 65536) where
+  abbrev After : List ℕ → Type 0
+  After v = v ≡ labelAt (length image) (namedFrom mode image m p) room
+
+  none : (t : ℕ) → t ≡ namedFrom mode image m p → length image ≤ t → After room
+  none t e h =
+      let f : room ≡ labelAt (length image) t room = rw (le-ltb t (length image) h) in f ∙ ap (λ (k : ℕ). labelAt (length image) k room) e
+
+  pub from-untraced : tracedMark (getD m p 0) ≡ false → After room
+  from-untraced t = none 65536 (rw t) small
 
   module _ (t : tracedMark (getD m p 0) ≡ true) where
-    pub from-exempt : exemptHere image m p ≡ true → 65536 ≡ namedFrom mode image m p
-    from-exempt e = sym (ap₂ (λ (a b : Bool). cond a (cond b 65536 (nameOf mode image p)) 65536) t e)
+    by-exception : (x : Bool) → exemptHere image m p ≡ x → cond x 65536 (nameOf mode image p) ≡ namedFrom mode image m p
+    by-exception x e = sym (ap₂ (λ (a b : Bool). cond a (cond b 65536 (nameOf mode image p)) 65536) t e)
 
-    pub from-name : exemptHere image m p ≡ false → nameOf mode image p ≡ namedFrom mode image m p
-    from-name e = sym (ap₂ (λ (a b : Bool). cond a (cond b 65536 (nameOf mode image p)) 65536) t e)
+    pub from-exempt : exemptHere image m p ≡ true → After room
+    from-exempt e = none 65536 (by-exception true e) small
+
+    module _ (at : ℕ) (named : at ≡ nameOf mode image p) where
+      pub from-outside : length image ≤ at → After room
+      from-outside h = by (exemptHere image m p) refl
+        where
+          by : (x : Bool) → exemptHere image m p ≡ x → After room
+          by true e = from-exempt e
+          by false e = none at (named ∙ by-exception false e) h
+
+      pub from-inside : exemptHere image m p ≡ false → at < length image → After (set room at 1)
+      from-inside e h =
+          let f : set room at 1 ≡ labelAt (length image) at room = rw (lt-ltb at (length image) h) in
+          f ∙ ap (λ (k : ℕ). labelAt (length image) k room) (named ∙ by-exception false e)
 
 pub labels-length : (mode : Mode) (image m : List ℕ) → length (labelsOf mode image m) ≡ length image
 unfolding labelsOf
@@ -83,9 +104,8 @@ module _ (mode : Mode) (image m base : List ℕ) where
       kept true f = drop-set-lt n v (namedFrom mode image m p) 1 (ltb-true (namedFrom mode image m p) n f)
       kept false f = refl
 
-      pub labels-next : (t : ℕ) → t ≡ namedFrom mode image m p → (v′ : List ℕ) → v′ ≡ labelAt n t v → length v′ ≡ length v → Labels (p + 1) v′
-      labels-next t g v′ e l =
-          let f : v′ ≡ labelAt n (namedFrom mode image m p) v = e ∙ ap (λ (k : ℕ). labelAt n k v) g in
+      pub labels-next : (v′ : List ℕ) → v′ ≡ labelAt n (namedFrom mode image m p) v → length v′ ≡ length v → Labels (p + 1) v′
+      labels-next v′ f l =
           record {
             long = l ∙ L .long;
             marked =

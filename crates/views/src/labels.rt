@@ -10,31 +10,27 @@ use crate::view;
 use crate::view::Viewed;
 use instruction::Mode;
 use marks::Mark;
-use targets::Image;
 
-// What a traced position names, or a position outside every image.
-fn named_from(mode: Mode, image: &[u8], marks: &[u8], p: u32) -> u32
-    requires { ⌜ (p < length (now image)) × (length (now image) ≤ length (now marks)) ⌝ }
-    ensures { λ r. ⌜ r ≡ namedFrom mode (now (image .entry)) (now (marks .entry)) p ⌝ }
+// 1 at what the position p names, if it is traced, where that is inside. The exception is asked last: few positions name one inside, and
+// what it knows of the first byte would turn the lookup by that byte into jumps.
+fn label_from(mode: Mode, image: &[u8], marks: &[u8], room: &mut [u8], p: usize)
+    requires { ⌜ (p < length (now image)) × (length (now image) ≤ 65536) ⌝ }
+    requires { ⌜ (length (now image) ≤ length (now marks)) × (length (now image) ≤ length (now room)) ⌝ }
+    ensures { λ _.
+        ⌜ now (room .exit)
+        ≡ labelAt (length (now (image .entry))) (namedFrom mode (now (image .entry)) (now (marks .entry)) p) (now (room .entry)) ⌝ }
 {
-    if !Mark::is_traced(marks[p as usize]) {
-        return Image::NOWHERE;
+    if !Mark::is_traced(marks[p]) {
+        return;
     }
-    if marks::is_exempt(image, marks, p) {
-        return Image::NOWHERE;
+    let at = targets::name_at(mode, image, p as u32) as usize;
+    if image.len() <= at {
+        return;
     }
-    targets::name_at(mode, image, p)
-}
-
-// 1 at a position inside.
-fn label(room: &mut [u8], n: usize, t: u32)
-    requires { ⌜ n ≤ length (now room) ⌝ }
-    ensures { λ _. ⌜ now (room .exit) ≡ labelAt n t (now (room .entry)) ⌝ }
-{
-    let at = t as usize;
-    if at < n {
-        room[at] = 1;
+    if marks::is_exempt(image, marks, p as u32) {
+        return;
     }
+    room[at] = 1;
 }
 
 fn write_labels(mode: Mode, image: &[u8], marks: &[u8], room: &mut [u8])
@@ -45,8 +41,7 @@ fn write_labels(mode: Mode, image: &[u8], marks: &[u8], room: &mut [u8])
     marks::clear(room, n);
     let mut p: usize = 0;
     while p < n {
-        let t = named_from(mode, image, marks, p as u32);
-        label(room, n, t);
+        label_from(mode, image, marks, room, p);
         p += 1;
     }
 }

@@ -37,21 +37,23 @@ room-for c =
     let h : length (start w .args .image .now) ≤ length (start w .args .room .now) = start w .pre .2 in
     omega (arith, w .clear .kept .0)
 
-label-requires : tie.Need-label-requires Inv-loop μ-loop
-label-requires c κs =
-    let l = c .before .before .before in
-    let h = room-for l in omega (arith, l .loop .inv .1 .long)
+label-from-requires : tie.Need-label-from-requires Inv-loop μ-loop
+label-from-requires c κs =
+    let i = c .before in
+    let l = i .before in
+    let s = start (wiped-room (l .before)) in
+    let h = room-for l in ((i .loop-test .taken, s .pre .1), (s .pre .0, omega (arith, l .loop .inv .1 .long)))
 
 loop-again : tie.Need-loop-again Inv-loop μ-loop
 loop-again c =
     let b = c .before .before in
-    let f = b .before .before in
-    let i = f .before in
+    let i = b .before .before in
     let l = i .before in
     let w = wiped-room (l .before) in
     let s = start w in (
       omega arith,
-      labels-next (s .args .mode) (s .args .image .now) (s .args .marks .now) (w .clear .last .0) (room-for l) (l .loop .p) (l .loop .room) (l .loop .inv .1) (f .named-from .result) (f .named-from .ensures) (b .label .last .0) (b .label .ensures) (b .label .kept .0),
+      labels-next (s .args .mode) (s .args .image .now) (s .args .marks .now) (w .clear .last .0) (room-for l) (l .loop .p) (l .loop .room) (l .loop .inv .1)
+          (b .label-from .last .1 .1 .1 .0) (b .label-from .ensures) (b .label-from .kept .1 .1 .1 .0),
     )
 
 returns : tie.Need-returns Inv-loop μ-loop
@@ -66,5 +68,5 @@ returns c =
 pub write-labels-spec : {M : Type 1} → statement M
 write-labels-spec =
     tie.close
-    (tie.spec Inv-loop μ-loop (λ c κs. search needs) loop-holds (λ c. search needs) (λ c κs. search needs) label-requires (λ c. search needs) (λ c. omega arith) loop-again
+    (tie.spec Inv-loop μ-loop (λ c κs. search needs) loop-holds label-from-requires (λ c. search needs) (λ c. omega arith) loop-again
     (λ c. c .before .loop .inv .1 .long ∙ wiped-room (c .before .before) .clear .kept .0) returns)
