@@ -8,3 +8,6 @@ pub mod Shown
 pub mod BackBounds
 pub mod MapBounds
 pub mod LogBounds
+pub mod CodeLines
+pub mod InputBounds
+pub mod ReadBounds

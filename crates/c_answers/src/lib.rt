@@ -1,8 +1,10 @@
 // What the C face hands over: the number of a refusal and five values, for each answer.
 pub mod back;
 mod back_replies;
+pub mod code;
 pub mod codec;
 mod codec_replies;
+mod input_replies;
 pub mod listed;
 mod log_replies;
 mod log_words;
@@ -11,6 +13,7 @@ pub mod map_asking;
 pub mod map_keeping;
 mod map_replies;
 pub mod modes;
+mod place_words;
 pub mod reply;
 mod trace_replies;
 pub mod tracing;
@@ -18,13 +21,17 @@ mod view_replies;
 pub mod viewing;
 
 pub use back::read_back;
+pub use back::read_line;
+pub use code::code_line;
 pub use codec::decode;
 pub use codec::encode;
 pub use codec::resolve;
 pub use codec::targets;
 pub use listed::list_text;
 pub use listed::listing;
+pub use listed::parse;
 pub use listed::report_text;
+pub use listed::unlist_text;
 pub use logs::replay;
 pub use logs::replay_block;
 pub use logs::replay_close;

@@ -1,12 +1,16 @@
-// The listing and the two programs' texts, answered by replies.
+// The listing, the programs' texts, and an input taken apart, answered by replies.
 ghost use mathlib.Core.Path.{_≡_};
 ghost use mathlib.Core.List.{[]};
 ghost use Rattle.views.specs.View.{roomAnswer, roomAfter};
 ghost use Rattle.listing.specs.Walk.{listingAnswer, listingRoom};
 ghost use Rattle.list_text.specs.Output.{outputOf};
+ghost use Rattle.list_text.specs.Text.{parseAnswer, parseEntries, parseImage};
 ghost use Rattle.report_text.specs.Report.{reportAnswer, reportRoom};
+ghost use Rattle.unlist_text.specs.Unlisted.{unlistedOf};
 ghost use Rattle.c_answers.specs.Reply.{replyOf, countValues};
 ghost use Rattle.c_answers.specs.Listing.{choiceOf};
+ghost use Rattle.c_answers.specs.Parsing.{inputValues};
+use crate::input_replies;
 use crate::reply::Reply;
 use crate::view_replies;
 use instruction::Mode;
@@ -43,4 +47,21 @@ pub fn report_text(text: &[u8], room: &mut [u8]) -> Reply
     ensures { λ _. ⌜ now (room .exit) ≡ reportRoom (now (text .entry)) (now (room .entry)) ⌝ }
 {
     view_replies::viewed(report_text::report_text(text, room))
+}
+
+// Accepted: the number of bytes written, those of a refusal's line among them.
+pub fn unlist_text(text: &[u8], length: u32, room: &mut [u8]) -> Reply
+    ensures { λ r. ⌜ r ≡ replyOf countValues (roomAnswer [] (unlistedOf (now (text .entry)) length) (now (room .entry))) ⌝ }
+    ensures { λ _. ⌜ now (room .exit) ≡ roomAfter [] (unlistedOf (now (text .entry)) length) (now (room .entry)) ⌝ }
+{
+    view_replies::viewed(unlist_text::unlist_text(text, length as usize, room))
+}
+
+// Accepted: how many entries, and how many bytes.
+pub fn parse(text: &[u8], entries: &mut [u32], image: &mut [u8]) -> Reply
+    ensures { λ r. ⌜ r ≡ replyOf inputValues (parseAnswer (now (text .entry)) (now (entries .entry)) (now (image .entry))) ⌝ }
+    ensures { λ _. ⌜ now (entries .exit) ≡ parseEntries (now (text .entry)) (now (entries .entry)) (now (image .entry)) ⌝ }
+    ensures { λ _. ⌜ now (image .exit) ≡ parseImage (now (text .entry)) (now (entries .entry)) (now (image .entry)) ⌝ }
+{
+    input_replies::parsed(list_text::parse(text, entries, image))
 }

@@ -4,12 +4,12 @@ ghost use mathlib.Core.Path.{_≡_};
 pub struct Version;
 
 impl Version {
-    pub const NUMBER: u32 = 5;
+    pub const NUMBER: u32 = 6;
 }
 
 #[no_mangle]
 pub extern "C" fn pw_version() -> u32
-    ensures { λ r. ⌜ r ≡ 5 ⌝ }
+    ensures { λ r. ⌜ r ≡ 6 ⌝ }
 {
     Version::NUMBER
 }
