@@ -78,14 +78,15 @@
  * `ret`, a `reti` or a `jmpf` with the mark 3, to any traced position, which is
  * a free move. There is no other move.
  *
- * Stack: pw_listing, pw_list_text, pw_report_text and pw_read_back hold tables
- * for the longest image on the stack, however short the image. A thread that
- * calls pw_listing, with arrivals or without, needs a stack of 1 MiB, of which
- * it holds some 900 KiB; one that calls pw_list_text or pw_read_back needs 256
- * KiB, one that calls pw_report_text 192 KiB. pw_replay and
- * pw_replay_block hold a table of the entries, and need 16 KiB. With too small
- * a stack the program is ended by a fault, and there is no refusal. All other
- * calls need less than 1 KiB. No call allocates memory.
+ * Stack: pw_listing, pw_list_text, pw_report_text, pw_read_back and
+ * pw_unlist_text hold tables for the longest image on the stack, however short
+ * the image. A thread that calls pw_listing, with arrivals or without, needs a
+ * stack of 1 MiB, of which it holds some 900 KiB; one that calls pw_unlist_text
+ * needs 384 KiB, one that calls pw_list_text or pw_read_back 256 KiB, one that
+ * calls pw_report_text 192 KiB. pw_replay and pw_replay_block hold a table of
+ * the entries, and need 16 KiB. With too small a stack the program is ended by
+ * a fault, and there is no refusal. All other calls need less than 1 KiB. No
+ * call allocates memory.
  *
  * Rooms: where a call refuses with 11 its rooms stay as they were, and
  * answer[0] is how much is needed. So a room of 0 asks how much that is; where
@@ -104,14 +105,14 @@
 
 /* The version of what is declared here: it changes when a call does, or when
  * calls are added. What is linked answers its own by pw_version. */
-#define PW_VERSION 5
+#define PW_VERSION 6
 
 /* The values of an answer. */
 #define PW_VALUES 5
 
 /* The number that a call answers: 0, or that of a refusal, here with its values
- * in answer[0] to answer[2]. 13 and 22 are answered by none: pw_list_text
- * prints 13, and pw_report_text both. */
+ * in answer[0] to answer[2]. 22 is answered by none: pw_report_text prints it,
+ * and 13 as well, which pw_list_text prints too. */
 #define PW_DONE 0
 /* the image is longer than 65,536: its length */
 #define PW_LONG_IMAGE 1
@@ -135,12 +136,13 @@
 #define PW_TOO_FAR 9
 /* the top four bits differ: the base's, the address's */
 #define PW_OTHER_PAGE 10
-/* no room: the number of bytes, of positions, of words or of counts needed */
+/* no room: the number of bytes, of positions, of words or of counts needed; of
+ * pw_parse the entries and the bytes */
 #define PW_NO_ROOM 11
 /* nothing to decode: 0 */
 #define PW_NOTHING 12
 /* the listing program's input, or an image of a term, is malformed or too
- * long */
+ * long: of an input the first bad line, from 1 */
 #define PW_MALFORMED_INPUT 13
 /* the base, or the position after the instruction, is over 65,536: that
  * number */
@@ -181,6 +183,9 @@
 #define PW_STOPPED 0
 #define PW_FINISHED 1
 
+/* The letter in answer[0] of pw_read_line where no line is left. */
+#define PW_NO_LINE 0
+
 /* The choice of pw_listing. */
 #define PW_ARRIVALS_DECLINED 0
 #define PW_ARRIVALS_CHOSEN 1
@@ -209,17 +214,33 @@
 #define PW_REPLAY_HELD 5
 #define PW_REPLAY_PART 6
 
+/* The numbers of a place in a listing, as pw_read_line takes it, and which is
+ * which: where in the text the line begins, its number, the position and the
+ * letter of the line before it. And the place of the first line, to begin with:
+ *
+ *     uint64_t place[PW_PLACE_WORDS] = PW_PLACE_START;
+ */
+#define PW_PLACE_WORDS 4
+#define PW_PLACE_AT 0
+#define PW_PLACE_LINE 1
+#define PW_PLACE_LAST 2
+#define PW_PLACE_LETTER 3
+#define PW_PLACE_START {0, 1, 0, 0}
+
 /* Room for every listing, for each byte of the image: without `A` lines, and
- * with them. */
+ * with them; and the longest `I` line, its byte 10 counted. */
 #define PW_LISTING_ROOM 60
 #define PW_ARRIVALS_ROOM 77
+#define PW_CODE_LINE_MOST 31
 
-/* What pw_list_text takes, and pw_report_text of each image: entries, bytes on
- * a line, bytes in all; and room for all that pw_list_text prints. */
+/* What pw_list_text and pw_parse take, and pw_report_text of each image:
+ * entries, bytes on a line, bytes in all; and room for all that pw_list_text
+ * prints, and for all that pw_unlist_text does. */
 #define PW_MOST_ENTRIES 256
 #define PW_MOST_IN_LINE 32
 #define PW_MOST_BYTES 16384
 #define PW_PRINTED_ROOM 983040
+#define PW_UNLISTED_ROOM 133120
 
 /* The longest name of an image in a term. */
 #define PW_LONGEST_NAME 32
@@ -431,6 +452,20 @@ uint32_t pw_listing(uint32_t mode, const uint8_t *image, size_t image_length,
                     uint32_t arrivals, uint8_t *room, size_t room_length,
                     int64_t answer[PW_VALUES]);
 
+/* One `I` line by itself, ended by byte 10: the one that pw_listing has in this
+ * mode where n bytes at a position begin with an instruction. No image and no
+ * marks are asked for; bytes after the instruction are ignored.
+ * 0: the number of bytes written, at most PW_CODE_LINE_MOST. No byte 0 follows
+ *    them; the rest of the room stays as it was.
+ * 12 and 5 as pw_decode has them, 14 with the position after the instruction,
+ * unwrapped in both modes, 11: the room stays as it was. A room of 0 asks how
+ * many bytes there are.
+ */
+uint32_t pw_code_line(uint32_t mode, uint32_t position,
+                      const uint8_t *bytes, size_t n,
+                      uint8_t *room, size_t room_length,
+                      int64_t answer[PW_VALUES]);
+
 /* What the listing program prints for an input text. Its first line has up to
  * 256 entries, four hex digits each, parted by tabs; each further line has 1 to
  * 32 bytes of the image, two hex digits each, and all of them up to 16,384.
@@ -446,6 +481,19 @@ uint32_t pw_listing(uint32_t mode, const uint8_t *image, size_t image_length,
 uint32_t pw_list_text(const uint8_t *text, size_t text_length,
                       uint8_t *room, size_t room_length,
                       int64_t answer[PW_VALUES]);
+
+/* Takes an input of pw_list_text apart: the entries of its first line go to the
+ * beginning of entries, the bytes of all others to the beginning of image. The
+ * rest of both stays as it was.
+ * 0: how many entries, and how many bytes. A text of no bytes has none of both.
+ * 13 with the first bad line, from 1; 11 with the entries and the bytes needed,
+ * where either room is too short: both stay as they were. Two rooms of 0 ask
+ * for both; PW_MOST_ENTRIES and PW_MOST_BYTES are always enough.
+ */
+uint32_t pw_parse(const uint8_t *text, size_t text_length,
+                  uint32_t *entries, size_t entries_length,
+                  uint8_t *image, size_t image_length,
+                  int64_t answer[PW_VALUES]);
 
 /* What the term report prints of a text of images. An image is a line of `N`, a
  * tab and a name of 1 to 32 letters or digits, then the lines that pw_list_text
@@ -489,6 +537,38 @@ uint32_t pw_read_back(uint32_t mode, const uint8_t *text, size_t text_length,
                       uint32_t length, uint8_t *image, size_t image_length,
                       uint8_t *marks, size_t marks_length,
                       int64_t answer[PW_VALUES]);
+
+/* Reads one line of a listing, the one that begins at a place. Place and text
+ * are all that it looks at, so a place may be copied, and reading gone on with
+ * from it at any time over the same text. Lines are judged as in pw_read_back,
+ * but that there is no image: no line contradicts an earlier one, and none
+ * reaches past a length.
+ * 0: the letter, `L`, `O`, `A`, `I` or `D`, the position, and how many further
+ *    (`O`, `A`) or bytes (`I`, `D`) follow it, 0 after `L`; the place becomes
+ *    that of the next line. Where no line begins at the place or after it:
+ *    PW_NO_LINE, 0, 0, and the place stays as it was.
+ * 15 with the line's number: the place stays as it was.
+ * Other numbers than a call left there are taken for a place too, and give some
+ * answer and no fault. Of one that is too large for its kind the lower bits
+ * count: 63 of a line's number, 32 of a position, 8 of a letter. A letter that
+ * begins no line says that there is no line before.
+ */
+uint32_t pw_read_line(uint32_t mode, const uint8_t *text, size_t text_length,
+                      uint64_t place[PW_PLACE_WORDS],
+                      int64_t answer[PW_VALUES]);
+
+/* What the program unlist prints for a listing of an image of `length` bytes,
+ * read back in unwrapped mode: the image in lines of 32 bytes, the last of 1 to
+ * 32, two hex digits each, as pw_list_text takes them after its first line; or
+ * one line of `R`, a tab, the number that pw_read_back has, 1, 15 or 16, a tab
+ * and its value.
+ * 0: the number of bytes written, also where they are an `R` line.
+ * 11, and no other. A room of 0 asks how many bytes there are; one of
+ * PW_UNLISTED_ROOM is always enough.
+ */
+uint32_t pw_unlist_text(const uint8_t *text, size_t text_length,
+                        uint32_t length, uint8_t *room, size_t room_length,
+                        int64_t answer[PW_VALUES]);
 
 /* The packed map, built from the marks into the beginning of words. Bits past
  * the image in the last word needed become 0; further words stay as they were.

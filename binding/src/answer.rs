@@ -104,7 +104,7 @@ impl Answer {
             },
             Answer::NO_ROOM => Refusal::NoRoom { needed: length },
             Answer::NOTHING => Refusal::Nothing,
-            Answer::MALFORMED_INPUT => Refusal::MalformedInput,
+            Answer::MALFORMED_INPUT => Refusal::MalformedInput { line },
             Answer::PAST_MEMORY => Refusal::PastMemory { position: a as u64 },
             Answer::MALFORMED_LINE => Refusal::MalformedLine { line },
             Answer::LINE_PAST_END => Refusal::LinePastEnd { line },
@@ -125,8 +125,7 @@ impl fmt::Debug for Answer {
     }
 }
 
-/// A refusal with its values. [`Refusal::MalformedInput`] and [`Refusal::SumFull`] are answered by no call: `list_text` and `report_text`
-/// print their numbers.
+/// A refusal with its values. [`Refusal::SumFull`] is answered by no call: `report_text` prints its number.
 #[derive(Clone, Copy, PartialEq, Eq, Debug)]
 #[repr(u32)]
 pub enum Refusal {
@@ -173,12 +172,14 @@ pub enum Refusal {
         needed: usize,
     } = Answer::NO_ROOM,
     Nothing = Answer::NOTHING,
-    MalformedInput = Answer::MALFORMED_INPUT,
+    /// Lines are counted from 1.
+    MalformedInput {
+        line: u64,
+    } = Answer::MALFORMED_INPUT,
     /// The base, or the position after the instruction.
     PastMemory {
         position: u64,
     } = Answer::PAST_MEMORY,
-    /// Lines are counted from 1.
     MalformedLine {
         line: u64,
     } = Answer::MALFORMED_LINE,
@@ -239,7 +240,7 @@ impl fmt::Display for Refusal {
             }
             Refusal::NoRoom { needed } => write!(f, "no room, {needed} needed"),
             Refusal::Nothing => write!(f, "nothing to decode"),
-            Refusal::MalformedInput => write!(f, "the input is malformed"),
+            Refusal::MalformedInput { line } => write!(f, "line {line} of the input is malformed"),
             Refusal::PastMemory { position } => write!(f, "{position} is past memory"),
             Refusal::MalformedLine { line } => write!(f, "line {line} is malformed"),
             Refusal::LinePastEnd { line } => write!(f, "line {line} reaches past the end"),

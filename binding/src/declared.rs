@@ -1,9 +1,10 @@
 //! The calls as `include/pottagewing.h` declares them.
 
-use crate::{REPLAY_WORDS, VALUES};
+use crate::{PLACE_WORDS, REPLAY_WORDS, VALUES};
 
 type Values = [i64; VALUES];
 type Words = [u64; REPLAY_WORDS];
+type Place = [u64; PLACE_WORDS];
 
 unsafe extern "C" {
     pub fn pw_version() -> u32;
@@ -141,11 +142,29 @@ unsafe extern "C" {
         room_length: usize,
         answer: *mut Values,
     ) -> u32;
+    pub fn pw_code_line(
+        mode: u32,
+        position: u32,
+        bytes: *const u8,
+        n: usize,
+        room: *mut u8,
+        room_length: usize,
+        answer: *mut Values,
+    ) -> u32;
     pub fn pw_list_text(
         text: *const u8,
         text_length: usize,
         room: *mut u8,
         room_length: usize,
+        answer: *mut Values,
+    ) -> u32;
+    pub fn pw_parse(
+        text: *const u8,
+        text_length: usize,
+        entries: *mut u32,
+        entries_length: usize,
+        image: *mut u8,
+        image_length: usize,
         answer: *mut Values,
     ) -> u32;
     pub fn pw_report_text(
@@ -164,6 +183,21 @@ unsafe extern "C" {
         image_length: usize,
         marks: *mut u8,
         marks_length: usize,
+        answer: *mut Values,
+    ) -> u32;
+    pub fn pw_read_line(
+        mode: u32,
+        text: *const u8,
+        text_length: usize,
+        place: *mut Place,
+        answer: *mut Values,
+    ) -> u32;
+    pub fn pw_unlist_text(
+        text: *const u8,
+        text_length: usize,
+        length: u32,
+        room: *mut u8,
+        room_length: usize,
         answer: *mut Values,
     ) -> u32;
     pub fn pw_map_build(

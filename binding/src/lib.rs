@@ -18,6 +18,7 @@ mod logs;
 mod mapped;
 mod names;
 pub mod numbers;
+mod places;
 mod tracing;
 mod viewing;
 
@@ -25,11 +26,13 @@ pub use answer::{Answer, Refusal};
 pub use codec::{Instruction, Targets, decode, encode, resolve, targets};
 pub use forms::Form;
 pub use listed::{
-    list_text, list_text_into, listing, listing_into, read_back, report_text, report_text_into,
+    Input, code_line, code_line_into, list_text, list_text_into, listing, listing_into, parse,
+    parse_into, read_back, report_text, report_text_into, unlist_text, unlist_text_into,
 };
 pub use logs::{Record, Totals, replay};
 pub use mapped::{map_build, map_count, map_first_data, map_test, map_update};
 pub use names::*;
+pub use places::{Letter, Line, Place};
 pub use tracing::{Ended, Ran, Stepped, Swept, run, start, step, sweep};
 pub use viewing::{arrivals, data_run, mask, overlaps, target_marks};
 

@@ -1,6 +1,6 @@
-//! Text: the listing, what the programs print, and a listing read back.
+//! Text: the listing, one line of it, what the programs print and take, and a listing read back.
 
-use crate::{Answer, Arrivals, Mode, Refusal, numbers};
+use crate::{Answer, Arrivals, MOST_BYTES, MOST_ENTRIES, Mode, Refusal, numbers};
 
 /// All that a call writes: an empty room asks how much that is.
 fn whole(call: impl Fn(&mut [u8]) -> Answer) -> Result<Vec<u8>, Refusal> {
@@ -35,6 +35,22 @@ pub fn listing(
     whole(|room| numbers::listing(mode as u32, image, marks, arrivals as u32, room))
 }
 
+/// How many bytes were written. [`CODE_LINE_MOST`](crate::CODE_LINE_MOST) bytes are always enough.
+#[inline]
+pub fn code_line_into(
+    mode: Mode,
+    position: u32,
+    bytes: &[u8],
+    room: &mut [u8],
+) -> Result<usize, Refusal> {
+    numbers::code_line(mode as u32, position, bytes, room).count()
+}
+
+/// The `I` line of the instruction with which the bytes begin, at a position.
+pub fn code_line(mode: Mode, position: u32, bytes: &[u8]) -> Result<Vec<u8>, Refusal> {
+    whole(|room| numbers::code_line(mode as u32, position, bytes, room))
+}
+
 /// How many bytes were written. [`PRINTED_ROOM`](crate::PRINTED_ROOM) bytes are always enough.
 #[inline]
 pub fn list_text_into(text: &[u8], room: &mut [u8]) -> Result<usize, Refusal> {
@@ -44,6 +60,38 @@ pub fn list_text_into(text: &[u8], room: &mut [u8]) -> Result<usize, Refusal> {
 /// All that the listing program prints of a text.
 pub fn list_text(text: &[u8]) -> Vec<u8> {
     whole(|room| numbers::list_text(text, room)).expect("refused for want of room alone")
+}
+
+/// What an input of the listing program holds: how many entries, and how many bytes.
+#[derive(Clone, Copy, PartialEq, Eq, Debug)]
+pub struct Input {
+    pub entries: usize,
+    pub bytes: usize,
+}
+
+/// An input of the listing program taken apart, into rooms for the longest: how many entries and bytes stand at their beginnings.
+#[inline]
+pub fn parse_into(
+    text: &[u8],
+    entries: &mut [u32; MOST_ENTRIES],
+    image: &mut [u8; MOST_BYTES],
+) -> Result<Input, Refusal> {
+    let [count, bytes, ..] = numbers::parse(text, entries, image).told()?;
+    Ok(Input {
+        entries: count as usize,
+        bytes: bytes as usize,
+    })
+}
+
+/// The entries and the image of an input of the listing program.
+pub fn parse(text: &[u8]) -> Result<(Vec<u32>, Vec<u8>), Refusal> {
+    let mut entries = [0; MOST_ENTRIES];
+    let mut image = [0; MOST_BYTES];
+    let counts = parse_into(text, &mut entries, &mut image)?;
+    Ok((
+        entries[..counts.entries].to_vec(),
+        image[..counts.bytes].to_vec(),
+    ))
 }
 
 /// How many bytes were written.
@@ -67,4 +115,15 @@ pub fn read_back(
     marks: &mut [u8],
 ) -> Result<usize, Refusal> {
     numbers::read_back(mode as u32, text, length, image, marks).count()
+}
+
+/// How many bytes were written. [`UNLISTED_ROOM`](crate::UNLISTED_ROOM) bytes are always enough.
+#[inline]
+pub fn unlist_text_into(text: &[u8], length: u32, room: &mut [u8]) -> Result<usize, Refusal> {
+    numbers::unlist_text(text, length, room).count()
+}
+
+/// All that `unlist` prints of a listing of an image of so many bytes.
+pub fn unlist_text(text: &[u8], length: u32) -> Vec<u8> {
+    whole(|room| numbers::unlist_text(text, length, room)).expect("refused for want of room alone")
 }

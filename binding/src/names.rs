@@ -11,7 +11,7 @@ macro_rules! names {
 
 names! {
     /// The version of the header that this crate was written to.
-    VERSION: u32 = 5;
+    VERSION: u32 = 6;
     /// The values of an answer.
     VALUES: usize = 5;
     /// The longest image.
@@ -34,21 +34,36 @@ names! {
     REPLAY_REFUSAL: usize = 4;
     REPLAY_HELD: usize = 5;
     REPLAY_PART: usize = 6;
+    /// The numbers of a [`Place`](crate::Place), and which is which.
+    PLACE_WORDS: usize = 4;
+    PLACE_AT: usize = 0;
+    PLACE_LINE: usize = 1;
+    PLACE_LAST: usize = 2;
+    PLACE_LETTER: usize = 3;
+    /// The letter that is answered where no line is left.
+    NO_LINE: i64 = 0;
     /// Room for every listing without arrivals, for each byte of the image.
     LISTING_ROOM: usize = 60;
     /// The same with arrivals.
     ARRIVALS_ROOM: usize = 77;
+    /// The longest `I` line, its byte 10 counted.
+    CODE_LINE_MOST: usize = 31;
     /// What the listing program takes: entries, bytes on a line, bytes in all.
     MOST_ENTRIES: usize = 256;
     MOST_IN_LINE: usize = 32;
     MOST_BYTES: usize = 16_384;
     /// Room for all that it prints.
     PRINTED_ROOM: usize = 983_040;
+    /// Room for all that `unlist` prints.
+    UNLISTED_ROOM: usize = 133_120;
     /// The longest name of an image in a term.
     LONGEST_NAME: usize = 32;
     /// How many forms there are.
     FORMS: usize = 70;
 }
+
+/// The numbers of the place of a text's first line.
+pub const PLACE_START: [u64; PLACE_WORDS] = [0, 1, 0, 0];
 
 /// What becomes of a short branch, and of the position after an instruction, at the ends of memory. What is traced in one mode is to be
 /// looked at in the same.

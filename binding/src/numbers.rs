@@ -4,10 +4,13 @@
 //! are only read may overlap: no call writes through them.
 
 use crate::declared::*;
-use crate::{Answer, REPLAY_WORDS, VALUES};
+use crate::{Answer, PLACE_WORDS, REPLAY_WORDS, VALUES};
 
 /// The numbers of a record, as [`replay_open`] makes them.
 pub type Words = [u64; REPLAY_WORDS];
+
+/// The numbers of a place, as [`read_line`] takes and leaves them.
+pub type PlaceWords = [u64; PLACE_WORDS];
 
 #[inline]
 pub fn version() -> u32 {
@@ -206,9 +209,32 @@ pub fn listing(mode: u32, image: &[u8], marks: &[u8], arrivals: u32, room: &mut 
 }
 
 #[inline]
+pub fn code_line(mode: u32, position: u32, bytes: &[u8], room: &mut [u8]) -> Answer {
+    let (at, n) = (room.as_mut_ptr(), room.len());
+    answered(|values| unsafe {
+        pw_code_line(mode, position, bytes.as_ptr(), bytes.len(), at, n, values)
+    })
+}
+
+#[inline]
 pub fn list_text(text: &[u8], room: &mut [u8]) -> Answer {
     let (at, n) = (room.as_mut_ptr(), room.len());
     answered(|values| unsafe { pw_list_text(text.as_ptr(), text.len(), at, n, values) })
+}
+
+#[inline]
+pub fn parse(text: &[u8], entries: &mut [u32], image: &mut [u8]) -> Answer {
+    answered(|values| unsafe {
+        pw_parse(
+            text.as_ptr(),
+            text.len(),
+            entries.as_mut_ptr(),
+            entries.len(),
+            image.as_mut_ptr(),
+            image.len(),
+            values,
+        )
+    })
 }
 
 #[inline]
@@ -238,6 +264,17 @@ pub fn read_back(
             values,
         )
     })
+}
+
+#[inline]
+pub fn read_line(mode: u32, text: &[u8], place: &mut PlaceWords) -> Answer {
+    answered(|values| unsafe { pw_read_line(mode, text.as_ptr(), text.len(), place, values) })
+}
+
+#[inline]
+pub fn unlist_text(text: &[u8], length: u32, room: &mut [u8]) -> Answer {
+    let (at, n) = (room.as_mut_ptr(), room.len());
+    answered(|values| unsafe { pw_unlist_text(text.as_ptr(), text.len(), length, at, n, values) })
 }
 
 #[inline]

@@ -220,6 +220,101 @@ fn listings() {
 }
 
 #[test]
+fn code_lines() {
+    let bytes = [0x80, 0xF9, 0xA0];
+    let line = b"I\t0005\t80F9\tbz\t0000\n";
+    assert_eq!(code_line(MODE, 5, &bytes), Ok(line.to_vec()));
+    let mut room = [9; CODE_LINE_MOST];
+    assert_eq!(code_line_into(MODE, 5, &bytes, &mut room), Ok(line.len()));
+    assert!(room.starts_with(line));
+    assert_eq!(
+        code_line_into(MODE, 5, &bytes, &mut room[..5]),
+        Err(Refusal::NoRoom { needed: line.len() })
+    );
+    let wrapped = code_line(Mode::Wrapping, 0, &[BR, 0x80]);
+    assert_eq!(wrapped, Ok(b"I\t0000\t0180\tbr\tFF82\n".to_vec()));
+    assert_eq!(code_line(MODE, 0, &[]), Err(Refusal::Nothing));
+    let cut = Refusal::CutOff {
+        position: 0,
+        first: BP,
+        missing: 1,
+    };
+    assert_eq!(code_line(MODE, u32::MAX, &[BP, 0]), Err(cut));
+    assert_eq!(
+        code_line(MODE, 65_536, &[RET]),
+        Err(Refusal::PastMemory { position: 65_537 })
+    );
+}
+
+#[test]
+fn lines() {
+    let mut place = Place::START;
+    let mut lines = vec![];
+    while let Some(line) = place.read_line(MODE, LISTING.as_bytes()).expect("a line") {
+        lines.push((line.letter as u8 as char, line.position, line.count));
+    }
+    let expected = [
+        ('L', 0, 0),
+        ('I', 0, 2),
+        ('D', 2, 2),
+        ('L', 4, 0),
+        ('I', 4, 1),
+        ('I', 5, 2),
+        ('I', 7, 1),
+    ];
+    assert_eq!(lines, expected);
+    let after = [LISTING.len() as u64, 8, 7, u64::from(b'I')];
+    assert_eq!(place, Place(after));
+    assert_eq!(after[PLACE_AT], LISTING.len() as u64);
+
+    let bad = b"L\t0000\nbad\n";
+    let mut place = Place::START;
+    let first = place.read_line(MODE, bad).expect("a line").expect("one");
+    assert_eq!((first.letter, first.count), (Letter::Label, 0));
+    let second = place;
+    assert_eq!(
+        place.read_line(MODE, bad),
+        Err(Refusal::MalformedLine { line: 2 })
+    );
+    assert_eq!(place, second);
+}
+
+#[test]
+fn inputs() {
+    let text = b"0000\t0004\n0102004164\n80F9A0\n";
+    assert_eq!(parse(text), Ok((vec![0, 4], IMAGE.to_vec())));
+    let (mut entries, mut image) = ([9; MOST_ENTRIES], [9; MOST_BYTES]);
+    let held = Input {
+        entries: 2,
+        bytes: 8,
+    };
+    assert_eq!(parse_into(text, &mut entries, &mut image), Ok(held));
+    assert_eq!((entries[..3].to_vec(), image[8]), (vec![0, 4, 9], 9));
+    assert_eq!(parse(b""), Ok((vec![], vec![])));
+    assert_eq!(
+        parse(b"0000\n0102\n010\n"),
+        Err(Refusal::MalformedInput { line: 3 })
+    );
+    let short = numbers::parse(text, &mut entries[..1], &mut image);
+    assert_eq!(short, Answer::new(Answer::NO_ROOM, &[2, 8]));
+
+    let lines = b"010200416480F9A0\n";
+    assert_eq!(unlist_text(LISTING.as_bytes(), 8), lines);
+    let mut room = [9; 17];
+    assert_eq!(
+        unlist_text_into(LISTING.as_bytes(), 8, &mut room),
+        Ok(lines.len())
+    );
+    assert_eq!(&room, lines);
+    assert_eq!(
+        unlist_text_into(LISTING.as_bytes(), 8, &mut []),
+        Err(Refusal::NoRoom { needed: 17 })
+    );
+    assert_eq!(unlist_text(LISTING.as_bytes(), 7), b"R\t16\t7\n");
+    assert_eq!(unlist_text(b"bad", 7), b"R\t15\t1\n");
+}
+
+#[test]
 fn reports() {
     let text = b"N\tSample\n0000\n0102004164\n80F9A0\n\nN\tCut\n0000\n6800\n";
     let report = b"Sample\t8\t4\t6\t2\t0\t2\nCut\tR\t5\nT\t8\t4\t6\t2\t0\t2\t1\t1\n";
@@ -315,7 +410,7 @@ fn numbers_of_refusals() {
         (Refusal::NotWaiting { mark }, 4),
         (Refusal::NoRoom { needed: 5 }, 11),
         (Refusal::Nothing, 12),
-        (Refusal::MalformedInput, 13),
+        (Refusal::MalformedInput { line: 1 }, 13),
         (Refusal::SumFull, 22),
     ];
     for (refusal, number) in some {

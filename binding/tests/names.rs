@@ -1,21 +1,24 @@
 //! The names and their values are the header's, all of them.
 
-use pottagewing::{Answer, Arrivals, Ended, Form, Mark, Mode, NAMES, VERSION};
+use pottagewing::{Answer, Arrivals, Ended, Form, Letter, Mark, Mode, NAMES, PLACE_START, VERSION};
 use std::collections::BTreeMap;
 
 const HEADER: &str = include_str!("../../include/pottagewing.h");
 
-/// What the header defines, without `PW_`.
+/// What the header defines, without `PW_`, and the value as it is written.
+fn written() -> impl Iterator<Item = (&'static str, &'static str)> {
+    let defined = HEADER
+        .lines()
+        .filter_map(|line| line.strip_prefix("#define PW_"));
+    defined.map(|rest| rest.split_once(' ').expect("a name and its value"))
+}
+
+/// Those that are numbers: all but a list in braces.
 fn defined() -> BTreeMap<String, u64> {
-    let mut names = BTreeMap::new();
-    for line in HEADER.lines() {
-        let Some(rest) = line.strip_prefix("#define PW_") else {
-            continue;
-        };
-        let (name, value) = rest.split_once(' ').expect("a name and its value");
-        names.insert(name.to_string(), value.parse().expect("a number"));
-    }
-    names
+    written()
+        .filter(|(_, value)| !value.starts_with('{'))
+        .map(|(name, value)| (name.to_string(), value.parse().expect("a number")))
+        .collect()
 }
 
 /// The enum of forms, without `PW_FORM_`, in its order.
@@ -48,6 +51,25 @@ fn names_are_the_headers() {
     }
     ours.extend(marks);
     assert_eq!(ours, defined());
+}
+
+#[test]
+fn the_first_place_is_the_headers() {
+    let lists: Vec<_> = written()
+        .filter(|(_, value)| value.starts_with('{'))
+        .collect();
+    let [a, b, c, d] = PLACE_START;
+    let place = format!("{{{a}, {b}, {c}, {d}}}");
+    assert_eq!(lists, [("PLACE_START", place.as_str())]);
+}
+
+#[test]
+fn letters_are_read() {
+    for letter in Letter::ALL {
+        assert_eq!(Letter::of(letter as u8), Some(letter));
+    }
+    assert_eq!(Letter::of(0), None);
+    assert_eq!(Letter::of(b'P'), None);
 }
 
 #[test]

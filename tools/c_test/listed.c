@@ -6,12 +6,6 @@
 #include "samples.h"
 #include "texts.h"
 
-#define INPUT "0000\n0102004164\n80F9A0\n"
-#define DECLINED "L\t0000\nI\t0000\t0102\tbr\t0004\nD\t0002\t0041\nL\t0004\nI\t0004\t64\tinc\t@R0\nI\t0005\t80F9\tbz\t0000\nI\t0007\tA0\tret\n"
-#define CHOSEN \
-    "L\t0000\nA\t0000\t0005\nI\t0000\t0102\tbr\t0004\nD\t0002\t0041\nL\t0004\nA\t0004\t0000\nI\t0004\t64\tinc\t@R0\n" \
-    "A\t0005\t0004\nI\t0005\t80F9\tbz\t0000\nA\t0007\t0005\nI\t0007\tA0\tret\n"
-
 static void listing(void)
 {
     uint8_t *room = room_for_text();

@@ -6,7 +6,7 @@
 
 int main(void)
 {
-    void (*const parts[])(void) = {codec, tracing, viewing, listed, reported, mapped, replayed, blocks, ends, names};
+    void (*const parts[])(void) = {codec, tracing, viewing, listed, lines, inputs, reported, mapped, replayed, blocks, ends, names};
     const uint32_t modes[] = {PW_UNWRAPPED, PW_WRAPPING, 2, UINT32_MAX};
 
     HOLDS(pw_version() == PW_VERSION);

@@ -115,6 +115,26 @@ static void naming_rooms(void)
     HOLDS(PW_SUM_FULL == 22);
 }
 
+/* The `I` lines of all first bytes, each with targets inside memory: none is longer than the longest, and one is as long. */
+static void naming_lines(void)
+{
+    int64_t longest = 0;
+    for (int first = 0; first < 256; first++) {
+        HOLDS(pw_code_line(mode, 0, BYTES(first, 0, 0), PW_INSTRUCTION_LENGTH, NONE(uint8_t), 0, answer) == PW_NO_ROOM);
+        longest = answer[0] > longest ? answer[0] : longest;
+    }
+    HOLDS(longest == PW_CODE_LINE_MOST);
+}
+
+/* An empty listing of the longest image, and of one longer. */
+static void naming_unlisted(void)
+{
+    uint8_t *none = NONE(uint8_t);
+
+    ANSWERS(PW_NO_ROOM, pw_unlist_text(none, 0, PW_IMAGE_LIMIT, none, 0, answer), PW_UNLISTED_ROOM);
+    ANSWERS(PW_NO_ROOM, pw_unlist_text(none, 0, PW_IMAGE_LIMIT + 1, none, 0, answer), LENGTH("R\t1\t65537\n"));
+}
+
 /* An input of the listing program of so many entries, and so many bytes of A0, so many a line. */
 static uint8_t *input_of(int entries, int bytes, int in_line, size_t *length)
 {
@@ -138,6 +158,36 @@ static int is_taken(int entries, int bytes, int in_line)
     sprintf(line, "R\t%d\n", PW_MALFORMED_INPUT);
     HOLDS(pw_list_text(text, length, room, PW_PRINTED_ROOM, answer) == PW_DONE);
     return answer[0] != (int64_t)strlen(line) || !same(room, line, strlen(line));
+}
+
+/* The most that it holds are taken apart, and one more of either is a bad line. */
+static void naming_parts(void)
+{
+    static uint32_t entries[PW_MOST_ENTRIES];
+    static uint8_t image[PW_MOST_BYTES];
+    size_t length;
+    const uint8_t *text = input_of(PW_MOST_ENTRIES, PW_MOST_BYTES, PW_MOST_IN_LINE, &length);
+
+    ANSWERS(PW_DONE, pw_parse(text, length, entries, PW_MOST_ENTRIES, image, PW_MOST_BYTES, answer), PW_MOST_ENTRIES, PW_MOST_BYTES);
+    text = input_of(PW_MOST_ENTRIES + 1, 0, 1, &length);
+    ANSWERS(PW_MALFORMED_INPUT, pw_parse(text, length, entries, PW_MOST_ENTRIES, image, PW_MOST_BYTES, answer), 1);
+    text = input_of(0, PW_MOST_BYTES + 1, PW_MOST_IN_LINE, &length);
+    ANSWERS(PW_MALFORMED_INPUT, pw_parse(text, length, entries, PW_MOST_ENTRIES, image, PW_MOST_BYTES, answer),
+            PW_MOST_BYTES / PW_MOST_IN_LINE + 2);
+}
+
+/* Each number of a place, after a line. */
+static void naming_place(void)
+{
+    static const char text[] = "L\t0000\nD\t1234\t00\n";
+    const uint64_t start[] = PW_PLACE_START;
+    uint64_t *place = (uint64_t *)lent(start, sizeof start);
+
+    HOLDS(sizeof start / sizeof start[0] == PW_PLACE_WORDS);
+    ANSWERS(PW_DONE, pw_read_line(mode, TEXT(text), strlen(text), place, answer), 'L', 0, 0);
+    ANSWERS(PW_DONE, pw_read_line(mode, TEXT(text), strlen(text), place, answer), 'D', 0x1234, 1);
+    HOLDS(place[PW_PLACE_AT] == strlen(text) && place[PW_PLACE_LINE] == 3);
+    HOLDS(place[PW_PLACE_LAST] == 0x1234 && place[PW_PLACE_LETTER] == 'D');
 }
 
 static void naming_inputs(void)
@@ -199,7 +249,10 @@ static void asking(void)
     ANSWERS(PW_NO_ROOM, pw_arrivals(mode, image, 8, marks, 8, 0, places, 0, answer), 1);
     ANSWERS(PW_DONE, pw_arrivals(mode, image, 8, marks, 8, 1, places, 0, answer), 0);
     ANSWERS(PW_NO_ROOM, pw_listing(mode, BYTES(0xA0), 1, BYTES(2), 1, PW_ARRIVALS_CHOSEN, none, 0, answer), LENGTH("I\t0000\tA0\tret\n"));
+    ANSWERS(PW_NO_ROOM, pw_code_line(mode, 0, BYTES(0xA0), 1, none, 0, answer), LENGTH("I\t0000\tA0\tret\n"));
     ANSWERS(PW_NO_ROOM, pw_list_text(text, 8, none, 0, answer), LENGTH("I\t0000\tA0\tret\n"));
+    ANSWERS(PW_NO_ROOM, pw_parse(text, 8, places, 0, none, 0, answer), 1, 1);
+    ANSWERS(PW_NO_ROOM, pw_unlist_text(none, 0, 1, none, 0, answer), LENGTH("00\n"));
     ANSWERS(PW_NO_ROOM, pw_report_text(none, 0, none, 0, answer), LENGTH("T\t0\t0\t0\t0\t0\t0\t0\t0\n"));
     ANSWERS(PW_NO_ROOM, pw_read_back(mode, TEXT("bad"), 3, 8, none, 0, marks, 8, answer), 8);
     ANSWERS(PW_NO_ROOM, pw_map_build(image, 8, marks, 8, nothing, 0, answer), 1);
@@ -217,9 +270,14 @@ void names(void)
     give_back();
     naming_sizes();
     give_back();
+    naming_lines();
+    give_back();
     naming_limits();
     naming_rooms();
+    naming_unlisted();
     naming_inputs();
+    naming_parts();
+    naming_place();
     naming_names(PW_LONGEST_NAME, "T\t1\t1\t1\t0\t0\t0\t1\t0\n");
     naming_names(PW_LONGEST_NAME + 1, "T\t0\t0\t0\t0\t0\t0\t0\t1\n");
     naming_record();

@@ -6,6 +6,8 @@ void codec(void);
 void tracing(void);
 void viewing(void);
 void listed(void);
+void lines(void);
+void inputs(void);
 void reported(void);
 void mapped(void);
 void replayed(void);

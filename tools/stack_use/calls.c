@@ -73,12 +73,32 @@ static void data_run(void) { pw_data_run(IMAGE, MARKS, input.position, answer); 
 static void listing(void) { EACH_MODE pw_listing(mode, IMAGE, MARKS, PW_ARRIVALS_DECLINED, bytes, TEXT_ROOM, answer); }
 static void listing_exactly(void) { EACH_MODE pw_listing(mode, IMAGE, MARKS, PW_ARRIVALS_CHOSEN, bytes, input.listed, answer); }
 static void listing_with(void) { EACH_MODE pw_listing(mode, IMAGE, MARKS, PW_ARRIVALS_CHOSEN, bytes, TEXT_ROOM, answer); }
+static void code_line(void)
+{
+    EACH_MODE EACH_FIRST {
+        const uint8_t instruction[PW_INSTRUCTION_LENGTH] = {(uint8_t)first, 0xFF, 0xFF};
+        pw_code_line(mode, 0, instruction, PW_INSTRUCTION_LENGTH, bytes, PW_CODE_LINE_MOST, answer);
+        pw_code_line(mode, UINT32_MAX, instruction, PW_INSTRUCTION_LENGTH, bytes, PW_CODE_LINE_MOST, answer);
+        pw_code_line(mode, 0, instruction, 1, bytes, PW_CODE_LINE_MOST, answer);
+    }
+}
 static void list_text(void) { pw_list_text(input.text, input.written, bytes, TEXT_ROOM, answer); }
+static void parse(void) { pw_parse(input.text, input.written, places, PW_IMAGE_LIMIT, image, PW_IMAGE_LIMIT, answer); }
 static void report_text(void) { pw_report_text(input.term, input.told, bytes, TEXT_ROOM, answer); }
 static void read_back(void)
 {
     EACH_MODE pw_read_back(mode, input.listing, input.listed, (uint32_t)input.length, image, PW_IMAGE_LIMIT, marks, PW_IMAGE_LIMIT, answer);
 }
+/* The beginning of a listing, line by line. */
+static void read_line(void)
+{
+    EACH_MODE {
+        uint64_t place[PW_PLACE_WORDS] = PW_PLACE_START;
+        for (int turn = 0; turn < 1000; turn++)
+            pw_read_line(mode, input.listing, input.listed, place, answer);
+    }
+}
+static void unlist_text(void) { pw_unlist_text(input.listing, input.listed, (uint32_t)input.length, bytes, TEXT_ROOM, answer); }
 static void map_build(void) { pw_map_build(IMAGE, MARKS, words, PW_IMAGE_LIMIT / PW_WORD_BITS, answer); }
 static void map_test(void) { pw_map_test(words, PW_IMAGE_LIMIT / PW_WORD_BITS, (uint32_t)input.length, input.position, answer); }
 static void map_count(void)
@@ -125,9 +145,13 @@ const struct call calls[] = {
     {"pw_listing, declined", listing},
     {"pw_listing, chosen", listing_with},
     {"the same, exact room", listing_exactly},
+    {"pw_code_line", code_line},
     {"pw_list_text", list_text},
+    {"pw_parse", parse},
     {"pw_report_text", report_text},
     {"pw_read_back", read_back},
+    {"pw_read_line", read_line},
+    {"pw_unlist_text", unlist_text},
     {"pw_map_build", map_build},
     {"pw_map_test", map_test},
     {"pw_map_count", map_count},
