@@ -3,14 +3,14 @@
 use mathlib.Core.Path.{_≡_, refl, sym, ap, _∙_}
 use mathlib.Core.Bool.{Bool, true, false}
 use mathlib.Core.List.{List, [], _∷_, _++_}
-use Prim.Native.Nat.{ℕ, zero, suc, _+_, _-_, _/_, _%_, _≤_, _<_}
+use Prim.Native.Nat.{ℕ, zero, suc, _+_, _-_, _*_, _/_, _%_, _≤_, _<_}
 use native.Mathlib.Nat.{add-zero, add-suc, suc-add}
 use native.Mathlib.Omega.{arith}
 use lib.Dec.{ltb}
 use lib.ListN.{length, set, length-append}
 use lib.Seq.{sets, set-comm}
 use borrow.Author.Tests.{lt-ltb, le-ltb, ltb-false}
-use Rattle.list_text.specs.Decimal.{lowest, width}
+use Rattle.list_text.specs.Decimal.{lowest, width, decimal}
 
 -- it does not matter how often tens may be taken off, if often enough
 width-any : (k j n : ℕ) → n ≤ k → n ≤ j → width k n ≡ width j n
@@ -71,3 +71,26 @@ pub none-left : (l : List ℕ) (at i m : ℕ) → i ≤ 0 → sets l at (lowest 
 unfolding lowest
 none-left l at zero m h = refl
 none-left l at (suc i) m h = absurd (omega arith)
+
+-- 10 to the power d + 1
+unfoldable tens : ℕ → ℕ
+tens zero = 10
+tens (suc d) = 10 * tens d
+
+width-under : (d k n : ℕ) → n < tens d → width k n ≤ suc d
+unfolding width tens
+width-under d zero n h = omega arith
+width-under zero (suc k) n h = rw (lt-ltb n 10 h) (omega arith)
+width-under (suc d) (suc k) n h = by (ltb n 10) refl (width-under d k (n / 10))
+  where
+    by : (t : Bool) → ltb n 10 ≡ t → (n / 10 < tens d → width k (n / 10) ≤ suc d) → width (suc k) n ≤ suc (suc d)
+    by true e rest = rw e (omega arith)
+    by false e rest = rw e (omega (arith, rest (omega (arith, h))))
+
+-- 64 bits are 20 digits at most
+pub width-of : (n : ℕ) → n ≤ 18446744073709551615 → width n n ≤ 20
+unfolding tens
+width-of n h = let l : n < 100000000000000000000 = omega arith in width-under 19 n n l
+
+pub decimal-length : (n : ℕ) → n ≤ 18446744073709551615 → length (decimal n) ≤ 20
+decimal-length n h = omega (arith, lowest-length (width n n) n, width-of n h)

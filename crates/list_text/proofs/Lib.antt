@@ -20,3 +20,5 @@ pub mod ClaimsOutputCut
 pub mod ClaimsOutputFits
 pub mod RefusalPutting
 pub mod Decimals
+pub mod Bytewise
+pub mod RunRefused

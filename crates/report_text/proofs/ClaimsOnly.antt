@@ -20,8 +20,8 @@ use Rattle.list_text.specs.Entries.{entriesIn}
 use Rattle.list_text.specs.Output.{lentRoom}
 use Rattle.list_text.specs.Text.{first, others, counts, imageRefusals, refusalsIn}
 use Rattle.list_text.specs.declared.parsed.Input.{Input}
-use Rattle.list_text.proofs.ClaimsOutputOnly.{run-five}
 use Rattle.list_text.proofs.Longest.{image-most}
+use Rattle.list_text.proofs.RunRefused.{run-five}
 use Rattle.report_text.specs.ClaimsReport.{OnlyThirteenAndFive}
 use Rattle.report_text.specs.Image.{ofRun, traced, inputLines, ofLines, inputAnswer, imageAnswer}
 use Rattle.report_text.specs.Name.{isNameLine}
@@ -39,7 +39,7 @@ traced-five image entries h n vs e = by answer refl e
 
     by : (r : Answer RunResult) → answer ≡ r → ofRun image m r ≡ refused n vs → n ≡ 5
     by (accepted c) f g = absurd (differ (sym g))
-    by (refused k us) f g = let q : n ≡ k = cc in q ∙ run-five image entries h k us f
+    by (refused k us) f g = let q : n ≡ k = cc in q ∙ run-five Unwrapped image entries [] (omega (arith, h)) k us f
 
 -- a bad line
 abbrev Thirteen : ℕ → List ℤ → Type 0

@@ -1,20 +1,20 @@
 -- The lines of a report: how long they can be, and numbers put one after the other.
 -- Assumes nothing.
 use mathlib.Core.Path.{_≡_, refl, _∙_}
-use mathlib.Core.Bool.{Bool, true, false}
+use mathlib.Core.Bool.{true}
 use mathlib.Core.List.{List, [], _∷_, _++_}
-use Prim.Native.Nat.{ℕ, zero, suc, _+_, _*_, _/_, _≤_, _<_}
+use Prim.Native.Nat.{ℕ, _+_, _*_, _≤_, _<_}
 use native.Mathlib.Numerals.{add-one}
 use native.Mathlib.Omega.{arith}
-use lib.Dec.{ltb, leb}
+use lib.Dec.{leb}
 use lib.ListN.{length, getD, set, drop, length-append, drop-of-length-le}
 use lib.Seq.{sets, drop-cons}
-use borrow.Author.Tests.{leb-true, lt-ltb, le-leb}
+use borrow.Author.Tests.{leb-true, le-leb}
 use Rattle.instruction.specs.Answer.{Answer, accepted, refused}
 use Rattle.instruction.proofs.Ands.{first-part, second-part}
 use Rattle.text.specs.Puts.{Puts}
 use Rattle.list_text.specs.Decimal.{lowest, width, decimal}
-use Rattle.list_text.proofs.Decimals.{lowest-length}
+use Rattle.list_text.proofs.Decimals.{lowest-length, decimal-length}
 use Rattle.report_text.specs.Report.{fieldsOf, toldOf, imageLine, totalLine}
 use Rattle.report_text.specs.Sums.{figureList, sumList, adding, allFit, fitting}
 use Rattle.report_text.specs.declared.figures.Figures.{Figures}
@@ -25,29 +25,6 @@ use Rattle.report_text.proofs.Adding.{most, fit-at}
 abbrev pub ToldFits : Answer Figures → Type 0
 ToldFits (accepted f) = allFit (figureList f) ≡ true
 ToldFits (refused n vs) = allFit (n ∷ []) ≡ true
-
--- 10 to the power d + 1
-unfoldable tens : ℕ → ℕ
-tens zero = 10
-tens (suc d) = 10 * tens d
-
-width-under : (d k n : ℕ) → n < tens d → width k n ≤ suc d
-unfolding width tens
-width-under d zero n h = omega arith
-width-under zero (suc k) n h = rw (lt-ltb n 10 h) (omega arith)
-width-under (suc d) (suc k) n h = by (ltb n 10) refl (width-under d k (n / 10))
-  where
-    by : (t : Bool) → ltb n 10 ≡ t → (n / 10 < tens d → width k (n / 10) ≤ suc d) → width (suc k) n ≤ suc (suc d)
-    by true e rest = rw e (omega arith)
-    by false e rest = rw e (omega (arith, rest (omega (arith, h))))
-
--- 64 bits are 20 digits at most
-pub width-of : (n : ℕ) → n ≤ most → width n n ≤ 20
-unfolding tens
-width-of n h = let l : n < 100000000000000000000 = omega arith in width-under 19 n n l
-
-pub decimal-length : (n : ℕ) → n ≤ most → length (decimal n) ≤ 20
-decimal-length n h = omega (arith, lowest-length (width n n) n, width-of n h)
 
 pub fields-length : (ns : List ℕ) → allFit ns ≡ true → length (fieldsOf ns) ≤ 21 * length ns
 unfolding fieldsOf allFit
@@ -88,10 +65,7 @@ pub total-length : (s : Sums) → fitting s ≡ true → length (totalLine s) �
 unfolding totalLine
 total-length s e = omega (arith, length-append (fieldsOf (sumList s)) (10 ∷ []), fields-length (sumList s) e)
 
--- one byte, and two
-pub byte-put : (b at : ℕ) (o : List ℕ) → Puts (b ∷ []) at o (set o at b) (at + 1)
-byte-put b at o = record { next = refl; wrote = refl }
-
+-- two bytes
 pub two-put : (a b at : ℕ) (o : List ℕ) → Puts (a ∷ b ∷ []) at o (set (set o at a) (at + 1) b) (at + 2)
 two-put a b at o = record { next = refl; wrote = rw add-one }
 
@@ -100,9 +74,6 @@ pub field-put : (n k to : ℕ) (o m : List ℕ) → k ≡ width n n → m ≡ se
 field-put n k to o m a e = rw (← a) (record { next = omega (arith, lowest-length k n); wrote = e ∙ rw add-one })
 
 module _ (ns : List ℕ) (i : ℕ) where
-  pub next-byte : i < length ns → drop i ns ≡ (getD ns i 0 ∷ []) ++ drop (i + 1) ns
-  next-byte h = rw (add-one, drop-cons ns i 0 h)
-
   pub next-field : i < length ns → fieldsOf (drop i ns) ≡ (9 ∷ decimal (getD ns i 0)) ++ fieldsOf (drop (i + 1) ns)
   unfolding fieldsOf
   next-field h = rw (add-one, drop-cons ns i 0 h)

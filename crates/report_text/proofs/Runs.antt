@@ -3,6 +3,7 @@
 use mathlib.Core.Path.{_≡_, sym, ap, ap₂, subst, _∙_}
 use mathlib.Core.List.{List, []}
 use Prim.Native.Nat.{ℕ, _≤_}
+use native.Mathlib.Omega.{arith}
 use lib.IntN.{ℤ}
 use lib.ListN.{length}
 use Rattle.instruction.specs.Answer.{Answer, accepted, refused}
@@ -40,4 +41,4 @@ module _ (image entries b o : List ℕ) (e : b ≡ lentRoom image) (f : o ≡ le
     pub sound-run : length image ≤ 16384 → length m ≡ length b → Sound image m
     sound-run h l =
         let q : m ≡ marks room room = k ∙ ap₂ marks e f in
-        subst (Sound image) (sym q) (marks-sound image entries h s (sym (g ∙ ap₂ answer e f)) (ap length (sym q) ∙ l ∙ ap length e))
+        subst (Sound image) (sym q) (marks-sound Unwrapped image entries [] (omega (arith, h)) s (sym (g ∙ ap₂ answer e f)) (ap length (sym q) ∙ l ∙ ap length e))

@@ -91,10 +91,7 @@ module _ (l : List ℕ) (i e : ℕ) (from : i < e) (to : e ≤ length l) (most :
       let d = length-drop i l in
       lines-more (drop i l) (omega arith) ∙ ap₂ (λ (x y : List ℕ). line x ++ imageText y) (sym (piece whole)) (rest whole)
 
--- a byte put, and the two digits of one
-pub byte-put : (b at : ℕ) (o : List ℕ) → Puts (b ∷ []) at o (set o at b) (at + 1)
-byte-put b at o = record { next = refl; wrote = refl }
-
+-- the two digits of a byte put
 pub pair-put : (b at x y : ℕ) (o : List ℕ) → x ≡ hex1 (b / 16) → y ≡ hex1 b → Puts (hex2 b) at o (set (set o at x) (at + 1) y) (at + 2)
 unfolding hex2
 pair-put b at x y o e f = record { next = refl; wrote = rw (add-one, e, f) }

@@ -9,8 +9,9 @@ use lib.ListN.{length, getD, drop}
 use Rattle.text.specs.Puts.{Puts}
 use Rattle.text.proofs.Putting.{Going, going-start, going-next, going-over, puts-length}
 use Rattle.list_text.specs.Decimal.{decimal}
+use Rattle.list_text.proofs.Decimals.{width-of}
 use Rattle.report_text.specs.Report.{fieldsOf}
-use Rattle.report_text.proofs.Lines.{width-of, field-put, next-field, no-field}
+use Rattle.report_text.proofs.Lines.{field-put, next-field, no-field}
 use Rattle.report_text.proofs.line.put_fields.Statement.{statement}
 use Rattle.report_text.proofs.line.put_fields.Tie as tie
 

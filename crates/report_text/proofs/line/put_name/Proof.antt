@@ -6,7 +6,7 @@ use native.Mathlib.Omega.{arith}
 use borrow.Author.Needs.{needs}
 use lib.ListN.{length, drop, length-set, drop-of-length-le}
 use Rattle.text.proofs.Putting.{Going, going-start, going-next, going-over}
-use Rattle.report_text.proofs.Lines.{byte-put, next-byte}
+use Rattle.list_text.proofs.Bytewise.{byte-put, next-byte}
 use Rattle.report_text.proofs.line.put_name.Statement.{statement}
 use Rattle.report_text.proofs.line.put_name.Tie as tie
 

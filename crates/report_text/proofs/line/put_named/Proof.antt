@@ -6,9 +6,9 @@ use borrow.Author.Needs.{needs}
 use lib.ListN.{set}
 use Rattle.text.specs.Puts.{Puts}
 use Rattle.text.proofs.Putting.{puts-then, puts-length}
+use Rattle.list_text.proofs.Bytewise.{byte-put}
 use Rattle.report_text.specs.Image.{reportedOf}
 use Rattle.report_text.specs.Report.{imageLine}
-use Rattle.report_text.proofs.Lines.{byte-put}
 use Rattle.report_text.proofs.line.put_named.Statement.{statement}
 use Rattle.report_text.proofs.line.put_named.Tie as tie
 

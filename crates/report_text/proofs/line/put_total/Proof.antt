@@ -6,8 +6,8 @@ use borrow.Author.Needs.{needs}
 use lib.ListN.{set, length-set}
 use Rattle.text.specs.Puts.{Puts}
 use Rattle.text.proofs.Putting.{puts-then, puts-length}
+use Rattle.list_text.proofs.Bytewise.{byte-put}
 use Rattle.report_text.specs.Report.{totalLine}
-use Rattle.report_text.proofs.Lines.{byte-put}
 use Rattle.report_text.proofs.line.put_total.Statement.{statement}
 use Rattle.report_text.proofs.line.put_total.Tie as tie
 

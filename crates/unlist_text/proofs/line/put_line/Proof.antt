@@ -9,7 +9,7 @@ use lib.ListN.{length, getD, drop, length-set}
 use Rattle.listing.specs.Hex.{hexes}
 use Rattle.listing.proofs.Hexing.{hexes-more, hexes-end, hex2-length}
 use Rattle.text.proofs.Putting.{Going, going-start, going-next, going-over, puts-length, puts-then}
-use Rattle.unlist_text.proofs.Lines.{byte-put}
+use Rattle.list_text.proofs.Bytewise.{byte-put}
 use Rattle.unlist_text.proofs.line.put_line.Statement.{statement}
 use Rattle.unlist_text.proofs.line.put_line.Tie as tie
 
