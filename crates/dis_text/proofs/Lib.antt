@@ -2,3 +2,4 @@ mod Numbers
 mod WordKinds
 mod Takes
 mod Asking
+pub mod Shows

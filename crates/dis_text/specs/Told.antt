@@ -11,22 +11,24 @@ use Rattle.views.specs.declared.view.Viewed.{Viewed}
 use Rattle.views.specs.declared.view.Viewed.the-variants as viewed
 use Rattle.dis_text.specs.Word.{codes}
 use Rattle.dis_text.specs.declared.message.Trouble.{Trouble}
-use Rattle.dis_text.specs.declared.message.Trouble.the-variants.{Long, Cut, Bad, Other}
+use Rattle.dis_text.specs.declared.message.Trouble.the-variants.{Long, ShortMarks, ShortOrder, Cut, Bad}
 use Rattle.dis_text.specs.declared.shown.Shown.{Shown}
 use Rattle.dis_text.specs.declared.shown.Shown.the-variants.{Listing, NoRoom}
 
 -- its number and its values
 abbrev pub numberOf : Trouble → ℕ
 numberOf (Long n) = 1
+numberOf (ShortMarks n) = 2
+numberOf (ShortOrder n) = 3
 numberOf (Cut c) = 5
 numberOf (Bad k) = 13
-numberOf (Other n) = n
 
 abbrev pub valuesOf : Trouble → List ℤ
 valuesOf (Long n) = pos n ∷ []
+valuesOf (ShortMarks n) = pos n ∷ []
+valuesOf (ShortOrder n) = pos n ∷ []
 valuesOf (Cut c) = cutValues c
 valuesOf (Bad k) = pos k ∷ []
-valuesOf (Other n) = []
 
 -- the words of 5 and of 13
 abbrev pub cutReason : CutOff → List ℕ

@@ -58,8 +58,8 @@ pub fn list_image(
             room,
         )),
         Ran::LongImage(n) => message::tell(Trouble::Long(n), room),
-        Ran::ShortMarks(_) => message::tell(Trouble::Other(2), room),
-        Ran::ShortOrder(_) => message::tell(Trouble::Other(3), room),
+        Ran::ShortMarks(n) => message::tell(Trouble::ShortMarks(n), room),
+        Ran::ShortOrder(n) => message::tell(Trouble::ShortOrder(n), room),
         Ran::Cut(c) => message::tell(Trouble::Cut(c), room),
     }
 }

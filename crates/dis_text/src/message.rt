@@ -2,7 +2,7 @@
 ghost use mathlib.Core.Path.{_≡_};
 ghost use mathlib.Core.List.{[]};
 ghost use Prim.Native.Nat.{_+_, _≤_};
-ghost use lib.ListN.{length};
+ghost use lib.ListN.{length, set};
 ghost use Rattle.instruction.specs.Answer.{refused};
 ghost use Rattle.views.specs.View.{roomAfter};
 ghost use Rattle.text.specs.Puts.{Puts};
@@ -19,12 +19,23 @@ use list_text::decimal;
 pub enum Trouble {
     // 1: the file's length.
     Long(usize),
+    // 2 and 3: the length of a room. Neither comes from a run whose rooms are as long as the image, but its answer's enum has them.
+    ShortMarks(usize),
+    ShortOrder(usize),
     // 5.
     Cut(CutOff),
     // 13: the number of a word.
     Bad(usize),
-    // Any other refusal, by its number. None comes from a run whose rooms are as long as the image, but the enum alone does not say so.
-    Other(u8),
+}
+
+// Writes a byte at a place, if that is inside the room.
+fn put_byte(b: u8, room: &mut [u8], at: usize)
+    ensures { λ _. ⌜ now (room .exit) ≡ set (now (room .entry)) at b ⌝ }
+{
+    if room.len() <= at {
+        return;
+    }
+    room[at] = b;
 }
 
 // Writes a text at a place; the next place. What falls past the end of the room is counted and not written.
@@ -35,9 +46,7 @@ fn put(text: &[u8], room: &mut [u8], at: usize) -> usize
     let mut to = at;
     let mut i: usize = 0;
     while i < text.len() {
-        if to < room.len() {
-            room[to] = text[i];
-        }
+        put_byte(text[i], room, to);
         to += 1;
         i += 1;
     }
@@ -98,9 +107,10 @@ fn put_reason(t: Trouble, room: &mut [u8], at: usize) -> usize
 {
     match t {
         Trouble::Long(_) => put(b"the file is longer than 65536 bytes", room, at),
+        Trouble::ShortMarks(_) => put(b"refused", room, at),
+        Trouble::ShortOrder(_) => put(b"refused", room, at),
         Trouble::Cut(c) => put_cut(c, room, at),
         Trouble::Bad(k) => put_bad(k, room, at),
-        Trouble::Other(_) => put(b"refused", room, at),
     }
 }
 
@@ -109,9 +119,10 @@ fn number_of(t: Trouble) -> usize
 {
     match t {
         Trouble::Long(_) => 1,
+        Trouble::ShortMarks(_) => 2,
+        Trouble::ShortOrder(_) => 3,
         Trouble::Cut(_) => 5,
         Trouble::Bad(_) => 13,
-        Trouble::Other(n) => n as usize,
     }
 }
 

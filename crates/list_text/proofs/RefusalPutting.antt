@@ -21,7 +21,8 @@ put-shown out room t k e h f =
     let z : 0 + length out ≡ k = omega arith in
     shown-as [] out room (done 0) k e h t (f ∙ sets-eq out room 0 (omega arith) ∙ ap (λ (j : ℕ). out ++ drop j room) z)
 
-digits-put : (k n at r : ℕ) (o m : List ℕ) → m ≡ sets o at (lowest k n) → r ≡ at + k → Puts (lowest k n) at o m r
+-- digits, and a byte
+pub digits-put : (k n at r : ℕ) (o m : List ℕ) → m ≡ sets o at (lowest k n) → r ≡ at + k → Puts (lowest k n) at o m r
 digits-put k n at r o m e f = record { next = omega (arith, f, lowest-length k n); wrote = e }
 
 byte-at : (b at r : ℕ) (o : List ℕ) → r ≡ at + 1 → Puts (b ∷ []) at o (set o at b) r
