@@ -3,3 +3,4 @@ mod WordKinds
 mod Takes
 mod Asking
 pub mod Shows
+pub mod AskedEntries

@@ -67,3 +67,7 @@ lists out room v e = by (ltb (length room) (length out)) refl
     by : (t : Bool) → ltb (length room) (length out) ≡ t → shownOf (listingIn v) ≡ shownAnswer (accepted out) room
     by true f = none v (e ∙ stop _ _ _ f) ∙ sym (short (accepted out) room (ltb-true (length room) (length out) f))
     by false f = written v (e ∙ pass _ _ _ f ∙ done _) ∙ sym (long (accepted out) room (ltb-false (length room) (length out) f))
+
+-- what is printed is the same
+pub shown-as : (d e : Answer (List ℕ)) → d ≡ e → (room : List ℕ) (r : Answer Output) (t : List ℕ) → Is e room r t → Is d room r t
+shown-as d e f room r t p = (p .0 ∙ ap (λ (x : Answer (List ℕ)). shownAnswer x room) (sym f), p .1 ∙ ap (λ (x : Answer (List ℕ)). roomAfter [] (printed x) room) (sym f))
