@@ -4,6 +4,7 @@
 
 pub mod back;
 pub mod blocks;
+pub mod dis;
 pub mod fields;
 pub mod flow;
 pub mod input;

@@ -1,4 +1,5 @@
 // The calls, in a room that holds no output before.
+use dis_text::Shown;
 use instruction::Mode;
 use list_text::Parsed;
 use listing::Arrivals;
@@ -26,13 +27,47 @@ fn is_old(room: &[u8]) -> bool {
     true
 }
 
-// The listing program has its own mode.
-fn call(letter: u8, mode: Mode, input: &[u8], marks: &[u8], room: &mut [u8]) -> Viewed {
+// What any of the calls answers.
+enum Answer {
+    Written(usize),
+    NoRoom(usize),
+    // What no case expects.
+    Other,
+}
+
+fn of_viewed(viewed: Viewed) -> Answer {
+    match viewed {
+        Viewed::Written(n) => Answer::Written(n),
+        Viewed::NoRoom(n) => Answer::NoRoom(n),
+        _ => Answer::Other,
+    }
+}
+
+fn written(n: usize, is_expected: bool) -> Answer {
+    if is_expected {
+        Answer::Written(n)
+    } else {
+        Answer::Other
+    }
+}
+
+// A listing and a message are told apart.
+fn of_shown(letter: u8, shown: Shown) -> Answer {
+    match shown {
+        Shown::Listing(n) => written(n, letter == b'd'),
+        Shown::Message(n) => written(n, letter == b'm'),
+        Shown::NoRoom(n) => Answer::NoRoom(n),
+    }
+}
+
+// The listing program has its own mode, and the words of the program for game files, which stand where marks do, say it.
+fn call(letter: u8, mode: Mode, input: &[u8], marks: &[u8], room: &mut [u8]) -> Answer {
     match letter {
-        b'=' => list_text::list_text(input, room),
-        b'-' => listing::listing_with(mode, input, marks, Arrivals::Declined, room),
-        b'+' => listing::listing_with(mode, input, marks, Arrivals::Chosen, room),
-        _ => listing::listing(mode, input, marks, room),
+        b'd' | b'm' => of_shown(letter, dis_text::dis_text(marks, input, room)),
+        b'=' => of_viewed(list_text::list_text(input, room)),
+        b'-' => of_viewed(listing::listing_with(mode, input, marks, Arrivals::Declined, room)),
+        b'+' => of_viewed(listing::listing_with(mode, input, marks, Arrivals::Chosen, room)),
+        _ => of_viewed(listing::listing(mode, input, marks, room)),
     }
 }
 
@@ -66,7 +101,7 @@ pub fn is_refused(
     }
     let n = need - 1;
     fill(&mut room[0..n]);
-    let Viewed::NoRoom(k) = call(letter, mode, input, marks, &mut room[0..n]) else {
+    let Answer::NoRoom(k) = call(letter, mode, input, marks, &mut room[0..n]) else {
         return false;
     };
     if k != need {
@@ -93,7 +128,7 @@ pub fn is_written(
     }
     let all = need + spare;
     fill(&mut room[0..all]);
-    let Viewed::Written(k) = call(letter, mode, input, marks, &mut room[0..all]) else {
+    let Answer::Written(k) = call(letter, mode, input, marks, &mut room[0..all]) else {
         return false;
     };
     if k != need {

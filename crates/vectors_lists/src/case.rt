@@ -4,7 +4,7 @@ use crate::line;
 use crate::part;
 use crate::part::Written;
 
-// What is given stands in one room: the input or the image, then the marks, then the output's beginning.
+// What is given stands in one room: the input or the image, then the marks or the words, then the output's beginning.
 pub struct Case {
     // Where each of the three ends.
     pub input: usize,
@@ -39,7 +39,7 @@ pub fn ended(letter: u8) -> u64
     ensures { λ r. ⌜ r ≤ 1 ⌝ }
 {
     match letter {
-        b'=' | b'-' | b'+' | b'?' => 1,
+        b'=' | b'-' | b'+' | b'?' | b'd' | b'm' => 1,
         _ => 0,
     }
 }
@@ -47,7 +47,7 @@ pub fn ended(letter: u8) -> u64
 // Where what is given ends after a line.
 fn put(c: Case, letter: u8, rest: &[u8], given: &mut [u8]) -> usize {
     match letter {
-        b'T' | b'X' => part::put(Written::AsText, rest, c.times, c.told, given),
+        b'T' | b'G' | b'X' => part::put(Written::AsText, rest, c.times, c.told, given),
         b'B' | b'M' => part::put(Written::InHex, rest, c.times, c.told, given),
         _ => c.told,
     }
@@ -66,11 +66,11 @@ pub fn read(before: Case, letter: u8, rest: &[u8], given: &mut [u8]) -> Case {
             c.input = end;
             c.marks = end;
         }
-        b'M' => c.marks = end,
+        b'M' | b'G' => c.marks = end,
         b'L' => c.bad = number,
         b'S' => c.sum = number,
         b'W' => c.wrapping = true,
-        b'=' | b'-' | b'+' | b'?' => return Case::new(),
+        b'=' | b'-' | b'+' | b'?' | b'd' | b'm' => return Case::new(),
         _ => return c,
     }
     c

@@ -1,4 +1,4 @@
-// Replays a stored list of listings through `list_text`, `listing_with` and `listing`, and prints how many of them hold.
+// Replays a stored list of listings through `list_text`, `dis_text`, `listing_with` and `listing`, and prints how many of them hold.
 // The list was made by `compare/run --lists SRC`; data/ABOUT describes its lines.
 ghost use mathlib.Core.Path.{_≡_};
 ghost use lib.ListN.{length};
@@ -20,11 +20,11 @@ fn small() -> [u8; 140_000]
     [0; 140_000]
 }
 
-// More than any output.
-fn large() -> [u8; 1_000_000]
-    ensures { λ r. ⌜ 1000000 ≡ length r ⌝ }
+// Two bytes more than any output: 77 for each of 65,536 positions, DisFits in crates/dis_text/specs.
+fn large() -> [u8; 5_046_274]
+    ensures { λ r. ⌜ 5046274 ≡ length r ⌝ }
 {
-    [0; 1_000_000]
+    [0; 5_046_274]
 }
 
 fn report(held: u64, all: u64) {

@@ -4,18 +4,14 @@
 use super::stored::{Asked, Case};
 use compare::original::{self, traced, viewed};
 use compare::paper::input::{self, Input};
-use compare::paper::{Mode, fields, flow, listing, views};
+use compare::paper::{Mode, dis, fields, flow, listing, tracer, views};
 use waterbear::disasm::probe::Graph;
 
 /// Visits of the original for each byte of an image, and more.
 const VISITS: (u64, u64) = (16, 1_000);
 
-/// A text that is malformed, and marks that no run left, the original cannot be asked about.
 pub fn case(case: &Case) {
-    if case.asked != Asked::Output {
-        return;
-    }
-    let Ok(input) = input::parse(&case.text()) else {
+    let Some(input) = input(case) else {
         return;
     };
     let visits = VISITS.0 * input.image.len() as u64 + VISITS.1;
@@ -25,6 +21,21 @@ pub fn case(case: &Case) {
             (Some(graph), _) => whole(&input, &graph),
             (None, end) => cut_off(&input, end.expect("it ended somewhere")),
         },
+    }
+}
+
+/// A text or words that are malformed, and marks that no run left, the original cannot be asked about; nor does it know pins,
+/// wrapping mode and a limit on an image.
+fn input(case: &Case) -> Option<Input> {
+    match case.asked {
+        Asked::Output => input::parse(&case.text()).ok(),
+        Asked::Dis => {
+            let (asked, image) = (dis::asked(&case.words()).ok()?, case.image());
+            let known = asked.pins.is_empty() && asked.mode == Mode::Unwrapped;
+            let entries = asked.all_entries().to_vec();
+            (known && image.len() <= tracer::LONGEST).then_some(Input { entries, image })
+        }
+        Asked::Listing(_) | Asked::Unchosen => None,
     }
 }
 

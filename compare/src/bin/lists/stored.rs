@@ -2,6 +2,7 @@
 
 use super::sum;
 use compare::paper::Mode;
+use compare::paper::dis::{self, Dis};
 use compare::paper::input;
 use compare::paper::listing::{self, Arrivals};
 
@@ -27,15 +28,17 @@ pub enum Asked {
     /// The listing of an image and its marks, with a choice and without.
     Listing(Arrivals),
     Unchosen,
+    /// What the program for game files prints of an image, by its words.
+    Dis,
 }
 
-/// What is given, in parts that are repeated, each with its letter. In a text each character stands for the
-/// byte of its number; images and marks are in hex.
+/// What is given, in parts that are repeated, each with its letter. In a text, and in words, each character stands for
+/// the byte of its number; images and marks are in hex.
 #[derive(Clone)]
 pub struct Case {
     pub about: String,
     pub asked: Asked,
-    /// The listing program has the unwrapped one.
+    /// The listing program has the unwrapped one, and that for game files is told by its words.
     mode: Mode,
     parts: Vec<(char, usize, String)>,
 }
@@ -65,8 +68,21 @@ impl Case {
         case.and_part('B', 1, image).and_part('M', 1, marks)
     }
 
+    /// Of an image in hex and words.
+    pub fn of_words(about: &str, words: &[&str], image: &str) -> Case {
+        let mut case = Case::new(about, "");
+        case.asked = Asked::Dis;
+        case.and_part('B', 1, image).and_words(1, words)
+    }
+
     pub fn and(self, times: usize, part: &str) -> Case {
         self.and_part('T', times, part)
+    }
+
+    /// Each ended by byte 0.
+    pub fn and_words(self, times: usize, words: &[&str]) -> Case {
+        let ended: Vec<String> = words.iter().map(|word| format!("{word}\0")).collect();
+        self.and_part('G', times, &ended.concat())
     }
 
     pub fn and_part(mut self, letter: char, times: usize, part: &str) -> Case {
@@ -82,8 +98,11 @@ impl Case {
     }
 
     pub fn text(&self) -> Vec<u8> {
-        let byte = |c| u8::try_from(u32::from(c)).expect("a character for each byte");
-        self.given('T').chars().map(byte).collect()
+        characters(&self.given('T'))
+    }
+
+    pub fn words(&self) -> Vec<u8> {
+        characters(&self.given('G'))
     }
 
     pub fn image(&self) -> Vec<u8> {
@@ -94,12 +113,18 @@ impl Case {
         bytes(&self.given('M'))
     }
 
-    pub fn output(&self) -> String {
-        match self.asked {
+    /// And whether it is the message of the program for game files.
+    pub fn output(&self) -> (String, bool) {
+        let output = match self.asked {
             Asked::Output => listing::output(&self.text()),
             Asked::Listing(arrivals) => self.listing(arrivals),
             Asked::Unchosen => self.listing(Arrivals::DEFAULT),
-        }
+            Asked::Dis => match dis::output(&self.words(), &self.image()) {
+                Dis::Listing(listing) => listing,
+                Dis::Message(message) => return (message, true),
+            },
+        };
+        (output, false)
     }
 
     fn listing(&self, arrivals: Arrivals) -> String {
@@ -107,7 +132,7 @@ impl Case {
     }
 
     pub fn lines(&self) -> String {
-        let output = self.output();
+        let (output, is_message) = self.output();
         let mut lines = format!("#{}\n", self.about);
         if self.mode == Mode::Wrapping {
             lines += "W\n";
@@ -122,10 +147,11 @@ impl Case {
         for line in output.split_inclusive('\n').take(shown) {
             lines += &format!("X{}\n", stored(line));
         }
-        lines + &format!("S{}\n", sum::of(output.as_bytes())) + &self.last(output.len())
+        let sum = format!("S{}\n", sum::of(output.as_bytes()));
+        lines + &sum + &self.last(output.len(), is_message)
     }
 
-    fn last(&self, length: usize) -> String {
+    fn last(&self, length: usize, is_message: bool) -> String {
         match self.asked {
             Asked::Output => {
                 let bad = input::parse(&self.text()).err().unwrap_or(0);
@@ -134,8 +160,15 @@ impl Case {
             Asked::Listing(Arrivals::Declined) => format!("-{length}\n"),
             Asked::Listing(Arrivals::Chosen) => format!("+{length}\n"),
             Asked::Unchosen => format!("?{length}\n"),
+            Asked::Dis if is_message => format!("m{length}\n"),
+            Asked::Dis => format!("d{length}\n"),
         }
     }
+}
+
+fn characters(text: &str) -> Vec<u8> {
+    let byte = |c| u8::try_from(u32::from(c)).expect("a character for each byte");
+    text.chars().map(byte).collect()
 }
 
 fn bytes(hex: &str) -> Vec<u8> {
@@ -144,7 +177,8 @@ fn bytes(hex: &str) -> Vec<u8> {
     pairs.map(|pair| byte(pair).expect("two digits")).collect()
 }
 
-fn stored(part: &str) -> String {
+/// As a line of the list has it.
+pub fn stored(part: &str) -> String {
     let stands = |c| {
         let taken = MEANT.iter().any(|(_, other)| *other == c);
         assert!(!taken, "{c} stands for a byte");

@@ -7,4 +7,4 @@ use Rattle.vectors_lists.proofs.large.Statement.{statement}
 use Rattle.vectors_lists.proofs.large.Tie as tie
 
 pub large-spec : {M : Type 1} → statement M
-large-spec = tie.close (tie.spec (λ c. sym (length-replicate {A = ℕ} 1000000 0)))
+large-spec = tie.close (tie.spec (λ c. sym (length-replicate {A = ℕ} 5046274 0)))
