@@ -5,6 +5,7 @@ mod back;
 mod between;
 mod changed;
 mod decode;
+mod dis;
 mod edits;
 mod encode;
 mod joined;
@@ -29,6 +30,7 @@ mod terms;
 mod texts;
 mod traces;
 mod views;
+mod words;
 mod wrapping;
 
 use compare::paper;
@@ -69,6 +71,7 @@ fn main() -> ExitCode {
     between::compare(&mut tally, &mut random);
     logs::compare(&mut tally, &mut random);
     report_text::compare(&mut tally, &mut random);
+    dis::compare(&mut tally, &mut random);
     match tally.report() {
         true => ExitCode::SUCCESS,
         false => ExitCode::FAILURE,

@@ -1,10 +1,12 @@
-//! The built programs, run on a text. The environment names them as PW_LIST and PW_REPORT, or does not where there is none.
+//! The built programs, run on a text or on a file. The environment names them as PW_LIST, PW_REPORT and PW_DIS, or does not where
+//! there is none.
 
-use std::ffi::{c_int, c_ulong};
+use std::ffi::{OsStr, c_int, c_ulong};
 use std::fmt;
 use std::io::{Read, Write};
 use std::os::fd::AsRawFd;
-use std::path::PathBuf;
+use std::os::unix::ffi::OsStrExt;
+use std::path::{self, Path, PathBuf};
 use std::process::{ChildStdin, Command, Stdio};
 use std::sync::atomic::{AtomicBool, Ordering};
 use std::thread;
@@ -21,6 +23,13 @@ pub struct Printed {
     text: Vec<u8>,
 }
 
+/// What a program printed on standard output and on standard error, and whether it ended well.
+#[derive(PartialEq, Debug)]
+pub struct Spoken {
+    output: Printed,
+    error: Printed,
+}
+
 impl Program {
     pub fn list() -> Option<Program> {
         Program::named("PW_LIST")
@@ -30,9 +39,28 @@ impl Program {
         Program::named("PW_REPORT")
     }
 
+    pub fn dis() -> Option<Program> {
+        Program::named("PW_DIS")
+    }
+
+    /// An empty path is none.
     fn named(variable: &str) -> Option<Program> {
-        let path = std::env::var_os(variable)?;
-        (!path.is_empty()).then(|| Program(PathBuf::from(path)))
+        let path = path::absolute(std::env::var_os(variable)?);
+        path.ok().map(Program)
+    }
+
+    /// With these words, in a folder.
+    pub fn speak(&self, folder: &Path, words: &[Vec<u8>]) -> Spoken {
+        let mut command = Command::new(&self.0);
+        let words = words.iter().map(|word| OsStr::from_bytes(word));
+        let named = command.current_dir(folder).args(words).stdin(Stdio::null());
+        let spoken = named.output().expect("the program can be run");
+        let well = spoken.status.success();
+        let printed = |text| Printed { well, text };
+        Spoken {
+            output: printed(spoken.stdout),
+            error: printed(spoken.stderr),
+        }
     }
 
     /// It may leave the rest of the text unread.
@@ -90,6 +118,24 @@ fn unread(input: &ChildStdin) -> c_int {
     let failed = unsafe { ioctl(input.as_raw_fd(), FIONREAD, &mut count) };
     assert!(failed == 0, "Linux tells this of a pipe");
     count
+}
+
+impl Spoken {
+    pub fn well(output: &str, error: &[u8]) -> Spoken {
+        let error = Printed {
+            well: true,
+            text: error.to_vec(),
+        };
+        Spoken {
+            output: Printed::well(output),
+            error,
+        }
+    }
+
+    /// How long what was printed is.
+    pub fn lengths(&self) -> [usize; 2] {
+        [self.output.text.len(), self.error.text.len()]
+    }
 }
 
 impl Printed {

@@ -1,6 +1,7 @@
 //! What was compared and what differed.
 
 use crate::logs::Logs;
+use crate::program::Spoken;
 use compare::answer::Answer;
 use compare::original::{self, FORMS};
 use compare::paper;
@@ -51,9 +52,11 @@ pub enum Call {
     Report,
     /// What our listing program prints of an image says of its line in our report.
     ReportAsList,
+    /// The built program for game files.
+    Dis,
 }
 
-const CALLS: [(Call, &str); 32] = [
+const CALLS: [(Call, &str); 33] = [
     (Call::Decode, "decode"),
     (Call::Encode, "encode"),
     (Call::Resolve, "resolve"),
@@ -86,10 +89,11 @@ const CALLS: [(Call, &str); 32] = [
     (Call::ReportText, "report text"),
     (Call::Report, "report, program"),
     (Call::ReportAsList, "report as list"),
+    (Call::Dis, "dis, program"),
 ];
 
 impl Call {
-    /// The document that defines it.
+    /// What defines it.
     fn document(self) -> &'static str {
         match self {
             Call::Sweep | Call::SweepAsRun => "document 02",
@@ -99,6 +103,7 @@ impl Call {
             Call::Replay | Call::Blocks => "document 02",
             Call::Between | Call::Ceilings => "document 02",
             Call::ReportText | Call::Report | Call::ReportAsList => "document 02",
+            Call::Dis => "its definitions",
             _ => "document 01",
         }
     }
@@ -272,6 +277,19 @@ pub struct Terms {
     most: usize,
 }
 
+/// The runs of the program for game files, by what it prints.
+#[derive(Default)]
+pub struct Commands {
+    listed: u64,
+    long: u64,
+    cut_off: u64,
+    bad: u64,
+    /// Told without a number: there is no such file, or no name, or too much of the words.
+    pub unnumbered: u64,
+    /// The most bytes listed in one.
+    most: usize,
+}
+
 /// The letters of lines.
 const LETTERS: [u8; 5] = *b"LOAID";
 
@@ -291,6 +309,7 @@ pub struct Tally {
     pub texts: Texts,
     pub logs: Logs,
     pub terms: Terms,
+    pub commands: Commands,
     all: Counts,
 }
 
@@ -312,6 +331,7 @@ impl Tally {
             texts: Texts::default(),
             logs: Logs::default(),
             terms: Terms::default(),
+            commands: Commands::default(),
             all: Counts::default(),
         }
     }
@@ -410,6 +430,7 @@ impl Tally {
         self.logs.report();
         self.between.report();
         self.terms.report();
+        self.commands.report();
         let all = &self.all;
         let (alone, alone_differ) = (all.alone, all.alone_differ);
         let (wrapping, wrapping_differ) = (all.wrapping, all.wrapping_differ);
@@ -644,6 +665,28 @@ impl Terms {
         let (name, entries, bytes) = (self.bad_name, self.bad_entries, self.bad_bytes);
         println!(
             "images of terms: malformed by the N line {name}, by the entries {entries}, by the bytes {bytes}"
+        );
+    }
+}
+
+impl Commands {
+    pub fn count(&mut self, number: u32, spoken: &Spoken) {
+        let found = match number {
+            Answer::DONE => &mut self.listed,
+            Answer::LONG_IMAGE => &mut self.long,
+            Answer::CUT_OFF => &mut self.cut_off,
+            _ => &mut self.bad,
+        };
+        *found += 1;
+        self.most = self.most.max(spoken.lengths()[0]);
+    }
+
+    fn report(&self) {
+        let (listed, long, cut_off) = (self.listed, self.long, self.cut_off);
+        let (bad, unnumbered, most) = (self.bad, self.unnumbered, self.most);
+        println!(
+            "runs of dis: listed {listed}, too long {long}, cut off {cut_off}, not understood {bad}, told without a number {unnumbered}; \
+             the most listed are {most} bytes"
         );
     }
 }
