@@ -2,11 +2,11 @@
 -- Assumes nothing.
 use mathlib.Core.Path.{_≡_, refl, sym, ap, _∙_}
 use mathlib.Core.Bool.{Bool, true, false, cond, _&&_}
-use mathlib.Core.List.{List, map}
+use mathlib.Core.List.{List, [], _∷_, map}
 use Prim.Native.Nat.{ℕ, _+_, _-_, _<_, _≤_}
 use native.Mathlib.Omega.{arith}
 use lib.Dec.{ltb, leb}
-use lib.IntN.{pos}
+use lib.IntN.{ℤ, pos}
 use lib.ListN.{length, getD}
 use borrow.Author.Tests.{lt-ltb, le-ltb, ltb-true, le-leb, leb-true, lt-leb}
 use Rattle.instruction.specs.declared.answer.CutOff.{CutOff}
@@ -15,16 +15,34 @@ use Rattle.instruction.proofs.Decoding.{cut-at}
 use Rattle.instruction.specs.Flow.{flowOf}
 use Rattle.instruction.specs.Parts.{partsOf}
 use Rattle.instruction.specs.declared.flow.Flow.{Flow}
+use Rattle.instruction.specs.declared.flow.Flow.the-variants.{Stop, Next, Jump, Branch}
 use Rattle.targets.specs.At.{formHere, sizeHere, fitsHere, instrHere, waysHere, nameHere, namedBy, placeOf}
-use Rattle.targets.specs.Opening.{openingOf}
+use Rattle.targets.specs.Opening.{openingOf, isNaming}
 use Rattle.targets.specs.Targets.{inMode, byFlow, addressIn, targetsIn}
-use Rattle.targets.specs.Ways.{isWhole, waysOf}
+use Rattle.targets.specs.Ways.{isWhole, waysOf, goesOn}
 use Rattle.targets.specs.declared.opening.Opening.{Opening}
 use Rattle.targets.specs.declared.opening.Opening.the-variants.{Whole, Cut, Outside}
 use Rattle.targets.specs.declared.place.Ways.the-variants as way
 use Rattle.instruction.proofs.Ands.{both, first-part, second-part, not-first, not-second}
 use Rattle.instruction.specs.declared.mode.Mode.{Mode}
 use Rattle.targets.proofs.Within.{Small, form-is}
+
+-- t where an instruction names it, then n where control goes on
+abbrev asked : Bool → Bool → ℕ → ℕ → List ℕ
+asked a b t n = cond a (cond b (t ∷ n ∷ []) (t ∷ [])) (cond b (n ∷ []) [])
+
+-- what the two tests of a flow say
+by-tests : (f : Flow) (t n : ℤ) → map placeOf (byFlow f t n) ≡ asked (isNaming f) (goesOn f) (placeOf t) (placeOf n)
+by-tests Stop t n = refl
+by-tests Next t n = refl
+by-tests Jump t n = refl
+by-tests Branch t n = refl
+
+named-by-test : (f : Flow) (t : ℕ) → namedBy f t ≡ cond (isNaming f) t 65536
+named-by-test Stop t = refl
+named-by-test Next t = refl
+named-by-test Jump t = refl
+named-by-test Branch t = refl
 
 -- a position inside an image of at most 65,536 bytes
 abbrev inMemory : List ℕ → ℕ → Bool
@@ -111,10 +129,23 @@ module _ (mode : Mode) (image : List ℕ) (p : ℕ) where
     flow-is : f ≡ flowOf (partsOf (instrHere image p) .form)
     flow-is = e ∙ ap flowOf (sym (form-is image p bytes))
 
-    pub goes : map placeOf (byFlow f (addressIn mode (p + sizeHere image p) (instrHere image p)) (inMode mode (pos (p + sizeHere image p)))) ≡ waysHere mode image p
+    pub goes : map placeOf (byFlow f (addressIn mode (p + sizeHere image p) (instrHere image p)) (inMode mode (pos (p + sizeHere image p))))
+        ≡ waysHere mode image p
     unfolding waysHere targetsIn
     goes = rw (← flow-is)
 
-    pub names : namedBy f (placeOf (addressIn mode (p + sizeHere image p) (instrHere image p))) ≡ nameHere mode image p
+    -- ---- by the two tests of the flow
+
+    -- next as a target, and the address that the instruction names
+    abbrev next-as : ℕ
+    next-as = placeOf (inMode mode (pos (p + sizeHere image p)))
+
+    abbrev named-as : ℕ
+    named-as = placeOf (addressIn mode (p + sizeHere image p) (instrHere image p))
+
+    pub goes-by : (a b : Bool) → isNaming f ≡ a → goesOn f ≡ b → (t n : ℕ) → t ≡ named-as → n ≡ next-as → asked a b t n ≡ waysHere mode image p
+    goes-by a b g h t n x y = rw (x, y, ← g, ← h) (sym (by-tests f _ _)) ∙ goes
+
+    pub names : (a : Bool) → isNaming f ≡ a → cond a named-as 65536 ≡ nameHere mode image p
     unfolding nameHere
-    names = rw (← flow-is)
+    names a g = rw (← g, ← flow-is) (sym (named-by-test f _))

@@ -3,4 +3,3 @@ pub mod At
 pub mod Opening
 pub mod Here
 pub mod Ways
-pub mod Naming

@@ -20,12 +20,10 @@ fn name_by(mode: Mode, image: &[u8], p: u32, next: u32, flow: Flow) -> u32
     requires { ⌜ (fitsHere (now image) p ≡ true) × (next ≡ p + sizeHere (now image) p) × (flow ≡ flowOf (formHere (now image) p)) ⌝ }
     ensures { λ r. ⌜ r ≡ nameHere mode (now (image .entry)) p ⌝ }
 {
-    match flow {
-        Flow::Stop => Image::NOWHERE,
-        Flow::Next => Image::NOWHERE,
-        Flow::Jump => operand::place_at(mode, image, p, next),
-        Flow::Branch => operand::place_at(mode, image, p, next),
+    if operand::is_naming(flow) {
+        return operand::place_at(mode, image, p, next);
     }
+    Image::NOWHERE
 }
 
 // The position that the instruction at p names, or a position outside every image.

@@ -52,21 +52,35 @@ fn next_place(mode: Mode, next: u32) -> u32
     }
 }
 
+// Whether control goes on behind an instruction.
+fn goes_on(flow: Flow) -> bool
+    ensures { λ r. ⌜ r ≡ goesOn flow ⌝ }
+{
+    match flow {
+        Flow::Stop => false,
+        Flow::Next => true,
+        Flow::Jump => false,
+        Flow::Branch => true,
+    }
+}
+
 // The positions that the targets of the instruction at p name, by where it ends and where control goes.
 fn places_by(mode: Mode, image: &[u8], p: u32, next: u32, flow: Flow) -> Places
     requires { ⌜ (p < length (now image)) × (length (now image) ≤ 65536) ⌝ }
     requires { ⌜ (fitsHere (now image) p ≡ true) × (next ≡ p + sizeHere (now image) p) × (flow ≡ flowOf (formHere (now image) p)) ⌝ }
     ensures { λ r. ⌜ placesIn r ≡ waysHere mode (now (image .entry)) p ⌝ }
 {
-    match flow {
-        Flow::Stop => Places::Nothing,
-        Flow::Next => Places::First(next_place(mode, next)),
-        Flow::Jump => Places::First(operand::place_at(mode, image, p, next)),
-        Flow::Branch => {
-            let to = operand::place_at(mode, image, p, next);
-            Places::Both(to, next_place(mode, next))
+    if operand::is_naming(flow) {
+        let to = operand::place_at(mode, image, p, next);
+        if goes_on(flow) {
+            return Places::Both(to, next_place(mode, next));
         }
+        return Places::First(to);
     }
+    if goes_on(flow) {
+        return Places::First(next_place(mode, next));
+    }
+    Places::Nothing
 }
 
 pub fn ways_at(mode: Mode, image: &[u8], p: u32) -> Ways
@@ -76,17 +90,6 @@ pub fn ways_at(mode: Mode, image: &[u8], p: u32) -> Ways
         Opening::Whole(next, flow) => Ways::Goes(places_by(mode, image, p, next, flow)),
         Opening::Cut(c) => Ways::Cut(c),
         Opening::Outside => Ways::Outside,
-    }
-}
-
-fn goes_on(flow: Flow) -> bool
-    ensures { λ r. ⌜ r ≡ goesOn flow ⌝ }
-{
-    match flow {
-        Flow::Stop => false,
-        Flow::Next => true,
-        Flow::Jump => false,
-        Flow::Branch => true,
     }
 }
 

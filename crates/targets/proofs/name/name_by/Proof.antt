@@ -1,47 +1,45 @@
 -- `name::name_by` meets its contract.
 -- Assumes nothing.
 use mathlib.Core.Path.{_≡_, sym, ap, _∙_}
+use mathlib.Core.Bool.{Bool, cond}
 use mathlib.Core.List.{List}
 use Prim.Native.Nat.{ℕ, _+_}
 use borrow.Author.Needs.{needs}
-use Rattle.instruction.specs.declared.flow.Flow.{Flow}
 use Rattle.instruction.specs.declared.mode.Mode.{Mode}
-use Rattle.targets.specs.At.{sizeHere, instrHere, nameHere, namedBy, placeOf}
-use Rattle.targets.specs.Naming.{isNaming}
+use Rattle.targets.specs.At.{sizeHere, instrHere, nameHere, placeOf}
+use Rattle.targets.specs.Opening.{isNaming}
 use Rattle.targets.specs.Targets.{addressIn}
 use Rattle.targets.proofs.Openings.{names}
 use Rattle.targets.proofs.name.name_by.Statement.{statement}
 use Rattle.targets.proofs.name.name_by.Tie as tie
 
-abbrev mode : tie.After-shared-slice-known → Mode
-mode c = c .before .args .mode
+abbrev start : tie.After-is-naming → tie.Start
+start c = c .before .before
 
-abbrev image : tie.After-shared-slice-known → List ℕ
-image c = c .before .args .image .now
+abbrev mode : tie.After-is-naming → Mode
+mode c = start c .args .mode
 
-abbrev p : tie.After-shared-slice-known → ℕ
-p c = c .before .args .p
+abbrev image : tie.After-is-naming → List ℕ
+image c = start c .args .image .now
 
--- what is told of the flow says what is named
-by-flow : (c : tie.After-shared-slice-known) (f : Flow) → c .before .args .flow ≡ f → namedBy f (placeOf (addressIn (mode c) (p c + sizeHere (image c) (p c)) (instrHere (image c) (p c)))) ≡ nameHere (mode c) (image c) (p c)
-by-flow c f e = names (mode c) (image c) (p c) (λ n. c .shared-slice-known .given n .fits) f (sym e ∙ c .before .pre .1 .2)
+abbrev p : tie.After-is-naming → ℕ
+p c = start c .args .p
 
--- a jump and a branch name an address
+-- what the test says is named
+by-test : (c : tie.After-is-naming) (a : Bool) → c .is-naming .result ≡ a
+    → cond a (placeOf (addressIn (mode c) (p c + sizeHere (image c) (p c)) (instrHere (image c) (p c)))) 65536 ≡ nameHere (mode c) (image c) (p c)
+by-test c a e =
+    names (mode c) (image c) (p c) (λ n. c .before .shared-slice-known .given n .fits) (start c .args .flow) (start c .pre .1 .2) a
+    (sym (c .is-naming .ensures) ∙ e)
+
 place-at-requires : tie.Need-place-at-requires
 place-at-requires c κs =
-    let s = c .before .before .before in
-    (s .pre .0, (s .pre .1 .0, s .pre .1 .1, ap isNaming (sym (s .pre .1 .2) ∙ c .enum-told3 .given .1)))
-
-place-at-requires-2 : tie.Need-place-at-requires-2
-place-at-requires-2 c κs =
-    let s = c .before .before .before in
-    (s .pre .0, (s .pre .1 .0, s .pre .1 .1, ap isNaming (sym (s .pre .1 .2) ∙ c .enum-told4 .given .1)))
+    let n = c .before in
+    let s = start n in
+    (s .pre .0, (s .pre .1 .0, s .pre .1 .1, ap isNaming (sym (s .pre .1 .2)) ∙ sym (n .is-naming .ensures) ∙ c .if1 .taken))
 
 pub name-by-spec : {M : Type 1} → statement M
 name-by-spec =
     tie.close
-    (tie.spec (λ c. search needs) (λ c. search needs) (λ c. search needs) place-at-requires (λ c. search needs) place-at-requires-2
-    (λ c. by-flow (c .before .before) _ (c .enum-told .given .1))
-    (λ c. by-flow (c .before .before) _ (c .enum-told2 .given .1))
-    (λ c. c .place-at .ensures ∙ by-flow (c .before .before .before) _ (c .before .enum-told3 .given .1))
-    (λ c. c .place-at2 .ensures ∙ by-flow (c .before .before .before) _ (c .before .enum-told4 .given .1)))
+    (tie.spec (λ c κs. search needs) place-at-requires (λ c. c .place-at .ensures ∙ by-test (c .before .before) _ (c .before .if1 .taken))
+    (λ c. by-test (c .before) _ (c .if1 .left)))
