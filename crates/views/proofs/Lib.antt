@@ -12,4 +12,5 @@ pub mod Carrying
 pub mod Masking
 pub mod Labelling
 pub mod DataRuns
+pub mod Unmasking
 pub mod Overlapping

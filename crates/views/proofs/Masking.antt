@@ -11,7 +11,6 @@ use lib.ListN.{length, getD, length-map}
 use borrow.Author.Tests.{lt-ltb, le-ltb, ltb-true, ltb-false, le-leb, lt-leb}
 use Rattle.targets.specs.At.{sizeHere}
 use Rattle.instruction.proofs.Ands.{not-first, not-second}
-use Rattle.reach.specs.Mark.{tracedMark}
 use Rattle.views.specs.Positions.{upFrom, positions, some, bit, tracedAt}
 use Rattle.views.proofs.Ors.{or-rest, or-start, or-assoc}
 use Rattle.views.proofs.Ups.{up-next, up-start, up-length, up-at}
@@ -37,8 +36,8 @@ module _ (image m : List ℕ) where
   n = length image
 
   -- the instruction at p joined to what ends at e
-  joined : (b p e : ℕ) → p < n → p ≤ b → (ltb b e || covers image m b p) ≡ ltb b (endWith image m p e)
-  joined b p e h k = rw (lt-ltb p n h, le-leb p b k) (by (tracedMark (getD m p 0)) (ltb e (p + sizeHere image p)) refl)
+  joined : (b p e : ℕ) → p ≤ b → (ltb b e || covers image m b p) ≡ ltb b (endWith image m p e)
+  joined b p e k = rw (le-leb p b k) (by (tracedAt image m p) (ltb e (p + sizeHere image p)) refl)
     where
       by : (t u : Bool) → ltb e (p + sizeHere image p) ≡ u → (ltb b e || (t && ltb b (p + sizeHere image p))) ≡ ltb b (cond (t && u) (p + sizeHere image p) e)
       by false u f = or-start (ltb b e) false refl
@@ -47,13 +46,13 @@ module _ (image m : List ℕ) where
 
   -- the same, in the code's words
   module _ (p e : ℕ) where
-    pub ends-further : tracedMark (getD m p 0) ≡ true → (s : ℕ) → s ≡ sizeHere image p → e < p + s → p + s ≡ endWith image m p e
+    pub ends-further : tracedAt image m p ≡ true → (s : ℕ) → s ≡ sizeHere image p → e < p + s → p + s ≡ endWith image m p e
     ends-further t s f h = rw (f, t, lt-ltb e (p + sizeHere image p) (rw (← f) h))
 
     pub ends-nearer : (s : ℕ) → s ≡ sizeHere image p → p + s ≤ e → e ≡ endWith image m p e
-    ends-nearer s f h = rw (not-second (tracedMark (getD m p 0)) _ (le-ltb e (p + sizeHere image p) (rw (← f) h)))
+    ends-nearer s f h = rw (not-second (tracedAt image m p) _ (le-ltb e (p + sizeHere image p) (rw (← f) h)))
 
-    pub ends-untraced : tracedMark (getD m p 0) ≡ false → e ≡ endWith image m p e
+    pub ends-untraced : tracedAt image m p ≡ false → e ≡ endWith image m p e
     ends-untraced t = rw t
 
   -- positions after b do not cover it
@@ -77,7 +76,7 @@ module _ (image m : List ℕ) where
   here p e h M b k =
       M b k ∙ ap (λ (ps : List ℕ). ltb b e || some (covers image m b) ps) (up-next n p h)
       ∙ or-assoc (ltb b e) (covers image m b p) _
-      ∙ ap (λ (t : Bool). t || some (covers image m b) (upFrom (n - (p + 1)) (p + 1))) (joined b p e h k)
+      ∙ ap (λ (t : Bool). t || some (covers image m b) (upFrom (n - (p + 1)) (p + 1))) (joined b p e k)
 
   pub masks-next : (p e : ℕ) → p < n → Masks p e → Masks (p + 1) (endWith image m p e)
   unfolding Masks

@@ -4,11 +4,9 @@ use Prim.Native.Nat.{ℕ, _+_}
 use mathlib.Core.Bool.{Bool, cond, _&&_}
 use mathlib.Core.List.{List, map}
 use lib.Dec.{ltb, leb}
-use lib.ListN.{getD}
 use Rattle.instruction.specs.Answer.{Answer}
 use Rattle.views.specs.View.{viewAnswer, viewRoom}
 use Rattle.targets.specs.At.{sizeHere}
-use Rattle.reach.specs.Mark.{tracedMark}
 use Rattle.views.specs.Positions.{positions, some, bit, tracedAt}
 
 -- b is a byte of the instruction at p
@@ -19,9 +17,9 @@ under image b p = leb p b && ltb b (p + sizeHere image p)
 abbrev pub covers : List ℕ → List ℕ → ℕ → ℕ → Bool
 covers image m b p = tracedAt image m p && under image b p
 
--- of an inner function: where the code up to and with p ends, if what stands before p ends at e
+-- of an inner function: where the code that begins up to p ends, if that before p ends at e
 abbrev pub endWith : List ℕ → List ℕ → ℕ → ℕ → ℕ
-endWith image m p e = cond (tracedMark (getD m p 0) && ltb e (p + sizeHere image p)) (p + sizeHere image p) e
+endWith image m p e = cond (tracedAt image m p && ltb e (p + sizeHere image p)) (p + sizeHere image p) e
 
 unfoldable pub masked : List ℕ → List ℕ → ℕ → Bool
 masked image m b = some (covers image m b) (positions image)

@@ -2,20 +2,19 @@
 // Ported from `build_byte_mask` of src/disasm.rs of wtetzner/waterbear, and changed: one pass upward, which keeps where the code so far ends.
 ghost use mathlib.Core.Path.{_≡_};
 ghost use mathlib.Core.List.{_++_};
-ghost use Prim.Native.Nat.{_≤_, _<_};
+ghost use Prim.Native.Nat.{_≤_};
 ghost use lib.ListN.{length, drop};
 ghost use Rattle.views.specs.View.{viewedOf};
 ghost use Rattle.views.specs.Mask.{maskOf, endWith, maskAnswer, maskRoom};
+use crate::traced;
 use crate::view;
 use crate::view::Viewed;
-use marks::Mark;
 
-// Where the code up to and with p ends, if what stands before p ends there.
-fn end_with(image: &[u8], marks: &[u8], p: u32, end: usize) -> usize
-    requires { ⌜ (p < length (now image)) × (length (now image) ≤ length (now marks)) × (length (now image) ≤ 65536) ⌝ }
+// Where the code that begins up to p ends, if that before p ends there.
+pub fn end_with(image: &[u8], marks: &[u8], p: u32, end: usize) -> usize
     ensures { λ r. ⌜ r ≡ endWith (now (image .entry)) (now (marks .entry)) p end ⌝ }
 {
-    if Mark::is_traced(marks[p as usize]) {
+    if traced::is_traced_at(image, marks, p as usize) {
         let e = p as usize + targets::size_at(image, p) as usize;
         if end < e {
             return e;
