@@ -1,4 +1,4 @@
--- The one answer of the listing: too little room, or written; and the mask and the target marks as the views leave them in a room.
+-- The one answer of the listing: too little room, or written; and the target marks as the view leaves them in a room.
 -- Assumes nothing.
 use mathlib.Core.Path.{_≡_, refl, sym, ap, subst, _∙_}
 use mathlib.Core.Bool.{Bool, true, false}
@@ -38,9 +38,9 @@ pub part-is : (l out : List ℕ) (n : ℕ) → take n l ≡ out → take (n - 0)
 part-is l out n e = let f : n - 0 ≡ n = omega arith in ap (λ (k : ℕ). take k l) f ∙ e
 
 -- the walk over them is the listing
-pub is-text : (mode : Mode) (image m mask labels : List ℕ) (chosen : Bool) → mask ≡ maskOf image m → labels ≡ labelsOf mode image m → walk mode image m mask labels chosen (length image) 0 0 ≡ textOf mode image m chosen
+pub is-text : (mode : Mode) (image m labels : List ℕ) (chosen : Bool) → labels ≡ labelsOf mode image m → walk mode image m (maskOf image m) labels chosen (length image) 0 0 ≡ textOf mode image m chosen
 unfolding textOf
-is-text mode image m mask labels chosen e f = rw (e, f)
+is-text mode image m labels chosen e = rw e
 
 pub is-listing : (mode : Mode) (image m : List ℕ) (choice : Arrivals) (chosen : Bool) → chosen ≡ isChosen choice → textOf mode image m chosen ≡ listingOf mode image m choice
 unfolding textOf listingOf

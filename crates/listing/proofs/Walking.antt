@@ -6,7 +6,7 @@ use mathlib.Core.List.{List, [], _∷_, _++_}
 use Prim.Native.Nat.{ℕ, zero, suc, _+_, _-_, _<_, _≤_}
 use native.Mathlib.Nat.{add-zero, zero-add, add-suc, suc-add}
 use native.Mathlib.Omega.{arith}
-use borrow.Author.Tests.{eq-eqb, ne-eqb}
+use borrow.Author.Tests.{eqb-true}
 use lib.Dec.{eqb}
 use lib.ListN.{length, getD, take, drop, length-take, length-drop}
 use lib.Seq.{length-take-le}
@@ -14,47 +14,42 @@ use Rattle.instruction.specs.declared.mode.Mode.{Mode}
 use Rattle.reach.specs.Mark.{tracedMark}
 use Rattle.views.specs.Positions.{upFrom}
 use Rattle.views.specs.DataRun.{isData, leading, runLength, dataRun}
-use Rattle.views.proofs.DataRuns.{by-mask, data-inside, leading-on}
+use Rattle.views.specs.Mask.{maskOf}
+use Rattle.views.proofs.DataRuns.{data-inside, leading-in}
+use Rattle.listing.specs.Lent.{runAt}
 use Rattle.listing.specs.Lines.{dataLine}
 use Rattle.listing.specs.Walk.{codeLines, linesAt, passed, walk}
 
 -- ---- what is printed at p, and how far it goes
 
-module _ (mode : Mode) (image m mask labels : List ℕ) (chosen : Bool) (p : ℕ) where
-  pub print-code : tracedMark (getD m p 0) ≡ true → codeLines mode image m labels chosen p ≡ linesAt mode image m mask labels chosen p
+module _ (mode : Mode) (image m labels : List ℕ) (chosen : Bool) (p : ℕ) where
+  pub print-code : tracedMark (getD m p 0) ≡ true → codeLines mode image m labels chosen p ≡ linesAt mode image m (maskOf image m) labels chosen p
   unfolding linesAt
   print-code e = rw e
 
-  pub print-none : tracedMark (getD m p 0) ≡ false → (getD mask p 0 ≡ 0 → ⊥) → [] ≡ linesAt mode image m mask labels chosen p
-  unfolding linesAt
-  print-none e f = rw (e, ne-eqb (getD mask p 0) 0 f)
+  -- an empty run prints nothing
+  pub print-run : tracedMark (getD m p 0) ≡ false → (run : List ℕ) → run ≡ runAt image m p → dataLine p run ≡ linesAt mode image m (maskOf image m) labels chosen p
+  unfolding linesAt dataLine
+  print-run e run g = rw (e, g) (by (eqb (getD (maskOf image m) p 0) 0))
+    where
+      by : (b : Bool) → dataLine p (cond b (dataRun image (maskOf image m) p) []) ≡ cond b (dataLine p (dataRun image (maskOf image m) p)) []
+      by true = refl
+      by false = refl
 
-  pub print-data : tracedMark (getD m p 0) ≡ false → getD mask p 0 ≡ 0 → (run : List ℕ) → run ≡ dataRun image mask p → dataLine p run ≡ linesAt mode image m mask labels chosen p
-  unfolding linesAt
-  print-data e f run g = rw (e, eq-eqb (getD mask p 0) 0 f, g)
-
-module _ (image m mask : List ℕ) (p : ℕ) where
-  pub step-code : tracedMark (getD m p 0) ≡ true → 1 ≡ 1 + passed image m mask p
-  unfolding passed
-  step-code e = rw e
-
-  pub step-none : tracedMark (getD m p 0) ≡ false → (getD mask p 0 ≡ 0 → ⊥) → 1 ≡ 1 + passed image m mask p
-  unfolding passed
-  step-none e f = rw (e, ne-eqb (getD mask p 0) 0 f)
-
-  passed-run : tracedMark (getD m p 0) ≡ false → getD mask p 0 ≡ 0 → passed image m mask p ≡ length (dataRun image mask p) - 1
-  unfolding passed
-  passed-run e f = rw (e, eq-eqb (getD mask p 0) 0 f)
-
--- positions that pass a test one after another, all below n, are at most those from p to n
-leading-in : (f : ℕ → Bool) (n : ℕ) → ((b : ℕ) → f b ≡ true → b < n) → (k p : ℕ) → p ≤ n → p + leading f (upFrom k p) ≤ n
-unfolding leading upFrom
-leading-in f n inside zero p h = omega arith
-leading-in f n inside (suc k) p h = by (f p) refl (leading-in f n inside k (suc p))
+-- the run of a traced position is empty, since that is masked
+pub step-run : (image m : List ℕ) (p : ℕ) → (tracedMark (getD m p 0) ≡ true → getD (maskOf image m) p 0 ≡ 1) → (run : List ℕ) → run ≡ runAt image m p → 1 + (length run - 1) ≡ 1 + passed image m (maskOf image m) p
+unfolding passed
+step-run image m p h run g =
+    ap (λ (l : List ℕ). 1 + (length l - 1)) g ∙ by (tracedMark (getD m p 0)) refl (eqb (getD (maskOf image m) p 0) 0) refl
   where
-    by : (t : Bool) → f p ≡ t → (suc p ≤ n → suc p + leading f (upFrom k (suc p)) ≤ n) → p + cond t (suc (leading f (upFrom k (suc p)))) 0 ≤ n
-    by true e g = omega (arith, g (inside p e))
-    by false e g = omega arith
+    r : List ℕ
+    r = dataRun image (maskOf image m) p
+
+    by : (t : Bool) → tracedMark (getD m p 0) ≡ t → (b : Bool) → eqb (getD (maskOf image m) p 0) 0 ≡ b → 1 + (length (cond b r []) - 1) ≡ 1 + cond t 0 (cond b (length r - 1) 0)
+    by true e true f = absurd (omega (arith, h e, eqb-true (getD (maskOf image m) p 0) 0 f))
+    by true e false f = refl
+    by false e true f = refl
+    by false e false f = refl
 
 module _ (image mask : List ℕ) (p : ℕ) where
   pub run-fits : p ≤ length image → p + length (dataRun image mask p) ≤ length image
@@ -65,30 +60,17 @@ module _ (image mask : List ℕ) (p : ℕ) where
       let e : length (take k (drop p image)) ≡ k = length-take-le k (drop p image) (omega (arith, length-drop p image)) in
       omega arith
 
-  run-first : p < length image → p < length mask → getD mask p 0 ≡ 0 → 1 ≤ runLength image mask p
-  unfolding runLength
-  run-first h k e =
-      omega (arith, leading-on (isData image mask) 16 p (omega arith) (sym (by-mask image mask p h k) ∙ eq-eqb (getD mask p 0) 0 e))
-
-  pub run-some : p < length image → p < length mask → getD mask p 0 ≡ 0 → 1 ≤ length (dataRun image mask p)
-  unfolding dataRun
-  run-some h k e =
-      let f : 1 ≤ runLength image mask p = run-first h k e in
-      by (runLength image mask p) (drop p image) f (omega (arith, length-drop p image))
-    where
-      by : (n : ℕ) (l : List ℕ) → 1 ≤ n → 1 ≤ length l → 1 ≤ length (take n l)
-      by zero l a b = absurd (omega arith)
-      by (suc n) [] a b = absurd (omega arith)
-      by (suc n) (x ∷ l) a b = omega arith
-
 -- a run is no longer than the image
-pub run-length : (image mask : List ℕ) (p : ℕ) → length image ≤ 65536 → (run : List ℕ) → run ≡ dataRun image mask p → length run ≤ 65536
+pub run-length : (image m : List ℕ) (p : ℕ) → length image ≤ 65536 → (run : List ℕ) → run ≡ runAt image m p → length run ≤ 65536
 unfolding dataRun
-run-length image mask p h run e = omega (arith, ap length e, length-take (runLength image mask p) (drop p image), length-drop p image)
+run-length image m p h run e = omega (arith, ap length e, by (eqb (getD mask p 0) 0))
+  where
+    mask : List ℕ
+    mask = maskOf image m
 
-pub step-run : (image m mask : List ℕ) (p : ℕ) → p < length image → p < length mask → tracedMark (getD m p 0) ≡ false → getD mask p 0 ≡ 0 → (run : List ℕ) → run ≡ dataRun image mask p → length run ≡ 1 + passed image m mask p
-step-run image m mask p h k e f run g =
-    omega (arith, ap length g, run-some image mask p h k f, passed-run image m mask p e f)
+    by : (b : Bool) → length (cond b (dataRun image mask p) []) ≤ 65536
+    by true = omega (arith, length-take (runLength image mask p) (drop p image), length-drop p image)
+    by false = omega arith
 
 -- a step stays within the image
 pub step-fits : (image m mask : List ℕ) (p : ℕ) → p < length image → p + (1 + passed image m mask p) ≤ length image

@@ -1,20 +1,25 @@
--- The index that inner functions are lent: serves them alone.
+-- What inner functions are lent: serves them alone.
 -- Assumes nothing.
 use Prim.Native.Nat.{ℕ}
-use mathlib.Core.Bool.{Bool, true}
-use mathlib.Core.List.{List}
+use mathlib.Core.Bool.{Bool, true, cond}
+use mathlib.Core.List.{List, []}
 use mathlib.Core.Path.{_≡_}
-use lib.Dec.{ltb}
-use lib.ListN.{length}
+use lib.Dec.{eqb, ltb}
+use lib.ListN.{length, getD}
 use Rattle.instruction.specs.Answer.{Answer}
 use Rattle.instruction.specs.declared.mode.Mode.{Mode}
 use Rattle.views.specs.View.{viewAnswer, viewRoom}
+use Rattle.views.specs.DataRun.{dataRun}
 use Rattle.views.specs.Labels.{labelsOf}
 use Rattle.views.specs.Mask.{maskOf}
 use Rattle.arrivals.specs.Index.{indexOf}
 use Rattle.listing.specs.Walk.{walk}
 
--- one of no cells is none
+-- the data run at p; none where p is masked
+abbrev pub runAt : List ℕ → List ℕ → ℕ → List ℕ
+runAt image m p = cond (eqb (getD (maskOf image m) p 0) 0) (dataRun image (maskOf image m) p) []
+
+-- an index of no cells is none
 abbrev pub isLent : List ℕ → Bool
 isLent index = ltb 0 (length index)
 

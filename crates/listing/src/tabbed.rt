@@ -36,23 +36,13 @@ fn list(mode: Mode, image: &[u8], marks: &[u8], index: &[u32], room: &mut [u8]) 
     ensures { λ _. ⌜ now (room .exit) ≡ textRoom mode (now (image .entry)) (now (marks .entry)) (isLent (now (index .entry))) (now (room .entry)) ⌝ }
 {
     let n = image.len();
-    let mut mask = rooms::bytes();
     let mut labels = rooms::bytes();
-    views::build_byte_mask(image, marks, &mut mask);
     views::target_marks(mode, image, marks, &mut labels);
-    let need = walk::needed(
-        mode,
-        image,
-        marks,
-        &mask[0..n],
-        &labels[0..n],
-        index,
-        room.len(),
-    );
+    let need = walk::needed(mode, image, marks, &labels[0..n], index, room.len());
     if room.len() < need {
         return Viewed::NoRoom(need);
     }
-    Viewed::Written(walk::put_walk(mode, image, marks, &mask[0..n], &labels[0..n], index, room))
+    Viewed::Written(walk::put_walk(mode, image, marks, &labels[0..n], index, room))
 }
 
 // The same with arrivals.

@@ -1,11 +1,12 @@
 // The walk: upward by position. An index of no cells is lent where arrivals are declined.
 ghost use mathlib.Core.Path.{_≡_};
 ghost use mathlib.Core.Bool.{cond};
-ghost use Prim.Native.Nat.{_+_, _^_, _≤_, _<_};
+ghost use Prim.Native.Nat.{_+_, _-_, _^_, _≤_, _<_};
 ghost use lib.ListN.{length};
-ghost use Rattle.listing.specs.Lent.{isLent, Indexed};
+ghost use Rattle.views.specs.Mask.{maskOf};
+ghost use Rattle.listing.specs.Lent.{isLent, Indexed, runAt};
 ghost use Rattle.text.specs.Puts.{Puts, Needed};
-ghost use Rattle.listing.specs.Walk.{codeLines, linesAt, passed, walk};
+ghost use Rattle.listing.specs.Walk.{codeLines, linesAt, walk};
 use crate::lines;
 use instruction::Mode;
 use marks::Mark;
@@ -40,72 +41,67 @@ fn put_code(
     lines::put_here(mode, image, out, c, p)
 }
 
-// What is printed at a position.
+// What is printed at a position, by its data run; that of a masked position is empty, and nothing is printed of it.
 fn put_at(
     mode: Mode,
     image: &[u8],
     marks: &[u8],
-    mask: &[u8],
     labels: &[u8],
     index: &[u32],
+    run: &[u8],
     out: &mut [u8],
     at: usize,
     p: u32,
 ) -> usize
-    requires { ⌜ (at < 2 ^ 52) × (length (now image) ≤ 65536) × (p < length (now labels)) × (p < length (now marks)) × (p < length (now mask))
-        × (p < length (now image)) × Indexed mode (now image) (now marks) (now index) ⌝ }
+    requires { ⌜ (at < 2 ^ 52) × (length (now image) ≤ 65536) × (p < length (now labels)) × (p < length (now marks))
+        × (p < length (now image)) × (now run ≡ runAt (now image) (now marks) p) × Indexed mode (now image) (now marks) (now index) ⌝ }
     ensures { λ r. ⌜ Puts
-        (linesAt mode (now (image .entry)) (now (marks .entry)) (now (mask .entry)) (now (labels .entry)) (isLent (now (index .entry))) p)
+        (linesAt mode (now (image .entry)) (now (marks .entry)) (maskOf (now (image .entry)) (now (marks .entry)))
+        (now (labels .entry)) (isLent (now (index .entry))) p)
         at (now (out .entry)) (now (out .exit)) r ⌝ }
     ensures { λ r. ⌜ r ≤ at + 2 ^ 22 ⌝ }
 {
-    let i = p as usize;
-    if Mark::is_traced(marks[i]) {
+    if Mark::is_traced(marks[p as usize]) {
         return put_code(mode, image, marks, labels, index, out, at, p);
     }
-    if mask[i] != 0 {
-        return at;
-    }
-    lines::put_data(out, at, p, views::data_run(image, mask, p))
+    lines::put_data(out, at, p, run)
 }
 
-// How many positions are passed with this one.
-fn step_at(image: &[u8], marks: &[u8], mask: &[u8], p: u32) -> usize
-    requires { ⌜ (p < length (now image)) × (p < length (now marks)) × (p < length (now mask)) ⌝ }
-    ensures { λ r. ⌜ r ≡ 1 + passed (now (image .entry)) (now (marks .entry)) (now (mask .entry)) p ⌝ }
+// How many positions are passed with one that has this run.
+fn step_by(run: &[u8]) -> usize
+    ensures { λ r. ⌜ r ≡ 1 + (length (now (run .entry)) - 1) ⌝ }
 {
-    let i = p as usize;
-    if Mark::is_traced(marks[i]) {
+    if run.len() == 0 {
         return 1;
     }
-    if mask[i] == 0 {
-        return views::data_run(image, mask, p).len();
-    }
-    1
+    run.len()
 }
 
+// No mask is lent: where the code so far ends says which bytes are code, since every instruction that begins up to p was passed.
 pub fn put_walk(
     mode: Mode,
     image: &[u8],
     marks: &[u8],
-    mask: &[u8],
     labels: &[u8],
     index: &[u32],
     out: &mut [u8],
 ) -> usize
-    requires { ⌜ (length (now image) ≤ 65536) × (length (now image) ≤ length (now marks)) × (length (now mask) ≡ length (now image))
+    requires { ⌜ (length (now image) ≤ 65536) × (length (now image) ≤ length (now marks))
         × (length (now labels) ≡ length (now image)) × Indexed mode (now image) (now marks) (now index) ⌝ }
     ensures { λ r. ⌜ Puts
-        (walk mode (now (image .entry)) (now (marks .entry)) (now (mask .entry)) (now (labels .entry)) (isLent (now (index .entry)))
-        (length (now (image .entry))) 0 0)
+        (walk mode (now (image .entry)) (now (marks .entry)) (maskOf (now (image .entry)) (now (marks .entry)))
+        (now (labels .entry)) (isLent (now (index .entry))) (length (now (image .entry))) 0 0)
         0 (now (out .entry)) (now (out .exit)) r ⌝ }
 {
     let n = image.len();
     let mut at: usize = 0;
+    let mut end: usize = 0;
     let mut p: usize = 0;
     while p < n {
-        at = put_at(mode, image, marks, mask, labels, index, out, at, p as u32);
-        p += step_at(image, marks, mask, p as u32);
+        end = views::end_with(image, marks, p as u32, end);
+        let run = views::unmasked_run(image, marks, p as u32, end);
+        at = put_at(mode, image, marks, labels, index, run, out, at, p as u32);
+        p += step_by(run);
     }
     at
 }
@@ -124,16 +120,15 @@ pub fn needed(
     mode: Mode,
     image: &[u8],
     marks: &[u8],
-    mask: &[u8],
     labels: &[u8],
     index: &[u32],
     room: usize,
 ) -> usize
-    requires { ⌜ (length (now image) ≤ 65536) × (length (now image) ≤ length (now marks)) × (length (now mask) ≡ length (now image))
+    requires { ⌜ (length (now image) ≤ 65536) × (length (now image) ≤ length (now marks))
         × (length (now labels) ≡ length (now image)) × Indexed mode (now image) (now marks) (now index) ⌝ }
     ensures { λ r. ⌜ Needed
-        (walk mode (now (image .entry)) (now (marks .entry)) (now (mask .entry)) (now (labels .entry)) (isLent (now (index .entry)))
-        (length (now (image .entry))) 0 0)
+        (walk mode (now (image .entry)) (now (marks .entry)) (maskOf (now (image .entry)) (now (marks .entry)))
+        (now (labels .entry)) (isLent (now (index .entry))) (length (now (image .entry))) 0 0)
         room r ⌝ }
 {
     let most = most(index) * image.len();
@@ -141,5 +136,5 @@ pub fn needed(
         return most;
     }
     let mut none = [0u8; 1];
-    put_walk(mode, image, marks, mask, labels, index, &mut none)
+    put_walk(mode, image, marks, labels, index, &mut none)
 }

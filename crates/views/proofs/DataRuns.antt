@@ -1,7 +1,7 @@
 -- Laws of the data run: where it goes on, and where it ends.
 -- Assumes nothing.
 use mathlib.Core.Path.{_≡_, refl, sym, ap, _∙_}
-use mathlib.Core.Bool.{Bool, true, false, _&&_}
+use mathlib.Core.Bool.{Bool, true, false, cond, _&&_}
 use mathlib.Core.List.{List, [], _∷_}
 use Prim.Native.Nat.{ℕ, zero, suc, _+_, _-_, _≤_, _<_}
 use native.Mathlib.Nat.{not-suc-le-zero, le-of-suc-le-suc}
@@ -53,6 +53,16 @@ module _ (f : ℕ → Bool) where
   unfolding leading upFrom
   leading-on zero at p h = absurd (not-suc-le-zero p)
   leading-on (suc k) at p h = rw (h, sub-one, add-one)
+
+-- positions that pass a test one after another, all below n, are at most those from p to n
+pub leading-in : (f : ℕ → Bool) (n : ℕ) → ((b : ℕ) → f b ≡ true → b < n) → (k p : ℕ) → p ≤ n → p + leading f (upFrom k p) ≤ n
+unfolding leading upFrom
+leading-in f n inside zero p h = omega arith
+leading-in f n inside (suc k) p h = by (f p) refl (leading-in f n inside k (suc p))
+  where
+    by : (t : Bool) → f p ≡ t → (suc p ≤ n → suc p + leading f (upFrom k (suc p)) ≤ n) → p + cond t (suc (leading f (upFrom k (suc p)))) 0 ≤ n
+    by true e g = omega (arith, g (inside p e))
+    by false e g = omega arith
 
 pub run-past : (image mask : List ℕ) (p : ℕ) → length image ≤ p → [] ≡ dataRun image mask p
 unfolding dataRun

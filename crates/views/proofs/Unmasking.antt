@@ -7,18 +7,18 @@ use mathlib.Core.List.{List, []}
 use Prim.Native.Nat.{ℕ, zero, suc, _+_, _-_, _<_, _≤_}
 use native.Mathlib.Numerals.{add-one}
 use native.Mathlib.Omega.{arith}
-use borrow.Author.Tests.{le-ltb, lt-ltb, ltb-true, ltb-false}
+use borrow.Author.Tests.{le-ltb, lt-ltb, ltb-true, ltb-false, not-true}
 use lib.Dec.{eqb, ltb}
-use lib.ListN.{length, getD, take, drop, drop-of-length-le}
-use lib.Seq.{take-nil}
-use Rattle.instruction.proofs.Ands.{first-part}
+use lib.ListN.{length, getD, take, drop, length-drop, drop-of-length-le}
+use lib.Seq.{take-nil, length-take-le}
+use Rattle.instruction.proofs.Ands.{first-part, second-part}
 use Rattle.targets.specs.At.{sizeHere}
 use Rattle.targets.proofs.Within.{Small, size-short}
 use Rattle.views.specs.Positions.{upFrom, bit, tracedAt}
 use Rattle.views.specs.DataRun.{leading, isData, runLength, dataRun}
 use Rattle.views.specs.Mask.{maskOf, endWith}
 use Rattle.views.specs.Unmasked.{isUntraced, untracedLength, unmaskedRun}
-use Rattle.views.proofs.DataRuns.{by-mask}
+use Rattle.views.proofs.DataRuns.{by-mask, leading-on, leading-in}
 use Rattle.views.proofs.Masking.{Masks, masks-here, masks-next, mask-length}
 
 module _ (image m : List ℕ) (b : ℕ) where
@@ -27,6 +27,9 @@ module _ (image m : List ℕ) (b : ℕ) where
 
   pub by-trace : b < length image → (t : Bool) → t ≡ tracedAt image m b → not t ≡ isUntraced image m b
   by-trace h t e = ap not e ∙ sym (ap (λ (u : Bool). u && not (tracedAt image m b)) (lt-ltb b (length image) h))
+
+  untraced : isUntraced image m b ≡ true → tracedAt image m b ≡ false
+  untraced e = not-true (tracedAt image m b) (second-part (ltb b (length image)) _ e)
 
   pub untraced-inside : isUntraced image m b ≡ true → b < length image
   untraced-inside e = ltb-true b (length image) (first-part (ltb b (length image)) _ e)
@@ -121,3 +124,46 @@ module _ (image m : List ℕ) (B : Small image) where
           let y = past-ends image m p e x B in
           let z : e ≤ p = omega (arith, x, y .1) in
           rw (mask-at p e h M false f, f) (ap (λ (k : ℕ). take k (drop p image)) (same-ends 16 p e M z))
+
+  -- past an untraced position the code ends where it did
+  masks-free : (p e : ℕ) → p < n → tracedAt image m p ≡ false → Masks image m p e → Masks image m (p + 1) e
+  masks-free p e h f M =
+      subst (Masks image m (p + 1)) (ap (λ (t : Bool). cond (t && ltb e (p + sizeHere image p)) (p + sizeHere image p) e) f) (masks-next image m p e h M)
+
+  masks-on : (k p e : ℕ) → Masks image m p e → Masks image m (p + leading (isUntraced image m) (upFrom k p)) e
+  unfolding leading upFrom
+  masks-on zero p e M = subst (λ (q : ℕ). Masks image m q e) (let z : p ≡ p + 0 = omega arith in z) M
+  masks-on (suc k) p e M = by (isUntraced image m p) refl (masks-on k (suc p) e)
+    where
+      rest : ℕ
+      rest = leading (isUntraced image m) (upFrom k (suc p))
+
+      by : (b : Bool) → isUntraced image m p ≡ b → (Masks image m (suc p) e → Masks image m (suc p + rest) e) → Masks image m (p + cond b (suc rest) 0) e
+      by true f again =
+          let i = untraced-inside image m p f in
+          let t : tracedAt image m p ≡ false = untraced image m p f in
+          subst (λ (q : ℕ). Masks image m q e) (let z : suc p + rest ≡ p + suc rest = omega arith in z)
+          (again (subst (λ (q : ℕ). Masks image m q e) (add-one p) (masks-free p e i t M)))
+      by false f again = subst (λ (q : ℕ). Masks image m q e) (let z : p ≡ p + 0 = omega arith in z) M
+
+  -- past the run at p, or past p alone where there is none
+  pub masks-over : (p e : ℕ) → p < n → Masks image m p e → Masks image m (p + (1 + (length (unmaskedRun image m p (endWith image m p e)) - 1))) (endWith image m p e)
+  unfolding unmaskedRun untracedLength
+  masks-over p e h M = by (ltb p (endWith image m p e)) refl
+    where
+      over : ℕ → Type 0
+      over k = Masks image m (p + (1 + (k - 1))) (endWith image m p e)
+
+      by : (b : Bool) → ltb p (endWith image m p e) ≡ b → over (length (unmaskedRun image m p (endWith image m p e)))
+      by true f = rw f (masks-next image m p e h M)
+      by false f =
+          let x = ltb-false p (endWith image m p e) f in
+          let y = past-ends image m p e x B in
+          let U = isUntraced image m in
+          let u : U p ≡ true = sym (by-trace image m p h false (sym (y .0))) in
+          let k : ℕ = leading U (upFrom 16 p) in
+          let s : 1 ≤ k = omega (arith, leading-on U 16 p (omega arith) u) in
+          let i : p + k ≤ n = leading-in U n (λ b g. untraced-inside image m b g) 16 p (omega (arith, h)) in
+          let l : length (take k (drop p image)) ≡ k = length-take-le k (drop p image) (omega (arith, length-drop p image)) in
+          let z : p + k ≡ p + (1 + (k - 1)) = omega arith in
+          rw (f, l) (subst (Masks image m (p + (1 + (k - 1)))) (sym (y .1)) (subst (λ (q : ℕ). Masks image m q e) z (masks-on 16 p e M)))

@@ -11,7 +11,6 @@ use Rattle.views.proofs.Viewing.{small, covered}
 use Rattle.views.specs.Labels.{labelsOf}
 use Rattle.views.specs.Mask.{maskOf}
 use Rattle.views.proofs.Labelling.{labels-length}
-use Rattle.views.proofs.Masking.{mask-length}
 use Rattle.listing.specs.Lent.{isLent, Indexed, textOf}
 use Rattle.text.specs.Puts.{Needed}
 use Rattle.listing.specs.Walk.{walk}
@@ -20,16 +19,12 @@ use Rattle.text.proofs.Putting.{puts-as}
 use Rattle.listing.proofs.tabbed.list.Statement.{statement}
 use Rattle.listing.proofs.tabbed.list.Tie as tie
 
--- the mask is made
-abbrev masked : tie.After-labels2 → tie.After-build-byte-mask
-masked l = l .before .before .before .before
-
--- both rooms are
-abbrev roomed : tie.After-labels2 → tie.After-bytes2
-roomed l = masked l .before .before
+-- the room is made
+abbrev roomed : tie.After-labels2 → tie.After-bytes
+roomed l = l .before .before .before
 
 abbrev start : tie.After-labels2 → tie.Start
-start l = roomed l .before .before .before .before .before .before
+start l = roomed l .before .before .before .before .before
 
 abbrev mode : tie.After-labels2 → Mode
 mode l = start l .args .mode
@@ -52,24 +47,13 @@ text l = textOf (mode l) (image l) (marks l) (isLent (index l))
 sound : (l : tie.After-labels2) → Sound (image l) (marks l)
 sound l = start l .pre .0
 
-abbrev mask : tie.After-labels2 → List ℕ
-mask l = masked l .build-byte-mask .last .1 .1 .0
-
 abbrev labels : tie.After-labels2 → List ℕ
 labels l = l .before .target-marks .last .1 .1 .1 .0
-
-mask-front : (l : tie.After-labels2) → take (length (image l)) (mask l) ≡ maskOf (image l) (marks l)
-mask-front l =
-    let b = roomed l .before in
-    in-front (image l) (marks l) (sound l) (maskOf (image l) (marks l)) (mask-length (image l) (marks l)) (b .bytes .result) (b .bytes .ensures) (mask l) (masked l .build-byte-mask .ensures .1)
 
 labels-front : (l : tie.After-labels2) → take (length (image l)) (labels l) ≡ labelsOf (mode l) (image l) (marks l)
 labels-front l =
     let b = roomed l in
-    in-front (image l) (marks l) (sound l) (labelsOf (mode l) (image l) (marks l)) (labels-length (mode l) (image l) (marks l)) (b .bytes2 .result) (b .bytes2 .ensures) (labels l) (l .before .target-marks .ensures .1)
-
-mask-long : (l : tie.After-labels2) → length (image l) ≤ length (mask l)
-mask-long l = long-enough (mask l) (maskOf (image l) (marks l)) (length (image l)) (mask-front l) (mask-length (image l) (marks l))
+    in-front (image l) (marks l) (sound l) (labelsOf (mode l) (image l) (marks l)) (labels-length (mode l) (image l) (marks l)) (b .bytes .result) (b .bytes .ensures) (labels l) (l .before .target-marks .ensures .1)
 
 labels-long : (l : tie.After-labels2) → length (image l) ≤ length (labels l)
 labels-long l = long-enough (labels l) (labelsOf (mode l) (image l) (marks l)) (length (image l)) (labels-front l) (labels-length (mode l) (image l) (marks l))
@@ -77,39 +61,34 @@ labels-long l = long-enough (labels l) (labelsOf (mode l) (image l) (marks l)) (
 abbrev partOf : ℕ → List ℕ → List ℕ
 partOf n l = take (n - 0) (drop 0 l)
 
-mask-part : (l : tie.After-labels2) → partOf (length (image l)) (mask l) ≡ maskOf (image l) (marks l)
-mask-part l = part-is (mask l) (maskOf (image l) (marks l)) (length (image l)) (mask-front l)
-
 labels-part : (l : tie.After-labels2) → partOf (length (image l)) (labels l) ≡ labelsOf (mode l) (image l) (marks l)
 labels-part l = part-is (labels l) (labelsOf (mode l) (image l) (marks l)) (length (image l)) (labels-front l)
 
 -- the text of a walk
-shown : (l : tie.After-labels2) → walk (mode l) (image l) (marks l) (partOf (length (image l)) (mask l)) (partOf (length (image l)) (labels l)) (isLent (index l)) (length (image l)) 0 0 ≡ text l
-shown l = is-text (mode l) (image l) (marks l) _ _ (isLent (index l)) (mask-part l) (labels-part l)
+shown : (l : tie.After-labels2) → walk (mode l) (image l) (marks l) (maskOf (image l) (marks l)) (partOf (length (image l)) (labels l)) (isLent (index l)) (length (image l)) 0 0 ≡ text l
+shown l = is-text (mode l) (image l) (marks l) _ (isLent (index l)) (labels-part l)
 
 -- what a walk asks
-record Asked (mode : Mode) (image marks mask labels index : List ℕ) : Type 0 where
+record Asked (mode : Mode) (image marks labels index : List ℕ) : Type 0 where
   fits : length image ≤ 65536
   marked : length image ≤ length marks
-  masked : length mask ≡ length image
   labelled : length labels ≡ length image
   indexed : Indexed mode image marks index
 
-asked : (l : tie.After-labels2) → Asked (mode l) (image l) (marks l) (partOf (length (image l)) (mask l)) (partOf (length (image l)) (labels l)) (index l)
+asked : (l : tie.After-labels2) → Asked (mode l) (image l) (marks l) (partOf (length (image l)) (labels l)) (index l)
 asked l = record {
   fits = small (image l) (marks l) (sound l);
   marked = covered (image l) (marks l) (sound l);
-  masked = ap length (mask-part l) ∙ mask-length (image l) (marks l);
   labelled = ap length (labels-part l) ∙ labels-length (mode l) (image l) (marks l);
   indexed = start l .pre .1;
 }
 
 -- before what is needed is known
 abbrev before-need : tie.After-needed → tie.After-labels2
-before-need k = k .before .before .before .before .before
+before-need k = k .before .before .before
 
 needed-requires : tie.Need-needed-requires
-needed-requires c κs = let a = asked (c .before .before .before .before) in (a .fits, a .marked, a .masked, a .labelled, a .indexed)
+needed-requires c κs = let a = asked (c .before .before) in (a .fits, a .marked, a .labelled, a .indexed)
 
 -- what is needed of the text
 need : (k : tie.After-needed) → let l = before-need k in Needed (text l) (length (room l)) (k .needed .result)
@@ -123,14 +102,14 @@ returns c =
 
 put-walk-requires : tie.Need-put-walk-requires
 put-walk-requires c κs =
-    let e = c .before .before .before .before .before in
+    let e = c .before .before .before in
     let a = asked (before-need (e .before)) in
-    (a .fits, a .marked, a .masked, a .labelled, a .indexed)
+    (a .fits, a .marked, a .labelled, a .indexed)
 
 returns-2 : tie.Need-returns-2
 returns-2 c =
     let j = c .before .before in
-    let e = j .before .before .before .before .before .before in
+    let e = j .before .before .before .before in
     let k = e .before in
     let l = before-need k in
     all-written (image l) (marks l) (text l) (room l) (sound l) (puts-as (shown l) (j .put-walk .ensures)) (need k) (e .if1 .left)
@@ -140,25 +119,16 @@ list-spec =
     tie.close
     (tie.spec
     (λ c κs. search needs)
-    (λ c κs. search needs)
     (λ c. search needs)
     (λ c κs. search needs)
     (λ c. search needs)
-    (λ c κs. search needs)
     (λ c. search needs)
-    (λ c. search needs)
-    (λ c. mask-long (c .before))
-    (λ c. search needs)
-    (λ c. search needs)
-    (λ c. labels-long (c .before .before .before))
+    (λ c. labels-long (c .before))
     needed-requires
     returns
     (λ c. search needs)
     (λ c. search needs)
-    (λ c. mask-long (before-need (c .before .before)))
-    (λ c. search needs)
-    (λ c. search needs)
-    (λ c. labels-long (before-need (c .before .before .before .before)))
+    (λ c. labels-long (before-need (c .before .before)))
     put-walk-requires
     (λ c. search needs)
     returns-2)

@@ -6,6 +6,7 @@ use Prim.Native.Nat.{ℕ, _*_, _≤_}
 use native.Mathlib.Omega.{arith}
 use borrow.Author.Needs.{needs}
 use lib.ListN.{length}
+use Rattle.views.specs.Mask.{maskOf}
 use Rattle.listing.specs.Lent.{isLent}
 use Rattle.listing.specs.Walk.{walk}
 use Rattle.text.proofs.Putting.{puts-needed}
@@ -14,7 +15,7 @@ use Rattle.listing.proofs.walk.needed.Statement.{statement}
 use Rattle.listing.proofs.walk.needed.Tie as tie
 
 abbrev start : tie.After-most → tie.Start
-start k = k .before .before .before .before .before .before
+start k = k .before .before .before .before .before
 
 few : (b : Bool) (n : ℕ) → n ≤ 65536 → cond b 77 60 * n ≤ 5046272
 few true n h = omega arith
@@ -31,8 +32,8 @@ returns : tie.Need-returns
 returns c =
     let k = c .before in
     let a = start k .args in
-    let w = all-width (a .mode) (a .image .now) (a .marks .now) (λ n. k .before .before .before .before .before .shared-slice-known .given n .fits) (a .mask .now) (a .labels .now) (isLent (a .index .now)) in
-    let l : length (walk (a .mode) (a .image .now) (a .marks .now) (a .mask .now) (a .labels .now) (isLent (a .index .now)) (length (a .image .now)) 0 0) ≤ k .most .result * length (a .image .now) = subst (λ (j : ℕ). length (walk (a .mode) (a .image .now) (a .marks .now) (a .mask .now) (a .labels .now) (isLent (a .index .now)) (length (a .image .now)) 0 0) ≤ j * length (a .image .now)) (sym (k .most .ensures)) w in
+    let w = all-width (a .mode) (a .image .now) (a .marks .now) (λ n. k .before .before .before .before .shared-slice-known .given n .fits) (maskOf (a .image .now) (a .marks .now)) (a .labels .now) (isLent (a .index .now)) in
+    let l : length (walk (a .mode) (a .image .now) (a .marks .now) (maskOf (a .image .now) (a .marks .now)) (a .labels .now) (isLent (a .index .now)) (length (a .image .now)) 0 0) ≤ k .most .result * length (a .image .now) = subst (λ (j : ℕ). length (walk (a .mode) (a .image .now) (a .marks .now) (maskOf (a .image .now) (a .marks .now)) (a .labels .now) (isLent (a .index .now)) (length (a .image .now)) 0 0) ≤ j * length (a .image .now)) (sym (k .most .ensures)) w in
     let h = c .if1 .taken in
     record { covers = l; exact = λ g. absurd (omega (arith, g, h)) }
 

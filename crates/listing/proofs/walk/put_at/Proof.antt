@@ -8,8 +8,8 @@ use borrow.Author.Needs.{needs}
 use lib.ListN.{getD}
 use Rattle.reach.specs.Mark.{tracedMark}
 use Rattle.listing.specs.Lent.{isLent}
-use Rattle.text.proofs.Putting.{puts-as, puts-none}
-use Rattle.listing.proofs.Walking.{print-code, print-none, print-data, run-length}
+use Rattle.text.proofs.Putting.{puts-as}
+use Rattle.listing.proofs.Walking.{print-code, print-run, run-length}
 use Rattle.listing.proofs.walk.put_at.Statement.{statement}
 use Rattle.listing.proofs.walk.put_at.Tie as tie
 
@@ -26,34 +26,26 @@ returns c =
     let t = i .before in
     let a = start t .args in
     let e : traced t ≡ true = sym (t .is-traced .ensures) ∙ i .if1 .taken in
-    (puts-as (print-code (a .mode) (a .image .now) (a .marks .now) (a .mask .now) (a .labels .now) (isLent (a .index .now)) (a .p) e) (k .put-code .ensures .0), k .put-code .ensures .1)
-
-untraced : (i : tie.Else1) → traced (i .before) ≡ false
-untraced i = sym (i .before .is-traced .ensures) ∙ i .if1 .left
-
-returns-2 : tie.Need-returns-2
-returns-2 c =
-    let i = c .before .before in
-    let a = start (i .before) .args in
-    (puts-as (print-none (a .mode) (a .image .now) (a .marks .now) (a .mask .now) (a .labels .now) (isLent (a .index .now)) (a .p) (untraced i) (c .if2 .taken)) (puts-none _ _), omega arith)
+    (puts-as (print-code (a .mode) (a .image .now) (a .marks .now) (a .labels .now) (isLent (a .index .now)) (a .p) e) (k .put-code .ensures .0), k .put-code .ensures .1)
 
 put-data-requires : tie.Need-put-data-requires
 put-data-requires c κs =
-    let s = start (c .before .before .before .before .before) in
+    let s = start (c .before .before) in
     let b : s .args .at < 2 ^ 52 = s .pre .0 in
-    (omega arith, run-length (s .args .image .now) (s .args .mask .now) (s .args .p) (s .pre .1) _ (c .data-run .ensures))
+    (omega arith, run-length (s .args .image .now) (s .args .marks .now) (s .args .p) (s .pre .1) _ (s .pre .5))
 
-returns-3 : tie.Need-returns-3
-returns-3 c =
+returns-2 : tie.Need-returns-2
+returns-2 c =
     let k = c .before .before in
-    let r = k .before in
-    let d = r .before .before in
-    let i = d .before .before in
-    let a = start (i .before) .args in
+    let i = k .before .before in
+    let t = i .before in
+    let s = start t in
+    let a = s .args in
+    let e : traced t ≡ false = sym (t .is-traced .ensures) ∙ i .if1 .left in
     let g : k .put-data .result ≤ a .at + 2 ^ 20 = k .put-data .ensures .1 in
-    (puts-as (print-data (a .mode) (a .image .now) (a .marks .now) (a .mask .now) (a .labels .now) (isLent (a .index .now)) (a .p) (untraced i) (d .if2 .left) _ (r .data-run .ensures)) (k .put-data .ensures .0), omega arith)
+    (puts-as (print-run (a .mode) (a .image .now) (a .marks .now) (a .labels .now) (isLent (a .index .now)) (a .p) e _ (s .pre .5)) (k .put-data .ensures .0), omega arith)
 
 pub put-at-spec : {M : Type 1} → statement M
 put-at-spec =
     tie.close
-    (tie.spec (λ c. search needs) (λ c κs. search needs) (λ c κs. search needs) (λ c. search needs) returns (λ c. search needs) returns-2 (λ c κs. search needs) put-data-requires (λ c. search needs) returns-3)
+    (tie.spec (λ c. search needs) (λ c κs. search needs) (λ c κs. search needs) (λ c. search needs) returns put-data-requires (λ c. search needs) returns-2)
