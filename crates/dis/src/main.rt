@@ -20,24 +20,29 @@ fn output() -> [u8; 5_046_272]
     [0; 5_046_272]
 }
 
+// Puts argument i and byte 0 at a place: the next place, or the room's end where they leave none of it.
+fn put(i: usize, words: &mut [u8], at: usize) -> usize {
+    if words.len() <= at {
+        return words.len();
+    }
+    let n = os::arg(i, &mut words[at..]);
+    if os::errno() != 0 {
+        return words.len();
+    }
+    if words.len() - at <= n {
+        return words.len();
+    }
+    words[at + n] = 0;
+    at + n + 1
+}
+
 // The words after the file's name, each ended by byte 0: how many bytes they are, or as many as the room has where they leave none of it.
 fn gather(words: &mut [u8]) -> usize {
     let count = os::arg_count();
     let mut at: usize = 0;
     let mut i: usize = 2;
     while i < count {
-        if words.len() <= at {
-            return words.len();
-        }
-        let n = os::arg(i, &mut words[at..]);
-        if os::errno() != 0 {
-            return words.len();
-        }
-        if words.len() - at <= n {
-            return words.len();
-        }
-        words[at + n] = 0;
-        at += n + 1;
+        at = put(i, words, at);
         i += 1;
     }
     at
@@ -86,7 +91,7 @@ fn main() {
     }
     let mut words = io::large_buffer();
     let k = gather(&mut words);
-    if k == words.len() {
+    if words.len() <= k {
         io::write_all(
             STDERR_FILENO,
             b"dis: the arguments are longer than 65535 bytes\n",
