@@ -1,14 +1,25 @@
-/* Prints the stack of each call: over empty inputs, and the most over the longest. */
+/* Prints the stack of each call: over empty inputs, the most over the longest, the most that it may be, and whether it is no more. */
 #include <stdio.h>
 #include <stdlib.h>
 
 #include "calls.h"
 #include "inputs.h"
+#include "limits.h"
 #include "painted.h"
+
+/* Of a call: whether both are within its limit. */
+static int print_line(const char *name, const size_t used[2])
+{
+    size_t limit = limit_of(name);
+    int is_held = used[0] <= limit && used[1] <= limit;
+    printf("%-22s %9zu  %9zu  %9zu  %s\n", name, used[0], used[1], limit, is_held ? "held" : "EXCEEDED");
+    return is_held;
+}
 
 int main(void)
 {
     size_t (*used)[2] = calloc(count_calls, sizeof *used);
+    int status = EXIT_SUCCESS;
 
     if (used == NULL)
         return EXIT_FAILURE;
@@ -19,9 +30,10 @@ int main(void)
             *most = now > *most ? now : *most;
         }
     }
-    printf("bytes of stack           empty    longest\n");
+    printf("bytes of stack           empty    longest      limit\n");
     for (size_t index = 0; index < count_calls; index++)
-        printf("%-22s %9zu  %9zu\n", calls[index].name, used[index][0], used[index][1]);
+        if (!print_line(calls[index].name, used[index]))
+            status = EXIT_FAILURE;
     free(used);
-    return EXIT_SUCCESS;
+    return status;
 }
