@@ -6,14 +6,16 @@ use crate::plain::listing::Lister;
 use crate::plain::sweep::Sweeper;
 use crate::plain::trace::{Ended, Tracer};
 use crate::plain::{maps, views};
+use crate::texts;
 use compare::random::Random;
+use pottagewing::MOST_BYTES;
 use waterbear::budget::{self, Ended as Original};
 use waterbear::disasm::probe::{self, Graph};
 
 /// An image on which the original takes more visits than this for each byte is left out.
 const VISITS: u64 = 16;
 /// The positions of an image at which a call is made that looks through all of it.
-const SAMPLED: usize = 64;
+pub const SAMPLED: usize = 64;
 
 pub struct Case {
     pub image: Vec<u8>,
@@ -26,6 +28,8 @@ pub struct Case {
     pub map: Vec<u64>,
     /// Without arrivals.
     pub listing: Vec<u8>,
+    /// What the listing program takes, of an image that is not too long for it.
+    pub input: Vec<u8>,
     pub graph: Graph,
     /// How often the original took a position up, repeats counted.
     pub visits: u64,
@@ -58,6 +62,10 @@ impl Case {
         let (mut mask, mut map) = (vec![], vec![]);
         views::mask(&image, &tracer.marks, &mut mask);
         maps::build(&image, &tracer.marks, &mut map);
+        let input = match image.len() > MOST_BYTES {
+            true => vec![],
+            false => texts::input(entries, &image).into_bytes(),
+        };
         let sampled = (0..SAMPLED).map(|turn| match turn % 4 {
             0 => random.below(image.len() as u64) as u32,
             _ => random.pick(&tracer.order),
@@ -71,6 +79,7 @@ impl Case {
             mask,
             map,
             listing: lister.text,
+            input,
             image,
             graph,
             visits,

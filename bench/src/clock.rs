@@ -11,6 +11,9 @@ const LONG: f64 = 8.0;
 
 /// Ours, the original and the plain side.
 pub const SIDES: usize = 3;
+pub const OURS: usize = 0;
+pub const ORIGINAL: usize = 1;
+pub const PLAIN: usize = 2;
 
 /// What each side does with a case; a side without an entry has no such call.
 pub type Sides<'a, C> = [Option<Box<dyn FnMut(&C) + 'a>>; SIDES];

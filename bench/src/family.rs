@@ -2,10 +2,10 @@
 //! times, and A0. There is one image of each length, so these figures are of a trained branch predictor.
 
 use crate::cases::Case;
-use crate::check;
+use crate::check::tracing as check;
 use crate::clock;
 use crate::report;
-use crate::rows;
+use crate::rows::tracing as rows;
 use compare::random::Random;
 
 /// How often the branch stands there: where the original ends, and where it would not.

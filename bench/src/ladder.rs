@@ -2,15 +2,17 @@
 //! time by the square of the length. There is one image of each length, so these figures are of a trained branch predictor.
 
 use crate::LENGTHS;
-use crate::check;
+use crate::check::tracing as check;
 use crate::clock;
 use crate::report;
-use crate::rows;
+use crate::rows::{Measured, Row, tracing as rows};
 
-pub fn measure() -> Result<(), &'static str> {
+/// The run of them; sweeps are printed only.
+pub fn measure() -> Result<Measured, &'static str> {
     report::head(
         "microseconds for branches that lead down one by one, taken first come, first served, and swept",
     );
+    let mut times = vec![];
     for (length, _) in LENGTHS {
         let image = image(length);
         check::running_alone(&image)?;
@@ -22,8 +24,10 @@ pub fn measure() -> Result<(), &'static str> {
         report::line(&name("run"), run);
         report::line(&name("sweep"), swept);
         report::against(&format!("{sweeps} sweeps, sweep/run"), swept, run);
+        times.push(run);
     }
-    Ok(())
+    let row = Row::RunOfBranches;
+    Ok(Measured { row, times })
 }
 
 /// A Jmpf to the highest branch, a Ret, and branches two bytes back.

@@ -1,14 +1,17 @@
-//! Logs over images like games: whole, by ours and by the plain side, and in blocks, by ours.
+//! Logs over images like games, whole and in blocks.
 
 mod check;
 mod walked;
 
 use crate::cases::Case;
-use crate::clock::{self, Sides};
+use crate::clock::{self, OURS, Sides};
 use crate::ours::{self, Record};
-use crate::plain::replay::Replayer;
+use crate::plain::blocks::Blocks;
+use crate::plain::replay::{Refused, Replayer, Totals};
 use crate::report;
+use crate::rows::{Measured, Row};
 use compare::answer::Answer;
+use compare::paper::replay::Traced;
 use compare::random::Random;
 use pottagewing::IMAGE_LIMIT;
 use std::hint::black_box;
@@ -16,42 +19,51 @@ use walked::Log;
 
 /// How many images of a length have a log.
 const IMAGES: usize = 4;
-/// The lines of a log that is taken whole, in blocks, and in blocks of one byte.
-const LINES: usize = 1_000_000;
+/// The lines of a log over an image of each length.
+const LINES: [usize; 3] = [62_500, 250_000, 1_000_000];
+/// The lines of a log in blocks, over any: each block looks at the whole image.
 const IN_BLOCKS: usize = 100_000;
-const IN_BYTES: usize = 1_000;
+/// The bytes of a block, where a log in blocks is held against the plain side.
+const BLOCK: usize = 4_096;
 /// The lines of a log, and the bytes of its blocks.
-const CUT: [(usize, usize); 3] = [(IN_BLOCKS, 4_096), (IN_BLOCKS, 64), (IN_BYTES, 1)];
+const CUT: [(usize, usize); 3] = [(IN_BLOCKS, BLOCK), (IN_BLOCKS, 64), (1_000, 1)];
 /// So many entries at most.
 const MANY: usize = 256;
-/// The most that ours may take, by the plain side.
-const LIMIT: f64 = 2.0;
 
 /// Of images of each length, the longest last.
-pub fn measure(lengths: &[&[Case]], random: &mut Random) -> Result<(), &'static str> {
+pub fn measure(lengths: &[&[Case]], random: &mut Random) -> Result<Vec<Measured>, &'static str> {
     let longest = lengths[lengths.len() - 1];
     let few = longest[0].entries.len();
-    report::head("nanoseconds for a line of a log of 1,000,000 lines, image of 64 KiB");
-    let mut most: f64 = 0.0;
-    for count in [few, MANY] {
-        let logs = logs(longest, LINES, count, random);
-        let totals = check::whole(&logs)?;
-        let times = clock::measure(&[&logs], whole())[0];
-        report::line(
-            &format!("replay, {count} entries"),
-            report::per(times, LINES),
-        );
-        println!(
-            "of 1,000 lines {:.1} interrupts, {:.1} free moves",
-            totals[0], totals[1]
-        );
-        most = most.max(report::quotient(times[0], times[2]));
-    }
+    println!();
+    let [of_few, of_many] = [few, MANY].map(|count| over(lengths, LINES, count, random));
+    checked(&of_few, few)?;
+    checked(&of_many, MANY)?;
+    let blocks = over(lengths, [IN_BLOCKS; 3], few, random);
+    blocks
+        .iter()
+        .try_for_each(|logs| check::in_blocks(logs, BLOCK))?;
+    report::head("nanoseconds for a line of a log over an image");
+    let table = vec![
+        measured(Row::Replay, &of_few, whole()),
+        measured(Row::ReplayOfMany, &of_many, whole()),
+        measured(Row::ReplayInBlocks, &blocks, cut(BLOCK)),
+    ];
     in_blocks(longest, few, random)?;
     empty(lengths, few, random);
-    println!();
-    report::aim("replay, ours/plain, at most 2", most, most <= LIMIT);
-    Ok(())
+    Ok(table)
+}
+
+/// Logs over images of each length, of so many lines.
+fn over(
+    lengths: &[&[Case]],
+    lines: [usize; 3],
+    entries: usize,
+    random: &mut Random,
+) -> Vec<Vec<Log>> {
+    let lengths = lengths.iter().zip(lines);
+    lengths
+        .map(|(cases, lines)| logs(cases, lines, entries, random))
+        .collect()
 }
 
 fn logs(cases: &[Case], lines: usize, entries: usize, random: &mut Random) -> Vec<Log> {
@@ -59,6 +71,30 @@ fn logs(cases: &[Case], lines: usize, entries: usize, random: &mut Random) -> Ve
     cases
         .map(|case| Log::new(case, lines, entries, random))
         .collect()
+}
+
+fn checked(lengths: &[Vec<Log>], entries: usize) -> Result<(), &'static str> {
+    for logs in lengths {
+        let [interrupts, free] = check::whole(logs)?;
+        println!(
+            "{} KiB: {} logs of {} lines, {entries} entries; of 1,000 lines {interrupts:.1} interrupts, {free:.1} free moves",
+            logs[0].length() / 1024,
+            logs.len(),
+            logs[0].lines()
+        );
+    }
+    Ok(())
+}
+
+/// Prints the times for a line.
+fn measured(row: Row, lengths: &[Vec<Log>], sides: Sides<Log>) -> Measured {
+    let groups: Vec<&[Log]> = lengths.iter().map(Vec::as_slice).collect();
+    let times = clock::measure(&groups, sides);
+    for (logs, times) in lengths.iter().zip(&times) {
+        let name = format!("{}, {} KiB", row.name(), logs[0].length() / 1024);
+        report::line(&name, report::per(*times, logs[0].lines()));
+    }
+    Measured { row, times }
 }
 
 /// The original replays no log.
@@ -79,11 +115,18 @@ fn whole() -> Sides<'static, Log> {
 
 /// In blocks of so many bytes.
 fn cut(size: usize) -> Sides<'static, Log> {
-    let mut counts = vec![0; IMAGE_LIMIT];
-    let ours = move |log: &Log| {
-        black_box(by_blocks(log, size, &mut counts));
-    };
-    [Some(Box::new(ours)), None, None]
+    let (mut counts, mut plain_counts) = (vec![0; IMAGE_LIMIT], vec![0; IMAGE_LIMIT]);
+    let mut blocks = Blocks::default();
+    [
+        Some(Box::new(move |log: &Log| {
+            black_box(by_blocks(log, size, &mut counts));
+        })),
+        None,
+        Some(Box::new(move |log: &Log| {
+            let told = plain_by_blocks(log, size, &mut blocks, &mut plain_counts);
+            black_box(told.is_ok());
+        })),
+    ]
 }
 
 /// The answer after closing.
@@ -94,6 +137,26 @@ fn by_blocks(log: &Log, size: usize, counts: &mut [u64]) -> Answer {
         black_box(ours::replay_block(&mut record, log.traced(), block, counts));
     }
     ours::replay_close(&record)
+}
+
+fn plain_by_blocks(
+    log: &Log,
+    size: usize,
+    blocks: &mut Blocks,
+    counts: &mut [u64],
+) -> Result<Totals, Refused> {
+    let Traced {
+        image,
+        marks,
+        entries,
+        ..
+    } = log.traced();
+    blocks.open(entries);
+    for block in log.text.chunks(size) {
+        let told = blocks.block(block, image, marks, counts);
+        black_box(told.is_ok());
+    }
+    blocks.close()
 }
 
 /// Against the same log whole: for a line, and what a block costs besides its bytes.
@@ -107,8 +170,8 @@ fn in_blocks(cases: &[Case], few: usize, random: &mut Random) -> Result<(), &'st
         let logs = logs(cases, lines, few, random);
         check::in_blocks(&logs, size)?;
         let groups = &[&logs[..]];
-        let one = clock::measure(groups, whole())[0][0].expect("ours is measured");
-        let cut = clock::measure(groups, cut(size))[0][0].expect("ours is measured");
+        let one = clock::measure(groups, whole())[0][OURS].expect("ours is measured");
+        let cut = clock::measure(groups, cut(size))[0][OURS].expect("ours is measured");
         let blocks = logs[0].text.len().div_ceil(size);
         let line = |time: f64| time * 1e9 / lines as f64;
         println!(

@@ -1,6 +1,8 @@
 //! Measures ours, the original and a plain hand-written Rust side on the same images: `bench [SEED]`. The exit
-//! status is 1 if their results differ; then nothing is measured.
+//! status is 1 if their results differ, and then no more is measured; or if an aim is missed by more than 10 %, after all is
+//! printed.
 
+mod aims;
 mod cases;
 mod check;
 mod clock;
@@ -16,10 +18,10 @@ mod programs;
 mod report;
 mod rows;
 mod terms;
+mod texts;
 
 use cases::Case;
 use compare::random::Random;
-use rows::{ROWS, Row};
 use std::process::ExitCode;
 
 /// The lengths of images, and how many there are of each.
@@ -42,7 +44,8 @@ fn main() -> ExitCode {
     };
     println!("seed {seed}");
     match all(&mut Random(seed)) {
-        Ok(()) => ExitCode::SUCCESS,
+        Ok(true) => ExitCode::SUCCESS,
+        Ok(false) => ExitCode::FAILURE,
         Err(call) => {
             println!("differ: {call}");
             ExitCode::FAILURE
@@ -50,7 +53,8 @@ fn main() -> ExitCode {
     }
 }
 
-fn all(random: &mut Random) -> Result<(), &'static str> {
+/// Whether the aims are reached, or the call that differs.
+fn all(random: &mut Random) -> Result<bool, &'static str> {
     let (mut lengths, mut late) = (vec![], vec![]);
     for (length, count) in LENGTHS {
         let (cases, left_out) = cases::games(count, length, random);
@@ -61,19 +65,17 @@ fn all(random: &mut Random) -> Result<(), &'static str> {
     for (length, count) in LENGTHS {
         let cases = cases::late(count, length, random);
         report::late(&cases);
-        cases.iter().try_for_each(check::mapping)?;
+        cases.iter().try_for_each(check::mapped::mapping)?;
         late.push(cases);
     }
     let whole: Vec<&[Case]> = lengths.iter().map(Vec::as_slice).collect();
     let late: Vec<&[Case]> = late.iter().map(Vec::as_slice).collect();
-    let table = ROWS.map(|(row, _)| match row {
-        Row::MapFirstData => rows::measure(row, &late),
-        _ => rows::measure(row, &whole),
-    });
+    let mut table = rows::measure(&whole, &late);
     report::table(&table, &whole);
-    report::aims(&table);
     family::measure(random)?;
-    ladder::measure()?;
-    logs::measure(&whole, random)?;
-    terms::measure(random)
+    table.push(ladder::measure()?);
+    table.extend(logs::measure(&whole, random)?);
+    table.extend(terms::measure(random)?);
+    report::curves(&table, &whole);
+    Ok(aims::judge(&table))
 }

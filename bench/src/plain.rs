@@ -1,14 +1,21 @@
-//! The plain side: a tracer, an engine that sweeps, views, a map, a listing writer, a reader of listings, a
-//! replay of logs and a term report, written by hand as one would without proofs. It trusts its own marks and looks for no damage.
+//! The plain side: a tracer, an engine that sweeps, steps, views, a map, a listing writer, the listing program, a reader of
+//! listings, a replay of logs, whole and in blocks, and a term report, written by hand as one would without proofs. It trusts
+//! its own marks; where it is asked of one position, and for each block of a log, it looks for damage as document 01 has it.
 
+pub mod asked;
 pub mod back;
+pub mod blocks;
+pub mod damage;
 pub mod decode;
 pub mod digits;
 pub mod forms;
+pub mod input;
+pub mod list;
 pub mod listing;
 pub mod maps;
 pub mod replay;
 pub mod report;
+pub mod steps;
 pub mod sweep;
 pub mod trace;
 pub mod views;

@@ -3,6 +3,7 @@
 
 use crate::plain::report::Reporter;
 use crate::report;
+use crate::rows::{Measured, Row};
 use std::env;
 use std::ffi::{c_int, c_long};
 use std::fs::{self, File};
@@ -23,11 +24,11 @@ pub fn plain() -> io::Result<()> {
 }
 
 /// Both by turns, on a term of so many images. Nothing is measured where ours was not made, which `PW_REPORT` names.
-pub fn measure(text: &[u8], images: usize) -> Result<(), &'static str> {
+pub fn measure(text: &[u8], images: usize) -> Result<Option<Measured>, &'static str> {
     let ours = env::var_os("PW_REPORT").unwrap_or_default();
     if !Path::new(&ours).is_file() {
         println!("report, the program: not measured, since PW_REPORT names none");
-        return Ok(());
+        return Ok(None);
     }
     let plain = env::current_exe().map_err(|_| "report, the program")?;
     let term = env::temp_dir().join(format!("pottagewing-term-{}", std::process::id()));
@@ -47,13 +48,10 @@ pub fn measure(text: &[u8], images: usize) -> Result<(), &'static str> {
     let _ = fs::remove_file(&term);
     let [ours, plain] = times.map(median);
     let times = [Some(ours), None, Some(plain)];
-    report::line("report, the program", report::per(times, images));
-    report::aim(
-        "report, the program, ours/plain, at most 2",
-        ours / plain,
-        ours <= plain * 2.0,
-    );
-    Ok(())
+    let row = Row::ReportProgram;
+    report::line(row.name(), report::per(times, images));
+    let times = vec![times];
+    Ok(Some(Measured { row, times }))
 }
 
 /// The processor's time of one run, and what it printed.

@@ -1,7 +1,8 @@
 //! Holds the two sides against each other, before a log is measured.
 
-use super::{Log, by_blocks};
+use super::{Log, by_blocks, plain_by_blocks};
 use crate::ours;
+use crate::plain::blocks::Blocks;
 use crate::plain::replay::{Refused, Replayer, Totals};
 use compare::answer::Answer;
 use pottagewing::IMAGE_LIMIT;
@@ -24,23 +25,38 @@ pub fn whole(logs: &[Log]) -> Result<[f64; 2], &'static str> {
         totals[0] += interrupts / lines * 1e3 / logs.len() as f64;
         totals[1] += free / lines * 1e3 / logs.len() as f64;
         for (turn, byte) in CHANGES.iter().enumerate() {
-            let at = (turn + 1) * 0x9E37_79B1 % log.text.len();
-            both(&log.changed(at, *byte))?;
+            both(&log.changed(place(log, turn), *byte))?;
         }
     }
     Ok(totals)
 }
 
-/// After closing, the same as whole.
+/// After closing, the same as whole; and spoiled, the same as the plain side in blocks.
 pub fn in_blocks(logs: &[Log], size: usize) -> Result<(), &'static str> {
     for log in logs {
-        let mut counts = vec![0; IMAGE_LIMIT];
-        let answer = by_blocks(log, size, &mut counts);
-        if (answer, counts) != both(log)? {
+        if both_in_blocks(log, size)? != both(log)? {
             return Err("a log in blocks");
+        }
+        for (turn, byte) in CHANGES.iter().enumerate() {
+            both_in_blocks(&log.changed(place(log, turn), *byte), size)?;
         }
     }
     Ok(())
+}
+
+fn both_in_blocks(log: &Log, size: usize) -> Result<Outcome, &'static str> {
+    let (mut counts, mut plain) = (vec![0; IMAGE_LIMIT], vec![0; IMAGE_LIMIT]);
+    let answer = by_blocks(log, size, &mut counts);
+    let told = plain_by_blocks(log, size, &mut Blocks::default(), &mut plain);
+    match (answer, &counts) == (plain_answer(told), &plain) {
+        true => Ok((answer, counts)),
+        false => Err("a log in blocks"),
+    }
+}
+
+/// Where a log is spoiled.
+fn place(log: &Log, turn: usize) -> usize {
+    (turn + 1) * 0x9E37_79B1 % log.text.len()
 }
 
 fn both(log: &Log) -> Result<Outcome, &'static str> {
@@ -54,15 +70,16 @@ fn both(log: &Log) -> Result<Outcome, &'static str> {
 }
 
 fn plain_answer(told: Result<Totals, Refused>) -> Answer {
-    let (number, line) = match told {
+    let (number, value) = match told {
         Ok(totals) => {
             let values = [totals.lines, totals.interrupts, totals.free];
             return Answer::new(Answer::DONE, &values.map(|value| value as i64));
         }
+        Err(Refused::Damaged(at)) => (Answer::DAMAGED, at as u64),
         Err(Refused::Malformed(line)) => (Answer::MALFORMED_LOG, line),
         Err(Refused::Untraced(line)) => (Answer::NOT_TRACED, line),
         Err(Refused::Forbidden(line)) => (Answer::FORBIDDEN_MOVE, line),
         Err(Refused::Full(line)) => (Answer::COUNT_FULL, line),
     };
-    Answer::new(number, &[line as i64])
+    Answer::new(number, &[value as i64])
 }

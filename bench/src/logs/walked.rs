@@ -2,7 +2,7 @@
 
 use crate::cases::Case;
 use crate::plain::forms::{FORMS, Flow};
-use crate::plain::replay::{Refused, Replayer, Totals};
+use crate::plain::replay::{LINE, Refused, Replayer, Totals};
 use crate::plain::trace::{UNFOLLOWED, is_traced, named};
 use crate::rows::MODE;
 use compare::paper::replay::Traced;
@@ -35,10 +35,19 @@ impl Log {
             image: case.image.clone(),
             marks: case.marks.clone(),
             entries,
-            text: Vec::with_capacity(lines * 7),
+            text: Vec::with_capacity(lines * LINE),
         };
         log.walk(lines, random);
         log
+    }
+
+    /// Of the image.
+    pub fn length(&self) -> usize {
+        self.image.len()
+    }
+
+    pub fn lines(&self) -> usize {
+        self.text.len() / LINE
     }
 
     pub fn traced(&self) -> Traced<'_> {

@@ -220,6 +220,13 @@ impl Rest<'_> {
             Shape::A16 => self.address(a),
             Shape::R16 => self.address((next - 1 + a) & 0xFFFF),
             Shape::R8 => self.address(next + a),
+            _ => self.branch(shape, [a, b, c], next),
+        }
+    }
+
+    /// The operands of a conditional branch.
+    fn branch(&mut self, shape: Shape, [a, b, c]: [i32; 3], next: i32) -> Option<()> {
+        match shape {
             Shape::D9B3R8 => {
                 self.cell(a)?;
                 self.bit(b)?;
@@ -227,10 +234,6 @@ impl Rest<'_> {
             }
             Shape::D9R8 => {
                 self.cell(a)?;
-                self.address(next + b)
-            }
-            Shape::RiR8 => {
-                self.register(a)?;
                 self.address(next + b)
             }
             Shape::ImmR8 => {
@@ -241,6 +244,10 @@ impl Rest<'_> {
                 self.register(a)?;
                 self.immediate(b)?;
                 self.address(next + c)
+            }
+            _ => {
+                self.register(a)?;
+                self.address(next + b)
             }
         }
     }

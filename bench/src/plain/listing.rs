@@ -5,7 +5,6 @@ use super::forms::{FORMS, Flow, MNEMONICS, Shape};
 use super::trace::{UNFOLLOWED, is_traced, named};
 use super::views;
 
-const RUN: usize = pottagewing::RUN_LENGTH;
 const DIGITS: &[u8; 16] = b"0123456789ABCDEF";
 
 /// A writer with the memory that it uses again from one listing to the next.
@@ -78,6 +77,15 @@ impl Lister {
             }
             self.text.push(b'\n');
         }
+        arrived = self.arrived(at, arrived);
+        if let Ok(instruction) = decode(&image[at..]) {
+            self.instruction(image, at, instruction);
+        }
+        arrived
+    }
+
+    /// The line of arrivals, if there are any: the first of them that may be another position's.
+    fn arrived(&mut self, at: usize, mut arrived: usize) -> usize {
         while self
             .arrivals
             .get(arrived)
@@ -99,9 +107,6 @@ impl Lister {
                 arrived += 1;
             }
             self.text.push(b'\n');
-        }
-        if let Ok(instruction) = decode(&image[at..]) {
-            self.instruction(image, at, instruction);
         }
         arrived
     }
@@ -141,35 +146,13 @@ impl Lister {
                 bit(text, b);
             }
             Shape::A12 | Shape::A16 | Shape::R16 | Shape::R8 => address(text, target),
-            Shape::D9B3R8 => {
-                cell(text, a);
-                bit(text, b);
-                address(text, target);
-            }
-            Shape::D9R8 => {
-                cell(text, a);
-                address(text, target);
-            }
-            Shape::RiR8 => {
-                register(text, a);
-                address(text, target);
-            }
-            Shape::ImmR8 => {
-                immediate(text, a);
-                address(text, target);
-            }
-            Shape::RiImmR8 => {
-                register(text, a);
-                immediate(text, b);
-                address(text, target);
-            }
+            shape => branch(text, shape, [a, b], target),
         }
     }
 
     /// The run of data at a position: its length.
     fn data(&mut self, image: &[u8], at: usize) -> usize {
-        let mask = self.mask[at..].iter().take(RUN);
-        let length = mask.take_while(|masked| **masked == 0).count();
+        let length = views::data_run(image, &self.mask, at);
         let run = &image[at..at + length];
         if run.iter().any(|byte| *byte != 0) {
             self.start(b'D', at);
@@ -187,6 +170,24 @@ impl Lister {
         self.text.push(b'\t');
         hex4(&mut self.text, at as u32);
     }
+}
+
+/// The operands of a conditional branch.
+fn branch(text: &mut Vec<u8>, shape: Shape, [a, b]: [i32; 2], target: i64) {
+    match shape {
+        Shape::D9B3R8 => {
+            cell(text, a);
+            bit(text, b);
+        }
+        Shape::D9R8 => cell(text, a),
+        Shape::ImmR8 => immediate(text, a),
+        Shape::RiImmR8 => {
+            register(text, a);
+            immediate(text, b);
+        }
+        _ => register(text, a),
+    }
+    address(text, target);
 }
 
 fn digit(text: &mut Vec<u8>, number: u32) {

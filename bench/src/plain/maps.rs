@@ -9,10 +9,15 @@ pub fn build(image: &[u8], marks: &[u8], words: &mut Vec<u64>) {
     words.resize(image.len().div_ceil(64), 0);
     for (at, mark) in marks.iter().enumerate() {
         if is_traced(*mark) {
-            for covered in at..at + FORMS[image[at] as usize].size as usize {
-                words[covered / 64] |= 1 << (covered % 64);
-            }
+            set(words, at, FORMS[image[at] as usize].size as usize);
         }
+    }
+}
+
+/// So many bits from a position on.
+pub fn set(words: &mut [u64], at: usize, count: usize) {
+    for covered in at..at + count {
+        words[covered / 64] |= 1 << (covered % 64);
     }
 }
 

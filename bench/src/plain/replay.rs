@@ -1,9 +1,8 @@
 //! A log replayed over marks: one pass, and a table that says of each position whether it is an entry.
 
-use super::forms::{FORMS, Flow};
-use super::trace::{UNFOLLOWED, is_traced, named};
+use super::trace::{UNFOLLOWED, is_traced, leads};
 
-const LINE: usize = 7;
+pub const LINE: usize = 7;
 const RET: u8 = 0xA0;
 const RETI: u8 = 0xB0;
 
@@ -14,13 +13,21 @@ pub struct Totals {
     pub free: u64,
 }
 
-/// The line's number.
+/// The line's number, and of damage the position.
 #[derive(Clone, Copy, PartialEq, Debug)]
 pub enum Refused {
+    Damaged(usize),
     Malformed(u64),
     Untraced(u64),
     Forbidden(u64),
     Full(u64),
+}
+
+/// What is known after some lines.
+#[derive(Default)]
+pub struct State {
+    pub totals: Totals,
+    last: Option<usize>,
 }
 
 pub struct Replayer {
@@ -45,53 +52,57 @@ impl Replayer {
         entries: &[u32],
         counts: &mut [u64],
     ) -> Result<Totals, Refused> {
+        self.enter(entries);
+        let mut state = State::default();
+        let done = self.lines(text, image, marks, counts, &mut state);
+        if done.is_err() {
+            let taken = text.chunks_exact(LINE).take(state.totals.lines as usize);
+            taken
+                .filter_map(position)
+                .for_each(|at| counts[at as usize] -= 1);
+        }
+        done.map(|()| state.totals)
+    }
+
+    pub fn enter(&mut self, entries: &[u32]) {
         self.is_entry.fill(false);
         for entry in entries {
             if let Some(is_entry) = self.is_entry.get_mut(*entry as usize) {
                 *is_entry = true;
             }
         }
-        let mut totals = Totals::default();
-        let done = self.lines(text, image, marks, counts, &mut totals);
-        if done.is_err() {
-            let taken = text.chunks_exact(LINE).take(totals.lines as usize);
-            taken
-                .filter_map(position)
-                .for_each(|at| counts[at as usize] -= 1);
-        }
-        done.map(|()| totals)
     }
 
-    fn lines(
+    /// Adds lines to the counts up to a refused one.
+    pub fn lines(
         &self,
         text: &[u8],
         image: &[u8],
         marks: &[u8],
         counts: &mut [u64],
-        totals: &mut Totals,
+        state: &mut State,
     ) -> Result<(), Refused> {
-        let mut last = None;
         for line in text.chunks(LINE) {
-            let number = totals.lines + 1;
+            let number = state.totals.lines + 1;
             let at = position(line).ok_or(Refused::Malformed(number))?;
             if !marks.get(at as usize).is_some_and(|mark| is_traced(*mark)) {
                 return Err(Refused::Untraced(number));
             }
-            if let Some(last) = last
-                && !is_target(image, marks, last, at)
+            if let Some(last) = state.last
+                && !leads(image, marks, last, at as usize)
             {
                 if self.is_entry[at as usize] {
-                    totals.interrupts += 1;
+                    state.totals.interrupts += 1;
                 } else if is_free_after(image, marks, last) {
-                    totals.free += 1;
+                    state.totals.free += 1;
                 } else {
                     return Err(Refused::Forbidden(number));
                 }
             }
             let count = &mut counts[at as usize];
             *count = count.checked_add(1).ok_or(Refused::Full(number))?;
-            totals.lines = number;
-            last = Some(at as usize);
+            state.totals.lines = number;
+            state.last = Some(at as usize);
         }
         Ok(())
     }
@@ -111,16 +122,6 @@ fn digit(byte: u8) -> Option<u16> {
         b'A'..=b'F' => Some(u16::from(byte - b'A') + 10),
         _ => None,
     }
-}
-
-fn is_target(image: &[u8], marks: &[u8], last: usize, at: u16) -> bool {
-    if marks[last] == UNFOLLOWED {
-        return false;
-    }
-    let form = FORMS[image[last] as usize];
-    let goes_on = matches!(form.flow, Flow::Next | Flow::Branch);
-    goes_on && last + form.size as usize == at as usize
-        || named(image, last, form) == Some(i64::from(at))
 }
 
 fn is_free_after(image: &[u8], marks: &[u8], last: usize) -> bool {

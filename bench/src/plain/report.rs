@@ -1,9 +1,9 @@
 //! The term report: one pass over the text, one image at a time.
 
-use super::digits::DIGITS;
 use super::forms::FORMS;
+use super::input::Input;
 use super::trace::{Ended, Tracer, is_exempt, is_traced, named};
-use pottagewing::{Answer, LONGEST_NAME, MOST_BYTES, MOST_ENTRIES, MOST_IN_LINE};
+use pottagewing::{Answer, LONGEST_NAME};
 use std::io::Write;
 
 const CUT_OFF: u32 = Answer::CUT_OFF;
@@ -24,8 +24,7 @@ enum Next {
 pub struct Reporter {
     pub printed: Vec<u8>,
     name: Vec<u8>,
-    entries: Vec<u32>,
-    image: Vec<u8>,
+    input: Input,
     tracer: Tracer,
     /// How many instructions have a byte.
     over: Vec<u8>,
@@ -49,8 +48,9 @@ impl Reporter {
                     Next::Name
                 }
                 (Next::Name, _) => self.begin(line),
-                (Next::Entries, _) if self.read_entries(line) => Next::Bytes,
-                (Next::Bytes, _) if self.read_bytes(line) => Next::Bytes,
+                (Next::Entries, b"-") => Next::Bytes,
+                (Next::Entries, _) if self.input.read_entries(line) => Next::Bytes,
+                (Next::Bytes, _) if self.input.read_bytes(line) => Next::Bytes,
                 _ => Next::Skipped,
             };
         }
@@ -66,8 +66,7 @@ impl Reporter {
 
     fn begin(&mut self, line: &[u8]) -> Next {
         self.name.clear();
-        self.entries.clear();
-        self.image.clear();
+        self.input.clear();
         match line.strip_prefix(b"N\t") {
             Some(name)
                 if (1..=LONGEST_NAME).contains(&name.len())
@@ -83,48 +82,11 @@ impl Reporter {
         }
     }
 
-    fn read_entries(&mut self, line: &[u8]) -> bool {
-        if line == b"-" {
-            return true;
-        }
-        for field in line.split(|byte| *byte == b'\t') {
-            let &[a, b, c, d] = field else {
-                return false;
-            };
-            let digits = [a, b, c, d].map(|digit| DIGITS[digit as usize]);
-            if digits.contains(&255) || self.entries.len() == MOST_ENTRIES {
-                return false;
-            }
-            let entry = digits
-                .iter()
-                .fold(0, |sum, digit| sum << 4 | u32::from(*digit));
-            self.entries.push(entry);
-        }
-        true
-    }
-
-    fn read_bytes(&mut self, line: &[u8]) -> bool {
-        let count = line.len() / 2;
-        if line.len() % 2 == 1 || count > MOST_IN_LINE || self.image.len() + count > MOST_BYTES {
-            return false;
-        }
-        for pair in line.chunks_exact(2) {
-            let (high, low) = (DIGITS[pair[0] as usize], DIGITS[pair[1] as usize]);
-            if high | low == 255 {
-                return false;
-            }
-            self.image.push(high << 4 | low);
-        }
-        true
-    }
-
     fn end(&mut self, next: Next) {
+        let Input { entries, image } = &self.input;
         match next {
             Next::Skipped => self.refuse(MALFORMED),
-            _ => match self
-                .tracer
-                .run(&self.image, &self.entries, self.image.len())
-            {
+            _ => match self.tracer.run(image, entries, image.len()) {
                 Ended::CutOff(..) => self.refuse(CUT_OFF),
                 _ => self.accept(),
             },
@@ -155,7 +117,8 @@ impl Reporter {
     }
 
     fn figures(&mut self) -> [u64; 6] {
-        let (image, marks, length) = (&self.image, &self.tracer.marks, self.image.len());
+        let (image, marks) = (&self.input.image, &self.tracer.marks);
+        let length = image.len();
         self.over.clear();
         self.over.resize(length, 0);
         self.is_named.clear();

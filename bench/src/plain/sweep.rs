@@ -1,7 +1,7 @@
 //! The engine that sweeps. It keeps up between which positions something waits, and leaves out what lies outside.
 
 use super::forms::{FORMS, Flow};
-use super::trace::{TRACED, UNFOLLOWED, UNTOUCHED, WAITING, is_exempt, named};
+use super::trace::{TRACED, UNFOLLOWED, UNTOUCHED, WAITING, is_exempt, named, note};
 
 #[derive(Default)]
 pub struct Sweeper {
@@ -20,7 +20,7 @@ impl Sweeper {
         self.steps = 0;
         (self.from, self.to) = (image.len(), 0);
         for entry in entries {
-            if self.is_noted(i64::from(*entry)) {
+            if note(&mut self.marks, i64::from(*entry)) {
                 self.wait(*entry as usize);
             }
         }
@@ -65,7 +65,7 @@ impl Sweeper {
         let target = named(image, at, form);
         let onward = matches!(form.flow, Flow::Next | Flow::Branch).then_some(next as i64);
         for position in [target, onward].into_iter().flatten() {
-            if self.is_noted(position) {
+            if note(&mut self.marks, position) {
                 let position = position as usize;
                 if position > at {
                     end = end.max(position + 1);
@@ -75,17 +75,6 @@ impl Sweeper {
             }
         }
         end
-    }
-
-    /// Whether a position becomes waiting.
-    fn is_noted(&mut self, position: i64) -> bool {
-        match self.marks.get_mut(position as usize) {
-            Some(mark) if *mark == UNTOUCHED => {
-                *mark = WAITING;
-                true
-            }
-            _ => false,
-        }
     }
 
     /// Lets the next sweep meet a position.

@@ -8,6 +8,9 @@ pub const WAITING: u8 = Mark::Waiting as u8;
 pub const TRACED: u8 = Mark::Traced as u8;
 /// A traced Jmpf that is not followed.
 pub const UNFOLLOWED: u8 = Mark::Flash as u8;
+pub const PINNED: u8 = Mark::Pinned as u8;
+
+pub const JMPF: u8 = 0x21;
 
 #[derive(Clone, Copy, PartialEq, Debug)]
 pub enum Ended {
@@ -65,26 +68,44 @@ impl Tracer {
     }
 
     fn note(&mut self, position: i64) {
-        if let Some(mark) = self.marks.get_mut(position as usize)
-            && *mark == UNTOUCHED
-        {
-            *mark = WAITING;
+        if note(&mut self.marks, position) {
             self.order.push(position as u32);
         }
     }
 }
 
+/// Whether a position becomes waiting.
+pub fn note(marks: &mut [u8], position: i64) -> bool {
+    match marks.get_mut(position as usize) {
+        Some(mark) if *mark == UNTOUCHED => {
+            *mark = WAITING;
+            true
+        }
+        _ => false,
+    }
+}
+
 pub fn is_traced(mark: u8) -> bool {
-    mark >= TRACED
+    matches!(mark, TRACED | UNFOLLOWED)
 }
 
 /// Whether a Jmpf stands there after B8 0D, the first of which is traced.
 pub fn is_exempt(image: &[u8], marks: &[u8], at: usize) -> bool {
-    image[at] == 0x21
+    image[at] == JMPF
         && at >= 2
         && image[at - 2] == 0xB8
         && image[at - 1] == 0x0D
         && is_traced(marks[at - 2])
+}
+
+/// Whether control came from a traced position to another.
+pub fn leads(image: &[u8], marks: &[u8], from: usize, to: usize) -> bool {
+    if marks[from] == UNFOLLOWED {
+        return false;
+    }
+    let form = FORMS[image[from] as usize];
+    let goes_on = matches!(form.flow, Flow::Next | Flow::Branch);
+    goes_on && from + form.size as usize == to || named(image, from, form) == Some(to as i64)
 }
 
 /// The target of a whole jump, branch or call.

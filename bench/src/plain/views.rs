@@ -3,6 +3,8 @@
 use super::forms::FORMS;
 use super::trace::{is_exempt, is_traced, named};
 
+const RUN: usize = pottagewing::RUN_LENGTH;
+
 /// 1 on each byte of a traced instruction.
 pub fn mask(image: &[u8], marks: &[u8], mask: &mut Vec<u8>) {
     mask.clear();
@@ -45,4 +47,11 @@ pub fn overlaps(image: &[u8], marks: &[u8], at: usize, found: &mut Vec<u32>) {
             found.push(after as u32);
         }
     }
+}
+
+/// How many bytes of data stand from a position on, up to 16.
+pub fn data_run(image: &[u8], mask: &[u8], at: usize) -> usize {
+    let most = image.len().saturating_sub(at).min(RUN);
+    let mask = mask.get(at..).unwrap_or(&[]).iter().take(most);
+    mask.take_while(|masked| **masked == 0).count()
 }
