@@ -4,3 +4,7 @@ mod Takes
 mod Asking
 pub mod Shows
 pub mod AskedEntries
+pub mod ShownApart
+pub mod ClaimsOutputOnly
+pub mod ClaimsOutputFits
+pub mod Pieces

@@ -12,21 +12,19 @@ use Rattle.instruction.specs.Answer.{Answer, accepted, refused, judge}
 use Rattle.instruction.proofs.Judging.{accepts}
 use Rattle.instruction_laws.specs.Missing.{OneOrTwo, missingIn}
 use Rattle.instruction.specs.declared.mode.Mode.the-variants.{Unwrapped}
-use Rattle.trace.specs.Run.{runAnswer, runMarks}
-use Rattle.views.specs.View.{viewRefusals}
 use Rattle.list_text.specs.ClaimsInput.{Valid}
 use Rattle.list_text.specs.Text.{countsOf, entriesOf, imageOf, inputRefusals}
 use Rattle.list_text.proofs.Longest.{most-held}
-use Rattle.listing.specs.Walk.{listingOf}
 use Rattle.listing.specs.declared.tabbed.Arrivals.the-variants.{Declined}
 use Rattle.listing_laws.proofs.ClaimsRoomBound.{listing-bound}
 use Rattle.list_text.specs.ClaimsOutput.{OutputFits}
-use Rattle.list_text.specs.Output.{lentRoom, refusalLine, tracedWith, tracedText, textListed, outputText, outputOf}
+use Rattle.list_text.specs.Output.{refusalLine, tracedText, textListed, outputText, outputOf}
 use Rattle.list_text.specs.Decimal.{width}
 use Rattle.list_text.proofs.Decimals.{width-one}
 use Rattle.list_text.proofs.RefusalPutting.{number-length, value-length}
 use Rattle.list_text.proofs.ClaimsOutputOnly.{only-two, listed-missing}
 use Rattle.list_text.proofs.ImageBytes.{image-bytes}
+use Rattle.list_text.proofs.Images.{marks, accepted-listing}
 use Rattle.list_text.proofs.Parts.{or-accepted}
 
 -- 13 alone, or 5 with 1 or 2
@@ -51,12 +49,8 @@ shown-fits (refused n vs) f g = omega (arith, g n vs refl)
 
 -- what is accepted is a listing
 listed : (image entries out : List ℕ) → length image ≤ 16384 → Bytes image → tracedText image entries ≡ accepted out → length out ≤ 983040
-unfolding tracedWith
 listed image entries out h B e =
-    let m = runMarks Unwrapped image (lentRoom image) (lentRoom image) entries [] (length image) in
-    let a = or-accepted (runAnswer Unwrapped image (lentRoom image) (lentRoom image) entries [] (length image)) (judge (viewRefusals image m) (listingOf Unwrapped image m Declined)) out e in
-    let f : listingOf Unwrapped image m Declined ≡ out = accepts (viewRefusals image m) (listingOf Unwrapped image m Declined) out (a .1) in
-    omega (arith, ap length f, listing-bound Unwrapped image m B)
+    omega (arith, ap length (accepted-listing Unwrapped image entries [] Declined out e), listing-bound Unwrapped image (marks Unwrapped image entries []) B)
 
 pub output-fits : OutputFits
 unfolding outputOf textListed

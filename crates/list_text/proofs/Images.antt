@@ -8,6 +8,7 @@ use lib.IntN.{ℤ}
 use lib.ListN.{length, length-replicate}
 use Rattle.instruction.specs.Answer.{Answer, accepted, refused, judge}
 use Rattle.instruction.specs.declared.mode.Mode.{Mode}
+use Rattle.instruction.proofs.Judging.{accepts}
 use Rattle.trace.specs.Run.{RunResult, andThen, runAnswer, runMarks}
 use Rattle.views.specs.View.{Sound, viewRefusals, viewAnswer, viewRoom, roomAnswer, roomAfter}
 use Rattle.views_laws.specs.ClaimsSound.{Undamaged}
@@ -16,6 +17,7 @@ use Rattle.trace_laws.proofs.Finished.{marks-are}
 use Rattle.listing.specs.Walk.{listingOf}
 use Rattle.listing.specs.declared.tabbed.Arrivals.{Arrivals}
 use Rattle.list_text.specs.Output.{lentRoom, tracedWith}
+use Rattle.list_text.proofs.Parts.{or-accepted}
 use Rattle.list_text.proofs.Sounding.{sound, judged-on, answer-on, room-on}
 
 -- the same line printed
@@ -53,6 +55,11 @@ module _ (mode : Mode) (image entries pins : List ℕ) where
     refused-run b o e f n vs g =
         let h : answer ≡ refused n vs = sym (g ∙ ap₂ (λ (x y : List ℕ). runAnswer mode image x y entries pins (length image)) e f) in
         ap (λ (r : Answer RunResult). andThen r (judge (viewRefusals image marks) (listing marks))) h
+
+    -- what is accepted is the listing of its marks
+    pub accepted-listing : (out : List ℕ) → traced ≡ accepted out → listing marks ≡ out
+    unfolding tracedWith
+    accepted-listing out e = accepts (viewRefusals image marks) (listing marks) out (or-accepted answer (judge (viewRefusals image marks) (listing marks)) out e .1)
 
     -- these marks are listed, and r and t are what that leaves
     abbrev pub Listed : List ℕ → Answer ℕ → List ℕ → List ℕ → Type 0

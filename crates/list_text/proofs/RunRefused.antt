@@ -28,7 +28,7 @@ use Rattle.trace_laws.proofs.Finished.{marks-are}
 use Rattle.listing.specs.Walk.{listingOf}
 use Rattle.listing.specs.declared.tabbed.Arrivals.{Arrivals}
 use Rattle.list_text.specs.Output.{lentRoom, tracedWith}
-use Rattle.list_text.proofs.Images.{answer, marks, marks-sound}
+use Rattle.list_text.proofs.Images.{answer, marks, marks-sound, refused-run}
 use Rattle.list_text.proofs.Parts.{or-refused}
 use Rattle.list_text.proofs.Sounding.{judged-on}
 
@@ -50,11 +50,14 @@ module _ (mode : Mode) (image entries pins : List ℕ) where
   lent-length = length-replicate (length image) 0
 
   -- an image that is too long
-  pub run-one : 65536 < length image → answer mode image entries pins ≡ refused 1 (pos (length image) ∷ [])
+  run-one : 65536 < length image → answer mode image entries pins ≡ refused 1 (pos (length image) ∷ [])
   unfolding runAnswer
   run-one h =
       let out = outcomeOf mode image (lentRoom image) entries pins (length image) in
       ap (λ (q : Answer (Unit {0})). andThen q (ranAnswer image out)) (long-image image (lentRoom image) _ tt h)
+
+  pub traced-one : (arrivals : Arrivals) → 65536 < length image → tracedWith mode image entries pins arrivals ≡ refused 1 (pos (length image) ∷ [])
+  traced-one arrivals h = refused-run mode image entries pins arrivals (lentRoom image) (lentRoom image) refl refl 1 _ (sym (run-one h))
 
   module _ (small : length image ≤ 65536) where
     judged : runJudged image (lentRoom image) (lentRoom image) ≡ accepted tt

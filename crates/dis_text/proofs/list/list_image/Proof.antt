@@ -1,6 +1,6 @@
 -- `list::list_image` meets its contract.
 -- Assumes nothing.
-use mathlib.Core.Path.{_≡_, refl, sym, ap, _∙_}
+use mathlib.Core.Path.{_≡_, sym, ap, _∙_}
 use mathlib.Core.List.{List, _++_}
 use Prim.Native.Nat.{ℕ, _≤_}
 use native.Mathlib.Omega.{arith}
@@ -16,7 +16,7 @@ use Rattle.views.proofs.Fronts.{take-replicate}
 use Rattle.listing.specs.Walk.{listingOf}
 use Rattle.list_text.specs.Output.{lentRoom, tracedWith}
 use Rattle.list_text.proofs.Images.{refused-run, listed-run}
-use Rattle.list_text.proofs.RunRefused.{run-one}
+use Rattle.list_text.proofs.RunRefused.{traced-one}
 use Rattle.dis_text.specs.Output.{shownOf}
 use Rattle.dis_text.specs.Told.{listingIn}
 use Rattle.dis_text.specs.declared.shown.Shown.{Shown}
@@ -41,9 +41,8 @@ returns c =
     let t = w .before .before in
     let s = t .before .before .before .before .before in
     let a = s .args in
-    let e = run-one (a .mode) (a .image .now) (a .entries .now) (a .pins .now) (t .if1 .taken) in
-    let f = refused-run (a .mode) (a .image .now) (a .entries .now) (a .pins .now) (a .arrivals) (lentRoom (a .image .now)) (lentRoom (a .image .now)) refl refl 1 _ (sym e) in
-    shown-as (traced s) _ f (a .room .now) _ _ (w .tell .ensures)
+    let e = traced-one (a .mode) (a .image .now) (a .entries .now) (a .pins .now) (a .arrivals) (t .if1 .taken) in
+    shown-as (traced s) _ e (a .room .now) _ _ (w .tell .ensures)
 
 small : (s : tie.After-positions) → length (image s) ≤ 65536
 small s = s .before .before .if1 .left
