@@ -13,7 +13,7 @@ use Rattle.instruction.specs.Answer.{Answer, accepted, refused}
 use Rattle.reach.proofs.Cases.{lt-or-le}
 use Rattle.trace.specs.Run.{RunResult}
 use Rattle.text.specs.Cut.{cut}
-use Rattle.dis_text.proofs.Pieces.{pieces-few}
+use Rattle.text.proofs.Pieces.{pieces-few}
 use Rattle.list_text.proofs.Images.{answer}
 use Rattle.list_text.proofs.RunRefused.{traced-one, run-five, run-refused}
 use Rattle.dis_text.specs.Asked.{Asked, begun, mayStand, withWord, askedFrom, askedIn}

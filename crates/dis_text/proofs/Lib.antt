@@ -7,4 +7,3 @@ pub mod AskedEntries
 pub mod ShownApart
 pub mod ClaimsOutputOnly
 pub mod ClaimsOutputFits
-pub mod Pieces

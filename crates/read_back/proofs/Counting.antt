@@ -6,26 +6,20 @@ use mathlib.Core.List.{List, [], _∷_}
 use Prim.Native.Nat.{ℕ, suc, _≤_}
 use native.Mathlib.Omega.{arith}
 use borrow.Author.Tests.{ltb-false}
-use lib.Dec.{eqb, ltb}
+use lib.Dec.{ltb}
 use lib.IntN.{pos}
 use lib.ListN.{length}
 use Rattle.instruction.specs.Answer.{Answer, accepted, refused, Refusal, refuse, judge}
 use Rattle.instruction.specs.declared.mode.Mode.{Mode}
-use Rattle.text.specs.Cut.{before, cut, lines}
+use Rattle.text.specs.Cut.{lines}
+use Rattle.text.proofs.Pieces.{pieces-few}
 use Rattle.read_back.specs.Order.{start, lineAfter}
 use Rattle.read_back.specs.Back.{lineRefusals, backAnswer}
 use Rattle.read_back.specs.Sheet.{emptySheet}
 
 -- no more lines than bytes
 pub lines-few : (t : List ℕ) → length (lines t) ≤ length t
-unfolding cut
-lines-few [] = omega arith
-lines-few (b ∷ t) = by (eqb b 10) (cut 10 [] t) (lines-few t)
-  where
-    by : (c : Bool) (ls : List (List ℕ)) → length ls ≤ length t → length (cond c ([] ∷ ls) (before b ls)) ≤ suc (length t)
-    by true ls h = omega arith
-    by false [] h = omega arith
-    by false (l ∷ ls) h = omega arith
+lines-few t = pieces-few 10 t
 
 -- each has at most the next number
 pub after-most : (k : ℕ) → lineAfter k ≤ suc k

@@ -7,3 +7,4 @@ pub mod Pairs
 pub mod PairPuts
 pub mod FourRead
 pub mod Sames
+pub mod Pieces
