@@ -19,7 +19,7 @@ use Rattle.listing.specs.declared.tabbed.Arrivals.{Arrivals}
 use Rattle.listing.specs.declared.tabbed.Arrivals.the-variants.{Chosen, Declined}
 use Rattle.listing_laws.proofs.ClaimsRoomBound.{listing-bound, chosen-bound}
 use Rattle.list_text.specs.Decimal.{decimal}
-use Rattle.list_text.specs.Output.{lentRoom, tracedWith}
+use Rattle.list_text.specs.Output.{lentRoom}
 use Rattle.list_text.proofs.Decimals.{decimal-length}
 use Rattle.list_text.proofs.Images.{marks, accepted-listing}
 use Rattle.list_text.proofs.RunRefused.{traced-one}

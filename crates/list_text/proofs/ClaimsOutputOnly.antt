@@ -8,7 +8,7 @@ use native.Mathlib.Omega.{arith}
 use lib.IntN.{ℤ}
 use lib.ListN.{length}
 use Rattle.instruction.proofs.Accepting.{differ}
-use Rattle.instruction.specs.Answer.{Answer, accepted, refused, judge}
+use Rattle.instruction.specs.Answer.{accepted, refused, judge}
 use Rattle.instruction.proofs.Judging.{accepts}
 use Rattle.instruction_laws.specs.Missing.{OneOrTwo}
 use Rattle.instruction.specs.declared.mode.Mode.the-variants.{Unwrapped}
