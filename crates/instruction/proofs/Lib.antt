@@ -20,6 +20,8 @@ pub mod Known
 pub mod Shapes
 pub mod Reading
 pub mod Rule
+pub mod PartsRead
+pub mod NoForm
 pub mod Decoding
 pub mod Writing
 pub mod Encoding

@@ -5,16 +5,18 @@ use mathlib.Core.List.{List, [], _∷_}
 use lib.Dec.{ltb, eqb}
 use lib.IntN.{ℤ, pos}
 use lib.ListN.{length, getD}
-use Rattle.instruction.specs.Answer.{Answer, accepted, refused, refuse, judge}
+use Rattle.instruction.specs.Answer.{Answer, accepted, refused, refuse, judge, onAccepted}
 use Rattle.instruction.specs.CutOff.{cutValues}
 use Rattle.instruction.specs.Forms.{formAt, formOf, bits, sizeOf}
 use Rattle.instruction.specs.Kinds.{kindAt}
-use Rattle.instruction.specs.Parts.{madeOf}
+use Rattle.instruction.specs.Parts.{madeOf, partsOf}
 use Rattle.instruction.specs.Code.{operandOf}
 use Rattle.instruction.specs.Pattern.{field}
 use Rattle.instruction.specs.declared.answer.CutOff.{CutOff}
 use Rattle.instruction.specs.declared.decode.Decoded.{Decoded}
 use Rattle.instruction.specs.declared.decode.Decoded.the-variants.{Found, Nothing, Cut}
+use Rattle.instruction.specs.declared.decode.DecodedParts.{DecodedParts}
+use Rattle.instruction.specs.declared.decode.DecodedParts.the-variants as parts
 use Rattle.instruction.specs.declared.instr.Instr.{Instr}
 use Rattle.instruction.specs.declared.instr.Parts.{Parts}
 
@@ -46,3 +48,14 @@ decodeAnswer s =
     ∷ refuse (ltb (length s) (sizeOf (formAt k))) 5 (cutValues (cutAt s 0))
     ∷ [])
     (madeOf (fieldsIn k s))
+
+-- ---- the parts of the instruction
+
+abbrev pub decodedPartsOf : DecodedParts → Answer Parts
+decodedPartsOf (parts.Found v) = accepted v
+decodedPartsOf parts.Nothing = refused 12 (pos 0 ∷ [])
+decodedPartsOf (parts.Cut c) = refused 5 (cutValues c)
+
+-- what decode answers, with its instruction taken apart
+unfoldable pub partsAnswer : List ℕ → Answer Parts
+partsAnswer s = onAccepted partsOf (decodeAnswer s)

@@ -2,11 +2,12 @@
 // Ported from `Instr::decode` and `decode_from_raw` of src/instruction.rs of wtetzner/waterbear, and changed: the derived `decode_raw` is
 // a lookup by the first byte, and the fields are read by the form's shape.
 ghost use mathlib.Core.Path.{_≡_};
-ghost use Rattle.instruction.specs.Decode.{decodedOf, decodeAnswer};
+ghost use Rattle.instruction.specs.Decode.{decodedOf, decodeAnswer, decodedPartsOf, partsAnswer};
 use crate::answer::CutOff;
 use crate::build;
 use crate::form;
 use crate::instr::Instr;
+use crate::instr::Parts;
 use crate::layout;
 use crate::read;
 
@@ -18,21 +19,40 @@ pub enum Decoded {
     Cut(CutOff),
 }
 
-impl Instr {
-    pub fn decode(bytes: &[u8]) -> Decoded
-        ensures { λ r. ⌜ decodedOf r ≡ decodeAnswer (now (bytes .entry)) ⌝ }
+// The same with the parts of the instruction, for callers that would take it apart again.
+pub enum DecodedParts {
+    Found(Parts),
+    Nothing,
+    Cut(CutOff),
+}
+
+impl Parts {
+    pub fn decode(bytes: &[u8]) -> DecodedParts
+        ensures { λ r. ⌜ decodedPartsOf r ≡ partsAnswer (now (bytes .entry)) ⌝ }
     {
         if bytes.len() == 0 {
-            return Decoded::Nothing;
+            return DecodedParts::Nothing;
         }
         let first = bytes[0];
         let form = form::lookup(first);
         let shape = form::shape_of(form);
         let size = layout::size(shape);
         if bytes.len() < size {
-            return Decoded::Cut(CutOff::new(0, first, (size - bytes.len()) as u8));
+            return DecodedParts::Cut(CutOff::new(0, first, (size - bytes.len()) as u8));
         }
         let f = read::read(shape, bytes);
-        Decoded::Found(build::build(form, f.a, f.b, f.c))
+        DecodedParts::Found(Parts::new(form, f.a, f.b, f.c))
+    }
+}
+
+impl Instr {
+    pub fn decode(bytes: &[u8]) -> Decoded
+        ensures { λ r. ⌜ decodedOf r ≡ decodeAnswer (now (bytes .entry)) ⌝ }
+    {
+        match Parts::decode(bytes) {
+            DecodedParts::Found(v) => Decoded::Found(build::build(v.form, v.a, v.b, v.c)),
+            DecodedParts::Nothing => Decoded::Nothing,
+            DecodedParts::Cut(c) => Decoded::Cut(c),
+        }
     }
 }

@@ -2,12 +2,13 @@
 // Ported from src/instruction.rs of wtetzner/waterbear, and changed: `Instr<Ex, IM>` is an enum of numbers.
 ghost use mathlib.Core.Path.{_≡_};
 ghost use Rattle.instruction.specs.Encode.{formIn};
-ghost use Rattle.instruction.specs.Forms.{sizeOf};
+ghost use Rattle.instruction.specs.Forms.{formAt, sizeOf};
 ghost use Rattle.instruction.specs.Grid.{ruleOf};
 ghost use Rattle.instruction.specs.Kinds.{threeOf};
 ghost use Rattle.instruction.specs.Parts.{partsOf, madeOf};
 use crate::build;
 use crate::form;
+use crate::kind::Kind;
 use crate::kind::Kinds;
 use crate::layout;
 
@@ -98,6 +99,27 @@ impl Parts {
     {
         Self { form, a, b, c }
     }
+
+    // A number that no form has has no operands and no bytes.
+    pub fn kinds(self) -> Kinds
+        ensures { λ r. ⌜ r ≡ threeOf (formAt (self .form) .shape) ⌝ }
+    {
+        if Instr::FORMS <= self.form {
+            return Kinds::new(Kind::Absent, Kind::Absent, Kind::Absent);
+        }
+        let s = form::shape_of(self.form);
+        s.kinds()
+    }
+
+    // The number of bytes.
+    pub fn size(self) -> usize
+        ensures { λ r. ⌜ r ≡ sizeOf (formAt (self .form)) ⌝ }
+    {
+        if Instr::FORMS <= self.form {
+            return 0;
+        }
+        layout::size(form::shape_of(self.form))
+    }
 }
 
 impl Instr {
@@ -105,6 +127,8 @@ impl Instr {
     pub const HIGHEST_BASE: u32 = 65_536;
 
     pub const HIGHEST_ADDRESS: i32 = 65_535;
+
+    pub const FORMS: u8 = 70;
 
     // One of the three functions that go through all forms: the instruction taken apart.
     pub fn apart(self) -> Parts
@@ -194,16 +218,13 @@ impl Instr {
     pub fn kinds(self) -> Kinds
         ensures { λ r. ⌜ r ≡ threeOf (formIn self .shape) ⌝ }
     {
-        let v = self.apart();
-        let s = form::shape_of(v.form);
-        s.kinds()
+        self.apart().kinds()
     }
 
     // The number of bytes.
     pub fn size(self) -> usize
         ensures { λ r. ⌜ r ≡ sizeOf (formIn self) ⌝ }
     {
-        let v = self.apart();
-        layout::size(form::shape_of(v.form))
+        self.apart().size()
     }
 }

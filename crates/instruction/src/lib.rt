@@ -27,6 +27,7 @@ pub use answer::CutOff;
 pub use answer::Misfit;
 pub use answer::Tops;
 pub use decode::Decoded;
+pub use decode::DecodedParts;
 pub use encode::Encoded;
 pub use encode::Fit;
 pub use first::FirstByte;

@@ -4,6 +4,7 @@ ghost use Prim.Native.Nat.{_<_};
 ghost use Rattle.instruction.specs.Mnemonic.{mnemonicOf, packedLetters};
 ghost use Rattle.instruction.specs.Parts.{partsOf};
 use crate::instr::Instr;
+use crate::instr::Parts;
 
 // By the number of the form: "add" is 0x646461.
 fn letters(form: u8) -> u64
@@ -84,10 +85,22 @@ fn letters(form: u8) -> u64
     }
 }
 
+impl Parts {
+    // A number that no form has has no letters.
+    pub fn mnemonic(self) -> u64
+        ensures { λ r. ⌜ r ≡ packedLetters (mnemonicOf (self .form)) ⌝ }
+    {
+        if Instr::FORMS <= self.form {
+            return 0;
+        }
+        letters(self.form)
+    }
+}
+
 impl Instr {
     pub fn mnemonic(self) -> u64
         ensures { λ r. ⌜ r ≡ packedLetters (mnemonicOf (partsOf self .form)) ⌝ }
     {
-        letters(self.apart().form)
+        self.apart().mnemonic()
     }
 }

@@ -29,3 +29,12 @@ pub fn is_unfit(kind: Kind, z: i32) -> bool
         Kind::Long => is_outside(0, 65535, z),
     }
 }
+
+impl Kind {
+    // Whether a number does not fit a field of this kind.
+    pub fn is_unfit(self, z: i32) -> bool
+        ensures { λ r. ⌜ r ≡ unfit self z ⌝ }
+    {
+        is_unfit(self, z)
+    }
+}

@@ -3,21 +3,15 @@
 -- Assumes nothing.
 use mathlib.Core.Path.{_≡_, refl, ap}
 use Prim.Native.Nat.{ℕ, _<_}
-use lib.Dec.{eqb, eqb→eq}
 use lib.IntN.{ℤ}
-use Rattle.instruction.specs.Forms.{Form, forms, formAt, formNamed}
+use Rattle.instruction.specs.Forms.{Form, forms, formAt}
 use Rattle.instruction.specs.Kinds.{kindsOf}
 use Rattle.instruction.specs.Parts.{parts, partsOf, madeOf}
 use Rattle.instruction.specs.declared.instr.Parts.{Parts}
-use Rattle.instruction.proofs.Every.{holds}
 use Rattle.instruction.proofs.Known.{known}
+use Rattle.instruction.proofs.PartsRead.{numbered}
 use Rattle.instruction.proofs.Shapes.{at-each}
 use Rattle.instruction_laws.specs.PartsMade.{usedIn, PartsMade}
-
--- the form's name gives its number
-numbered : (k : ℕ) → k < 70 → formNamed (formAt k .name) ≡ k
-unfolding formNamed formAt forms
-numbered k h = eqb→eq (formNamed (formAt k .name)) k (holds (λ j. eqb (formNamed (formAt j .name)) j) 70 tt k h)
 
 abbrev taken : Form → ℤ → ℤ → ℤ → Parts
 taken w a b c = partsOf (w .make a b c)

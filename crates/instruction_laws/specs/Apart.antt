@@ -3,12 +3,13 @@
 -- Assumes nothing.
 use Rattle.instruction.specs.Answer.{Apart}
 use Rattle.instruction.specs.ResolveOperand.{resolutionOf}
-use Rattle.instruction.specs.Decode.{decodedOf}
+use Rattle.instruction.specs.Decode.{decodedOf, decodedPartsOf}
 use Rattle.instruction.specs.Encode.{encodedOf, fitOf}
 use Rattle.instruction.specs.Resolve.{resolvedOf}
 
 pub record AnswersApart : Type 0 where
   pub decode : Apart decodedOf
+  pub decode-parts : Apart decodedPartsOf
   pub fit : Apart fitOf
   pub encode : Apart encodedOf
   pub resolve : Apart resolvedOf

@@ -5,16 +5,11 @@ use borrow.Author.Needs.{needs}
 use Rattle.instruction.specs.Forms.{formAt}
 use Rattle.instruction.specs.Kinds.{threeOf}
 use Rattle.instruction.specs.declared.instr.Parts.{Parts}
-use Rattle.instruction.proofs.Known.{form-small}
 use Rattle.instruction.proofs.instr.Instr.kinds.Statement.{statement}
 use Rattle.instruction.proofs.instr.Instr.kinds.Tie as tie
 
-shape-of-requires : tie.Need-shape-of-requires
-shape-of-requires c κs = form-small (c .before .args .self) (c .apart .ensures)
-
 returns : tie.Need-returns
-returns c =
-    c .kinds .ensures ∙ ap threeOf (c .before .shape-of .ensures ∙ ap (λ (v : Parts). formAt (v .form) .shape) (c .before .before .apart .ensures))
+returns c = c .kinds .ensures ∙ ap (λ (v : Parts). threeOf (formAt (v .form) .shape)) (c .before .apart .ensures)
 
 pub kinds-spec : {M : Type 1} → statement M
-kinds-spec = tie.close (tie.spec (λ c κs. search needs) shape-of-requires (λ c κs. search needs) returns)
+kinds-spec = tie.close (tie.spec (λ c κs. search needs) (λ c κs. search needs) returns)
