@@ -3,6 +3,8 @@ pub mod Lettering
 pub mod Naming
 pub mod Showing
 pub mod Lining
+pub mod Alone
+pub mod Opened
 pub mod Walking
 pub mod Answering
 pub mod Example

@@ -7,7 +7,7 @@ use Prim.Native.Nat.{ℕ, _+_, _<_, _≤_}
 use Prim.Native.Char.{code}
 use native.Mathlib.Numerals.{add-one}
 use native.Mathlib.Omega.{arith}
-use borrow.Author.Tests.{eq-eqb, ne-eqb, lt-ltb, le-ltb}
+use borrow.Author.Tests.{eq-eqb, ne-eqb, le-ltb}
 use lib.Dec.{eqb}
 use lib.ListN.{length, getD, take, drop, drop-of-length-le, length-append}
 use lib.Seq.{drop-cons}
@@ -16,11 +16,10 @@ use Rattle.instruction.specs.Forms.{sizeOf}
 use Rattle.instruction.specs.Mnemonic.{mnemonicOf}
 use Rattle.instruction.specs.Parts.{partsOf}
 use Rattle.instruction.specs.declared.instr.Instr.{Instr}
-use Rattle.instruction.specs.declared.answer.CutOff.{CutOff}
 use Rattle.instruction.specs.declared.mode.Mode.{Mode}
 use Rattle.targets.specs.Here.{hereOf}
+use Rattle.targets.specs.declared.here.Here.the-variants.{Whole}
 use Rattle.targets.specs.Targets.{nextOf, targetsAnswer}
-use Rattle.targets.specs.declared.here.Here.the-variants.{Whole, Cut, Outside}
 use Rattle.views.specs.Overlaps.{overlapsIn}
 use Rattle.views.specs.declared.overlaps.Overlaps.{Overlaps}
 use Rattle.views.specs.declared.overlaps.Overlaps.the-variants.{Nothing, One, Two, Three}
@@ -130,28 +129,15 @@ module _ (p : ℕ) (chosen : Bool) (qs : List ℕ) where
 -- ---- `I`
 
 module _ (mode : Mode) (all : List ℕ) (p : ℕ) (i : Instr) where
-  pub instr : (t : ℕ) → t ≡ firstOf (targetsAnswer mode p i) → (w : ℕ) → letters 8 w ≡ mnemonicOf (partsOf i .form) → (bytes : List ℕ) → bytes ≡ take (sizeOf (formIn i)) all
-      → begin (code "I") p ++ ((9 ∷ hexes bytes) ++ ((9 ∷ letters 8 w) ++ fieldsText (operandsBy t i))) ≡ instrText mode p i all
+  pub instr : (rest : List ℕ) → rest ≡ fieldsText (operandsBy (firstOf (targetsAnswer mode p i)) i) → (w : ℕ) → letters 8 w ≡ mnemonicOf (partsOf i .form) → (bytes : List ℕ) → bytes ≡ take (sizeOf (formIn i)) all
+      → begin (code "I") p ++ ((9 ∷ hexes bytes) ++ ((9 ∷ letters 8 w) ++ rest)) ≡ instrText mode p i all
   unfolding instrText fieldsText
-  instr t e w f bytes g = rw (e, f, g)
+  instr rest e w f bytes g = rw (e, f, g)
 
 -- by itself
-module _ (mode : Mode) (p : ℕ) (bytes : List ℕ) where
-  pub code-past : (i : Instr) → Whole i ≡ hereOf bytes 0 → 65536 < nextOf p i → [] ≡ codeLine mode p bytes
-  unfolding codeLine
-  code-past i e h = ap (λ (b : Bool). cond b [] (instrText mode p i bytes)) (sym (lt-ltb 65536 (nextOf p i) h)) ∙ ap (codeBy mode p bytes) e
-
-  pub code-here : (i : Instr) → Whole i ≡ hereOf bytes 0 → nextOf p i ≤ 65536 → instrText mode p i bytes ≡ codeLine mode p bytes
-  unfolding codeLine
-  code-here i e h = ap (λ (b : Bool). cond b [] (instrText mode p i bytes)) (sym (le-ltb 65536 (nextOf p i) h)) ∙ ap (codeBy mode p bytes) e
-
-  pub code-cut : (c : CutOff) → Cut c ≡ hereOf bytes 0 → [] ≡ codeLine mode p bytes
-  unfolding codeLine
-  code-cut c e = ap (codeBy mode p bytes) e
-
-  pub code-none : Outside ≡ hereOf bytes 0 → [] ≡ codeLine mode p bytes
-  unfolding codeLine
-  code-none e = ap (codeBy mode p bytes) e
+pub code-here : (mode : Mode) (p : ℕ) (bytes : List ℕ) (i : Instr) → Whole i ≡ hereOf bytes 0 → nextOf p i ≤ 65536 → instrText mode p i bytes ≡ codeLine mode p bytes
+unfolding codeLine
+code-here mode p bytes i e h = ap (λ (b : Bool). cond b [] (instrText mode p i bytes)) (sym (le-ltb 65536 (nextOf p i) h)) ∙ ap (codeBy mode p bytes) e
 
 -- ---- `D`
 

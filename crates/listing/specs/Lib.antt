@@ -2,5 +2,6 @@ pub mod Hex
 pub mod Line
 pub mod Operand
 pub mod Lines
+pub mod Alone
 pub mod Walk
 pub mod Lent

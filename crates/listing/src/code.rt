@@ -4,21 +4,15 @@ ghost use Rattle.text.specs.Puts.{Puts};
 use crate::lines;
 use instruction::Instr;
 use instruction::Mode;
-use targets::Here;
 
 // The `I` line of bytes at p, ended by byte 10: how many bytes it has, 0 where decode or targets refuses. What falls past the end of the
 // room is not written; a line has at most 31 bytes.
 pub fn code_line(mode: Mode, p: u32, bytes: &[u8], room: &mut [u8]) -> usize
     ensures { λ r. ⌜ Puts (codeLine mode p (now (bytes .entry))) 0 (now (room .entry)) (now (room .exit)) r ⌝ }
 {
-    match targets::instr_at(bytes, 0) {
-        Here::Whole(i) => {
-            if (Instr::HIGHEST_BASE as u64) < p as u64 + i.size() as u64 {
-                return 0;
-            }
-            lines::put_instr(mode, bytes, room, 0, p, i)
-        }
-        Here::Cut(_) => 0,
-        Here::Outside => 0,
+    let next = p as u64 + targets::size_at(bytes, 0) as u64;
+    if (Instr::HIGHEST_BASE as u64) < next {
+        return 0;
     }
+    lines::put_instr(mode, bytes, room, 0, p)
 }

@@ -6,12 +6,14 @@ ghost use mathlib.Core.List.{[], _∷_, map};
 ghost use Prim.Native.Nat.{_+_, _^_, _≤_, _<_};
 ghost use lib.Dec.{eqb};
 ghost use lib.ListN.{length};
-ghost use Rattle.instruction.specs.Encode.{formIn};
-ghost use Rattle.instruction.specs.Forms.{sizeOf};
+ghost use Rattle.instruction.specs.Answer.{accepted};
+ghost use Rattle.instruction.specs.Decode.{decodeAnswer, partsAnswer};
+ghost use Rattle.instruction.specs.Parts.{madeOf};
 ghost use Rattle.targets.specs.Here.{hereOf};
 ghost use Rattle.arrivals.specs.Arrivals.{arrivalsOf, nextArrival};
 ghost use Rattle.views.specs.Overlaps.{overlapsIn, overlapsOf};
 ghost use Rattle.arrivals.specs.Index.{indexOf};
+ghost use Rattle.listing.specs.Alone.{textOf};
 ghost use Rattle.listing.specs.Hex.{hex4};
 ghost use Rattle.listing.specs.Lent.{isLent, Indexed};
 ghost use Rattle.listing.specs.Line.{fieldsText};
@@ -19,10 +21,9 @@ ghost use Rattle.listing.specs.Lines.{labelLine, overlapLine, arrivalLin
 ghost use Rattle.text.specs.Puts.{Puts};
 use crate::operands;
 use crate::put;
-use instruction::Instr;
+use instruction::DecodedParts;
 use instruction::Mode;
-use targets::Here;
-use targets::Image;
+use instruction::Parts;
 use views::Overlaps;
 
 // `L`, where there is a target mark.
@@ -141,19 +142,32 @@ pub fn put_arrivals(
     put_arrived(mode, image, marks, index, out, a, p, first)
 }
 
-// `I`, of an instruction with which these bytes begin.
-pub fn put_instr(mode: Mode, bytes: &[u8], out: &mut [u8], at: usize, p: u32, instr: Instr) -> usize
-    requires { ⌜ (at < 2 ^ 54) × (sizeOf (formIn instr) < 4) × (sizeOf (formIn instr) ≤ length (now bytes)) ⌝ }
-    ensures { λ r. ⌜ Puts (instrText mode p instr (now (bytes .entry))) at (now (out .entry)) (now (out .exit)) r ⌝ }
+// `I`, of the parts that decode answers of these bytes.
+fn put_parts(mode: Mode, bytes: &[u8], out: &mut [u8], at: usize, p: u32, v: Parts) -> usize
+    requires { ⌜ (at < 2 ^ 54) × (accepted v ≡ partsAnswer (now bytes)) ⌝ }
+    ensures { λ r. ⌜ Puts (instrText mode p (madeOf v) (now (bytes .entry))) at (now (out .entry)) (now (out .exit)) r ⌝ }
     ensures { λ r. ⌜ r ≤ at + 2 ^ 18 ⌝ }
 {
-    let t = operands::first_of(targets::targets(mode, p, instr));
-    let n = instr.size();
-    let word = instr.mnemonic();
+    let n = v.size();
+    let word = v.mnemonic();
+    let next = p as u64 + n as u64;
     let a1 = put::put_start(out, at, b'I', p);
     let a2 = put::put_bytes(out, a1, &bytes[..n]);
     let a3 = put::put_word(out, a2, word);
-    operands::put_operands(out, a3, instr, t)
+    operands::put_operands(out, a3, mode, next, v)
+}
+
+// `I`, of the instruction with which these bytes begin, where decode answers one.
+pub fn put_instr(mode: Mode, bytes: &[u8], out: &mut [u8], at: usize, p: u32) -> usize
+    requires { ⌜ at < 2 ^ 54 ⌝ }
+    ensures { λ r. ⌜ Puts (textOf mode p (now (bytes .entry)) (decodeAnswer (now (bytes .entry)))) at (now (out .entry)) (now (out .exit)) r ⌝ }
+    ensures { λ r. ⌜ r ≤ at + 2 ^ 18 ⌝ }
+{
+    match Parts::decode(bytes) {
+        DecodedParts::Found(v) => put_parts(mode, bytes, out, at, p, v),
+        DecodedParts::Nothing => at,
+        DecodedParts::Cut(_) => at,
+    }
 }
 
 // `I`, of what stands at p.
@@ -162,11 +176,10 @@ pub fn put_here(mode: Mode, image: &[u8], out: &mut [u8], at: usize, p: u32) -> 
     ensures { λ r. ⌜ Puts (hereLine mode (now (image .entry)) p (hereOf (now (image .entry)) p)) at (now (out .entry)) (now (out .exit)) r ⌝ }
     ensures { λ r. ⌜ r ≤ at + 2 ^ 20 ⌝ }
 {
-    match targets::instr_at(image, p) {
-        Here::Whole(i) => put_instr(mode, &image[p as usize..], out, at, p, i),
-        Here::Cut(_) => at,
-        Here::Outside => at,
+    if image.len() <= p as usize {
+        return at;
     }
+    put_instr(mode, &image[p as usize..], out, at, p)
 }
 
 fn all_zero(bytes: &[u8]) -> bool

@@ -12,3 +12,4 @@ pub mod Openings
 pub mod Falling
 pub mod ShortPlace
 pub mod AddressBytes
+pub mod AskedPlace

@@ -3,3 +3,4 @@ pub mod At
 pub mod Opening
 pub mod Here
 pub mod Ways
+pub mod Asked

@@ -93,7 +93,7 @@ fn page(next: u32, z: i32) -> i32
 }
 
 // The address that an operand names.
-fn address_of(mode: Mode, next: u32, kind: Kind, z: i32) -> i32
+pub fn address_of(mode: Mode, next: u32, kind: Kind, z: i32) -> i32
     requires { ⌜ (1 ≤ next) × (next ≤ 65536) × (unfit kind z ≡ false) ⌝ }
     ensures { λ r. ⌜ r ≡ addressOf mode next kind z ⌝ }
 {

@@ -1,6 +1,7 @@
 // Where control goes from a position of an image: the instruction there, and its targets.
 // Ported from src/disasm.rs of wtetzner/waterbear (Apache-2.0, see NOTICE), and changed: targets are signed numbers.
 mod address;
+pub mod asked;
 pub mod here;
 pub mod image;
 pub mod instr_targets;
@@ -10,6 +11,7 @@ mod operand;
 pub mod place;
 pub mod target;
 
+pub use asked::operand_place;
 pub use here::Here;
 pub use here::instr_at;
 pub use here::size_at;
