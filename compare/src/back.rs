@@ -3,6 +3,7 @@
 
 use crate::changed;
 use crate::lent::Lent;
+use crate::lines;
 use crate::ours;
 use crate::share;
 use crate::tally::{Call, Judge, Tally};
@@ -93,9 +94,11 @@ impl Listed<'_> {
         for _ in 0..share::times(changes) {
             let changed = self.changed(random);
             Given::new(random, self.mode, &changed, own).changed(tally);
+            lines::of_text(self.mode, tally, random, &changed, own);
         }
         let length = other(random, own);
         Given::new(random, self.mode, self.text, length).judged(tally);
+        lines::of_text(self.mode, tally, random, self.text, length);
         let length = other(random, own);
         let changed = self.changed(random);
         Given::new(random, self.mode, &changed, length).judged(tally);
@@ -131,6 +134,7 @@ impl Listed<'_> {
         }
         tally.backs.whole += u64::from(self.mode == Mode::Unwrapped);
         given.judge(tally, &expected);
+        lines::of_listing(self.mode, tally, image, &restored, text);
     }
 
     /// What was listed in wrapping mode, read back unwrapped: malformed where a target was wrapped. Counted as wrapping.

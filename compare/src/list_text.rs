@@ -9,7 +9,7 @@ use crate::tally::{Call, Judge, Tally};
 use crate::texts;
 use crate::views::{self, Outcome};
 use compare::answer::Answer;
-use compare::paper::listing;
+use compare::paper::{input, listing};
 use compare::random::Random;
 
 /// Makes a text.
@@ -21,6 +21,8 @@ const TEXTS: [(Make, u64, u64); 4] = [
     (texts::loose, 20_000, 64),
     (texts::at_limits, 600, 4),
 ];
+/// Numbers of their own for what is taken apart, so that the other comparisons are the same with it and without.
+const OWN: u64 = 0x5EED_1490;
 /// So much of a text is shown.
 const SHOWN: usize = 240;
 
@@ -32,6 +34,7 @@ pub fn compare(tally: &mut Tally, random: &mut Random) {
             let printed = listing::output(&text);
             tally.texts.count(&text, &printed);
             one(tally, random, &text, &printed);
+            parts(tally, &Random(random.0 ^ OWN), &text);
             if turn % of == 0
                 && let Some(program) = &program
             {
@@ -55,6 +58,39 @@ fn one(tally: &mut Tally, random: &mut Random, text: &[u8], printed: &str) {
     let ours = views::outcome(&room, |room| ours::list_text(text, room));
     let what = (Call::ListText, Judge::Document);
     let number = expected.0.number;
+    tally.judge(what, None, (number, &expected), &ours, || shown(text));
+}
+
+/// Taken apart: entries and image, each in a room of its own.
+fn parts(tally: &mut Tally, random: &Random, text: &[u8]) {
+    let mut random = Random(random.0);
+    let parsed = input::parse(text);
+    let needed = parsed
+        .as_ref()
+        .map_or([1, 8], |input| [input.entries.len(), input.image.len()]);
+    let [entries, image] = needed.map(|needed| views::room(&mut random, needed));
+    let short = [entries < needed[0], image < needed[1]];
+    let entries = Lent::filled(entries, &mut random, |mixed| mixed as u32);
+    let image = Lent::filled(image, &mut random, |mixed| mixed as u8);
+    let counts = needed.map(|count| count as i64);
+    let stayed = |number, values: &[i64]| {
+        let answer = Answer::new(number, values);
+        (answer, entries.clone(), image.clone())
+    };
+    let expected = match &parsed {
+        Err(line) => stayed(Answer::MALFORMED_INPUT, &[*line as i64]),
+        Ok(_) if short.contains(&true) => stayed(Answer::NO_ROOM, &counts),
+        Ok(input) => (
+            Answer::new(Answer::DONE, &counts),
+            entries.clone().with(&input.entries),
+            image.clone().with(&input.image),
+        ),
+    };
+    let (mut entries, mut image) = (entries.clone(), image.clone());
+    let answer = ours::parse(text, entries.lend(), image.lend());
+    let ours = (answer, entries, image);
+    let number = expected.0.number;
+    let what = (Call::Parse, Judge::Document);
     tally.judge(what, None, (number, &expected), &ours, || shown(text));
 }
 

@@ -10,6 +10,7 @@ mod edits;
 mod encode;
 mod joined;
 mod lent;
+mod lines;
 mod list_text;
 mod listing;
 mod logs;
@@ -72,6 +73,7 @@ fn main() -> ExitCode {
     logs::compare(&mut tally, &mut random);
     report_text::compare(&mut tally, &mut random);
     dis::compare(&mut tally, &mut random);
+    lines::compare(&mut tally, &mut random);
     match tally.report() {
         true => ExitCode::SUCCESS,
         false => ExitCode::FAILURE,

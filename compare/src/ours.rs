@@ -53,6 +53,14 @@ pub fn listing(mode: Mode, image: &[u8], marks: &[u8], arrivals: u32, room: &mut
     numbers::listing(number(mode), image, marks, arrivals, room)
 }
 
+pub fn code_line(mode: Mode, position: u32, bytes: &[u8], room: &mut [u8]) -> Answer {
+    numbers::code_line(number(mode), position, bytes, room)
+}
+
+pub fn read_line(mode: Mode, text: &[u8], place: &mut PlaceWords) -> Answer {
+    numbers::read_line(number(mode), text, place)
+}
+
 pub fn read_back(
     mode: Mode,
     text: &[u8],

@@ -54,9 +54,17 @@ pub enum Call {
     ReportAsList,
     /// The built program for game files.
     Dis,
+    /// One `I` line, from its bytes.
+    CodeLine,
+    /// One line of a listing read, and a whole one line by line.
+    ReadLine,
+    ReadLines,
+    UnlistText,
+    /// An input of the listing program taken apart.
+    Parse,
 }
 
-const CALLS: [(Call, &str); 33] = [
+const CALLS: [(Call, &str); 38] = [
     (Call::Decode, "decode"),
     (Call::Encode, "encode"),
     (Call::Resolve, "resolve"),
@@ -90,6 +98,11 @@ const CALLS: [(Call, &str); 33] = [
     (Call::Report, "report, program"),
     (Call::ReportAsList, "report as list"),
     (Call::Dis, "dis, program"),
+    (Call::CodeLine, "code line"),
+    (Call::ReadLine, "read line"),
+    (Call::ReadLines, "read by lines"),
+    (Call::UnlistText, "unlist text"),
+    (Call::Parse, "parse"),
 ];
 
 impl Call {
@@ -104,6 +117,7 @@ impl Call {
             Call::Between | Call::Ceilings => "document 02",
             Call::ReportText | Call::Report | Call::ReportAsList => "document 02",
             Call::Dis => "its definitions",
+            Call::ReadLine | Call::ReadLines | Call::UnlistText => "document 02",
             _ => "document 01",
         }
     }

@@ -36,6 +36,49 @@ pub fn read(mode: Mode, text: &[u8], length: usize, image: &mut [u8], marks: &mu
     answer(Answer::DONE, lines.len())
 }
 
+/// What `unlist` prints of a listing of an image of so many bytes: the image in lines of 32, or the line of a refusal.
+pub fn printed(text: &[u8], length: usize) -> String {
+    let room = length.min(tracer::LONGEST);
+    let (mut image, mut marks) = (vec![0; room], vec![0; room]);
+    let answer = read(Mode::Unwrapped, text, length, &mut image, &mut marks);
+    match answer.number {
+        Answer::DONE => image
+            .chunks(input::MOST_IN_LINE)
+            .map(|line| listing::hex(line) + "\n")
+            .collect(),
+        number => format!("R\t{number}\t{}\n", answer.values[0]),
+    }
+}
+
+/// The line at a place, which goes on to the next: where it begins, its number, the position and the letter of the line before. Of
+/// each number as many bits count as it has.
+pub fn read_line(mode: Mode, text: &[u8], place: &mut [u64; 4]) -> Answer {
+    let [at, number, last, before] = *place;
+    let (number, last, before) = (number << 1 >> 1, last as u32 as usize, before as u8);
+    let rest = match usize::try_from(at) {
+        Ok(at) if at < text.len() => &text[at..],
+        _ => return Answer::new(Answer::DONE, &[]),
+    };
+    let line = rest.split(|byte| *byte == b'\n').next().unwrap_or(rest);
+    let last = b"LOAID".contains(&before).then_some((last, before));
+    match record(mode, line) {
+        Some(record) if in_order(last, record.at, record.letter) => {
+            let Record {
+                letter, at: here, ..
+            } = record;
+            let next = at + line.len() as u64 + 1;
+            *place = [next, number + 1, here as u64, u64::from(letter)];
+            let count = match record.bytes.len() {
+                0 => record.places,
+                bytes => bytes,
+            };
+            let values = [i64::from(letter), here as i64, count as i64];
+            Answer::new(Answer::DONE, &values)
+        }
+        _ => Answer::new(Answer::MALFORMED_LINE, &[number as i64]),
+    }
+}
+
 /// What the lines so far say.
 struct Sheet {
     mode: Mode,
@@ -57,8 +100,10 @@ impl Sheet {
 
     /// One line more, or its refusal.
     fn line(&mut self, line: &[u8]) -> Result<(), u32> {
-        let (letter, at, bytes) = record(self.mode, line).ok_or(Answer::MALFORMED_LINE)?;
-        if !self.in_order(at, letter) || self.contradicted(at, &bytes) {
+        let Record {
+            letter, at, bytes, ..
+        } = record(self.mode, line).ok_or(Answer::MALFORMED_LINE)?;
+        if !in_order(self.last, at, letter) || self.contradicted(at, &bytes) {
             return Err(Answer::MALFORMED_LINE);
         }
         if !bytes.is_empty() && at + bytes.len() > self.listed.len() {
@@ -74,19 +119,6 @@ impl Sheet {
         Ok(())
     }
 
-    /// Whether a line may follow the last: further on, or at the same position by a later letter of these.
-    fn in_order(&self, at: usize, letter: u8) -> bool {
-        let rank = |letter| b"LOAI".iter().position(|other| *other == letter);
-        match self.last {
-            Some((last, before)) if last == at => match (rank(before), rank(letter)) {
-                (Some(before), Some(now)) => before < now,
-                _ => false,
-            },
-            Some((last, _)) => last < at,
-            None => true,
-        }
-    }
-
     fn contradicted(&self, at: usize, bytes: &[u8]) -> bool {
         let listed = self.listed.iter().skip(at);
         listed
@@ -95,8 +127,28 @@ impl Sheet {
     }
 }
 
-/// The letter, the position and the bytes of a line that is well formed.
-fn record(mode: Mode, line: &[u8]) -> Option<(u8, usize, Vec<u8>)> {
+/// Whether a line may follow the last: further on, or at the same position by a later letter of these.
+fn in_order(last: Option<(usize, u8)>, at: usize, letter: u8) -> bool {
+    let rank = |letter| b"LOAI".iter().position(|other| *other == letter);
+    match last {
+        Some((last, before)) if last == at => match (rank(before), rank(letter)) {
+            (Some(before), Some(now)) => before < now,
+            _ => false,
+        },
+        Some((last, _)) => last < at,
+        None => true,
+    }
+}
+
+/// What a line says that is well formed: its bytes, or how many positions it has besides its own.
+struct Record {
+    letter: u8,
+    at: usize,
+    bytes: Vec<u8>,
+    places: usize,
+}
+
+fn record(mode: Mode, line: &[u8]) -> Option<Record> {
     let fields: Vec<&[u8]> = line.split(|byte| *byte == b'\t').collect();
     let [[letter], at, rest @ ..] = &fields[..] else {
         return None;
@@ -109,7 +161,15 @@ fn record(mode: Mode, line: &[u8]) -> Option<(u8, usize, Vec<u8>)> {
         b'I' => instruction(mode, line, at, rest),
         _ => None,
     };
-    Some((*letter, at, bytes?))
+    Some(Record {
+        letter: *letter,
+        at,
+        bytes: bytes?,
+        places: match letter {
+            b'O' | b'A' => rest.len(),
+            _ => 0,
+        },
+    })
 }
 
 /// One position or more; they list no bytes.

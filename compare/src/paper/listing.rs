@@ -122,6 +122,28 @@ fn data_run<'a>(image: &'a [u8], mask: &[u8], at: usize) -> &'a [u8] {
     &image[at..at + length as usize]
 }
 
+/// One `I` line in lent room, or its refusal: by the bytes, by the position, by the room.
+pub fn code_line(mode: Mode, position: u32, bytes: &[u8], room: &mut [u8]) -> Answer {
+    let Some(first) = bytes.first() else {
+        return Answer::new(Answer::NOTHING, &[]);
+    };
+    if let Some(refusal) = tracer::cut_off(bytes, 0) {
+        return refusal;
+    }
+    let size = flow::size(*first);
+    let next = i64::from(position) + size as i64;
+    if next > tracer::LONGEST as i64 {
+        return Answer::new(Answer::PAST_MEMORY, &[next]);
+    }
+    let line = instruction_line(mode, &bytes[..size], position as usize);
+    let count = [line.len() as i64];
+    if room.len() < line.len() {
+        return Answer::new(Answer::NO_ROOM, &count);
+    }
+    room[..line.len()].copy_from_slice(line.as_bytes());
+    Answer::new(Answer::DONE, &count)
+}
+
 /// The line of an instruction of these bytes at a position.
 pub fn instruction_line(mode: Mode, bytes: &[u8], at: usize) -> String {
     let mut lines = Lines::default();
@@ -152,7 +174,7 @@ fn target(target: i64) -> String {
     }
 }
 
-fn hex(bytes: &[u8]) -> String {
+pub(super) fn hex(bytes: &[u8]) -> String {
     bytes.iter().map(|byte| format!("{byte:02X}")).collect()
 }
 
