@@ -16,7 +16,7 @@ enum By {
 }
 
 /// The aims, each at the worst of its row's lengths.
-const AIMS: [(Row, By, f64); 31] = [
+const AIMS: [(Row, By, f64); 33] = [
     (Row::Decode, By::Plain, 1.4),
     (Row::Start, By::Plain, 1.5),
     (Row::Steps, By::Plain, 1.5),
@@ -37,7 +37,9 @@ const AIMS: [(Row, By, f64); 31] = [
     (Row::ListingWrapping, By::Ours(Row::Listing), 1.1),
     (Row::RunAndListing, By::Plain, 1.4),
     (Row::ListText, By::Plain, 1.5),
+    (Row::Parse, By::Plain, 1.5),
     (Row::ReadBack, By::Plain, 2.0),
+    (Row::UnlistText, By::Plain, 2.0),
     (Row::MapBuild, By::Plain, 1.2),
     (Row::MapUpdate, By::Plain, 1.3),
     (Row::MapTest, By::Plain, 1.5),

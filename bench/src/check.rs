@@ -23,6 +23,7 @@ pub fn check(cases: &[Case]) -> Result<(), &'static str> {
         listed::listing(case, false)?;
         listed::listing(case, true)?;
         listed::listing_text(case)?;
+        listed::parsing(case)?;
         listed::reading_back(case)?;
         mapped::mapping(case)?;
         mapped::testing(case)?;

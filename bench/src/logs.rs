@@ -4,7 +4,7 @@ mod check;
 mod walked;
 
 use crate::cases::Case;
-use crate::clock::{self, OURS, Sides};
+use crate::clock::{self, OURS, PLAIN, Sides};
 use crate::ours::{self, Record};
 use crate::plain::blocks::Blocks;
 use crate::plain::replay::{Refused, Replayer, Totals};
@@ -159,27 +159,29 @@ fn plain_by_blocks(
     blocks.close()
 }
 
-/// Against the same log whole: for a line, and what a block costs besides its bytes.
+/// Against the same log whole: for a line, and what a block of ours costs besides its bytes.
 fn in_blocks(cases: &[Case], few: usize, random: &mut Random) -> Result<(), &'static str> {
-    println!("\nlogs over an image of 64 KiB in blocks, ours, {few} entries");
+    println!("\nnanoseconds for a line of a log over an image of 64 KiB in blocks, {few} entries");
     println!(
-        "{:<38} {:>12} {:>12} {:>12} {:>22}",
-        "", "whole, ns", "blocks, ns", "blocks/whole", "more for a block, us"
+        "{:<36} {:>10} {:>10} {:>10} {:>10} {:>22}",
+        "", "whole", "blocks", "plain", "to plain", "more for a block, us"
     );
     for (lines, size) in CUT {
         let logs = logs(cases, lines, few, random);
         check::in_blocks(&logs, size)?;
         let groups = &[&logs[..]];
         let one = clock::measure(groups, whole())[0][OURS].expect("ours is measured");
-        let cut = clock::measure(groups, cut(size))[0][OURS].expect("ours is measured");
+        let times = clock::measure(groups, cut(size))[0];
+        let [cut, plain] = [OURS, PLAIN].map(|side| times[side].expect("both are measured"));
         let blocks = logs[0].text.len().div_ceil(size);
         let line = |time: f64| time * 1e9 / lines as f64;
         println!(
-            "{:<38} {:>12.2} {:>12.2} {:>12.2} {:>22.3}",
+            "{:<36} {:>10.2} {:>10.2} {:>10.2} {:>10.2} {:>22.3}",
             format!("{lines} lines, blocks of {size} bytes"),
             line(one),
             line(cut),
-            cut / one,
+            line(plain),
+            cut / plain,
             (cut - one) * 1e6 / blocks as f64
         );
     }

@@ -7,8 +7,10 @@ pub mod viewed;
 
 use crate::cases::Case;
 use crate::clock::{self, Sides, Times};
+use compare::answer::Answer;
 use compare::paper::Mode;
 use pottagewing::{ARRIVALS_ROOM, Arrivals, IMAGE_LIMIT, MOST_BYTES};
+use std::hint::black_box;
 
 /// The original's mode: all rows are in it that do not say otherwise.
 pub const MODE: Mode = Mode::Unwrapped;
@@ -39,8 +41,11 @@ pub enum Row {
     /// What the original does in one call.
     RunAndListing,
     ListText,
+    /// What that program reads.
+    Parse,
     /// The listing without arrivals, back into an image and marks.
     ReadBack,
+    UnlistText,
     MapBuild,
     /// At some positions, as above.
     MapUpdate,
@@ -79,7 +84,9 @@ impl Row {
             Row::ListingWithArrivals => "listing with arrivals",
             Row::RunAndListing => "run and listing",
             Row::ListText => "list text",
+            Row::Parse => "parse",
             Row::ReadBack => "read back",
+            Row::UnlistText => "unlist text",
             Row::MapBuild => "map build",
             Row::MapUpdate => "map update at 64 positions",
             Row::MapTest => "map test at every position",
@@ -97,6 +104,16 @@ impl Row {
     }
 }
 
+/// Reads the number of an answer and so many of its values one by one, as a caller does. To copy it whole right after the call would wait
+/// for what the call has just written.
+#[inline(always)]
+fn read<const N: usize>(answer: Answer) {
+    black_box(answer.number);
+    for value in &answer.values[..N] {
+        black_box(*value);
+    }
+}
+
 /// A row with its times at the lengths that it was measured at, the shortest first.
 pub struct Measured {
     pub row: Row,
@@ -107,7 +124,7 @@ pub struct Measured {
 type Make = fn() -> Sides<'static, Case>;
 
 /// The rows over images like games, in the order of the report.
-const OVER_IMAGES: [(Row, Make); 22] = [
+const OVER_IMAGES: [(Row, Make); 24] = [
     (Row::Decode, tracing::decoding),
     (Row::Start, tracing::starting),
     (Row::Steps, tracing::stepping),
@@ -122,7 +139,9 @@ const OVER_IMAGES: [(Row, Make); 22] = [
     (Row::ListingWithArrivals, || listed::listing(true)),
     (Row::RunAndListing, listed::running_and_listing),
     (Row::ListText, listed::listing_text),
+    (Row::Parse, listed::parsing),
     (Row::ReadBack, listed::reading_back),
+    (Row::UnlistText, listed::unlisting),
     (Row::MapBuild, mapped::building),
     (Row::MapUpdate, mapped::updating),
     (Row::MapTest, mapped::testing),
@@ -139,8 +158,8 @@ pub fn measure(lengths: &[&[Case]], late: &[&[Case]]) -> Vec<Measured> {
     let rows = OVER_IMAGES.iter().map(|(row, sides)| {
         let groups = match row {
             Row::MapFirstData => late,
-            // Its input may be no longer.
-            Row::ListText => &short,
+            // An input may be no longer.
+            Row::ListText | Row::Parse => &short,
             _ => lengths,
         };
         Measured {

@@ -4,14 +4,15 @@ use super::same;
 use crate::cases::Case;
 use crate::ours;
 use crate::plain::back::{Reader, Refused};
-use crate::plain::list::Program;
+use crate::plain::input::Input;
 use crate::plain::listing::Lister;
 use crate::plain::trace::{TRACED, is_traced};
+use crate::plain::{list, unlist};
 use crate::rows::{DECLINED, LONGEST_LISTING, MODE};
 use compare::answer::Answer;
 use compare::original::listed;
 use compare::paper::{Mode, listing as paper};
-use pottagewing::{MOST_BYTES, PRINTED_ROOM};
+use pottagewing::{MOST_BYTES, MOST_ENTRIES, PRINTED_ROOM, UNLISTED_ROOM};
 
 /// What a byte of a listing, or of an input, is changed to.
 const CHANGES: &[u8; 16] = b"0123789ADF0\tI\n?f";
@@ -30,28 +31,60 @@ pub fn listing(case: &Case, arrivals: bool) -> Result<(), &'static str> {
 
 /// By the program, of an image that is not too long for it: the listing, and of a changed input what the plain program prints.
 pub fn listing_text(case: &Case) -> Result<(), &'static str> {
-    if case.image.len() > MOST_BYTES {
-        return Ok(());
-    }
-    let mut program = Program::default();
+    let mut program = list::Program::default();
     let mut room = vec![9; PRINTED_ROOM];
-    same(
-        program.list(&case.input) == case.listing,
-        "the plain program",
-    )?;
-    for (turn, byte) in CHANGES.iter().enumerate() {
-        let at = turn * 0x9E37_79B1 % case.input.len();
-        let mut changed = case.input.clone();
-        // The first is not changed.
-        if turn > 0 {
-            changed[at] = *byte;
-        }
-        let printed = program.list(&changed);
-        let answer = ours::list_text(&changed, &mut room);
+    for (turn, text) in inputs(case).iter().enumerate() {
+        let printed = program.list(text);
+        let answer = ours::list_text(text, &mut room);
         let told = Answer::new(Answer::DONE, &[printed.len() as i64]);
         same(answer == told && room.starts_with(printed), "list text")?;
+        same(turn > 0 || printed == case.listing, "the plain program")?;
     }
     Ok(())
+}
+
+/// Its input taken apart.
+pub fn parsing(case: &Case) -> Result<(), &'static str> {
+    let mut input = Input::default();
+    for text in inputs(case) {
+        let (mut entries, mut image) = (vec![9; MOST_ENTRIES], vec![9; MOST_BYTES]);
+        let answer = ours::parse(&text, &mut entries, &mut image);
+        let told = match input.read(&text) {
+            Ok(()) => {
+                let counts = [input.entries.len() as i64, input.image.len() as i64];
+                Answer::new(Answer::DONE, &counts)
+            }
+            Err(line) => Answer::new(Answer::MALFORMED_INPUT, &[line as i64]),
+        };
+        same(answer == told, "parse")?;
+        if answer.done() {
+            let is_so = entries.starts_with(&input.entries) && image.starts_with(&input.image);
+            same(is_so, "parse")?;
+        }
+    }
+    Ok(())
+}
+
+/// The input of an image that is not too long, and changed ones.
+fn inputs(case: &Case) -> Vec<Vec<u8>> {
+    let mut inputs = vec![];
+    if !case.input.is_empty() {
+        inputs.push(case.input.clone());
+        let changed = CHANGES.iter().enumerate();
+        inputs.extend(changed.map(|(turn, byte)| changed_at(&case.input, turn, *byte)));
+    }
+    inputs
+}
+
+/// With another byte at a place.
+fn changed_at(text: &[u8], turn: usize, byte: u8) -> Vec<u8> {
+    let mut changed = text.to_vec();
+    changed[place(text, turn)] = byte;
+    changed
+}
+
+fn place(text: &[u8], turn: usize) -> usize {
+    (turn + 1) * 0x9E37_79B1 % text.len()
 }
 
 /// The listing gives the image and the traced positions back; changed, both readers say the same of it.
@@ -67,16 +100,27 @@ pub fn reading_back(case: &Case) -> Result<(), &'static str> {
         plain_back(&case.listing, length) == expected,
         "the plain read back",
     )?;
+    unlisting(&case.listing, length)?;
     for (turn, byte) in CHANGES.iter().enumerate() {
-        let at = (turn + 1) * 0x9E37_79B1 % case.listing.len();
-        let mut changed = case.listing.clone();
-        changed[at] = *byte;
+        let changed = changed_at(&case.listing, turn, *byte);
+        let at = place(&case.listing, turn);
         for text in [changed, twice(&case.listing, at)] {
             let ours = ours_back(&text, length);
             same(plain_back(&text, length) == ours, "a changed one read back")?;
+            unlisting(&text, length)?;
         }
     }
     Ok(())
+}
+
+/// By the program that unlists.
+fn unlisting(text: &[u8], length: usize) -> Result<(), &'static str> {
+    let mut room = vec![9; UNLISTED_ROOM];
+    let mut program = unlist::Program::default();
+    let printed = program.unlist(text, length);
+    let answer = ours::unlist_text(text, length as u32, &mut room);
+    let told = Answer::new(Answer::DONE, &[printed.len() as i64]);
+    same(answer == told && room.starts_with(printed), "unlist text")
 }
 
 /// With the line around a place twice.

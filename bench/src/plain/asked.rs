@@ -1,6 +1,6 @@
-//! What is asked of one position. As ours does, each function answers a number and values, and none is compiled into its caller: where
-//! there is little to do, the answer and the call are most of it. The marks may be anyone's, so those that look at them look at
-//! each one for damage first, as document 01 has it.
+//! What is asked of one position. As ours does, each function answers a number and values, and none is compiled into its
+//! caller: where there is little to do, the answer and the call are most of it. The marks may be anyone's who has no pins, so
+//! those that look at them look at each one for damage first, as document 01 has it.
 
 use super::damage::damaged;
 use super::forms::FORMS;

@@ -1,7 +1,7 @@
 //! Damaged marks.
 
 use super::forms::FORMS;
-use super::trace::{JMPF, PINNED, UNFOLLOWED, is_traced};
+use super::trace::{JMPF, PINNED, TRACED, UNFOLLOWED};
 
 /// The lowest position with a mark over 4, with a 3 off a Jmpf, or with a 2 or 3 on an instruction that the end cuts off.
 pub fn damaged(image: &[u8], marks: &[u8]) -> Option<usize> {
@@ -19,5 +19,6 @@ fn is_wrong(byte: u8, mark: u8) -> bool {
 }
 
 fn is_cut(image: &[u8], marks: &[u8], at: usize) -> bool {
-    is_traced(marks[at]) && at + FORMS[image[at] as usize].size as usize > image.len()
+    matches!(marks[at], TRACED | UNFOLLOWED)
+        && at + FORMS[image[at] as usize].size as usize > image.len()
 }

@@ -194,7 +194,7 @@ fn digit(text: &mut Vec<u8>, number: u32) {
     text.push(DIGITS[number as usize % 16]);
 }
 
-fn hex2(text: &mut Vec<u8>, byte: u8) {
+pub(super) fn hex2(text: &mut Vec<u8>, byte: u8) {
     digit(text, u32::from(byte) >> 4);
     digit(text, u32::from(byte));
 }

@@ -85,8 +85,9 @@ pub fn note(marks: &mut [u8], position: i64) -> bool {
     }
 }
 
+/// Of marks without pins.
 pub fn is_traced(mark: u8) -> bool {
-    matches!(mark, TRACED | UNFOLLOWED)
+    mark >= TRACED
 }
 
 /// Whether a Jmpf stands there after B8 0D, the first of which is traced.

@@ -5,12 +5,13 @@ use crate::cases::Case;
 use crate::clock::Sides;
 use crate::ours;
 use crate::plain::back::Reader;
-use crate::plain::list::Program;
+use crate::plain::input::Input;
 use crate::plain::listing::Lister;
 use crate::plain::trace::Tracer;
+use crate::plain::{list, unlist};
 use crate::rows::tracing::run;
 use compare::paper::Mode;
-use pottagewing::{IMAGE_LIMIT, PRINTED_ROOM};
+use pottagewing::{IMAGE_LIMIT, MOST_BYTES, MOST_ENTRIES, PRINTED_ROOM, UNLISTED_ROOM};
 use std::hint::black_box;
 use std::io::Write;
 use waterbear::disasm;
@@ -81,7 +82,7 @@ pub fn running_and_listing() -> Sides<'static, Case> {
 /// The original's program has another input.
 pub fn listing_text() -> Sides<'static, Case> {
     let mut room = vec![0; PRINTED_ROOM];
-    let mut program = Program::default();
+    let mut program = list::Program::default();
     [
         Some(Box::new(move |case| {
             black_box(ours::list_text(&case.input, &mut room));
@@ -89,6 +90,23 @@ pub fn listing_text() -> Sides<'static, Case> {
         None,
         Some(Box::new(move |case| {
             black_box(program.list(&case.input));
+        })),
+    ]
+}
+
+/// The original has no such input.
+pub fn parsing() -> Sides<'static, Case> {
+    let (mut entries, mut image) = (vec![0; MOST_ENTRIES], vec![0; MOST_BYTES]);
+    let mut input = Input::default();
+    [
+        Some(Box::new(move |case| {
+            let answer = ours::parse(&case.input, &mut entries, &mut image);
+            black_box((answer, &entries, &image));
+        })),
+        None,
+        Some(Box::new(move |case| {
+            let read = input.read(&case.input);
+            black_box((read.is_ok(), &input));
         })),
     ]
 }
@@ -111,6 +129,21 @@ pub fn reading_back() -> Sides<'static, Case> {
             let (image, marks) = (&mut plain_image[..length], &mut plain_marks[..length]);
             let answer = reader.read(&case.listing, image, marks);
             black_box((answer.is_ok(), image, marks));
+        })),
+    ]
+}
+
+pub fn unlisting() -> Sides<'static, Case> {
+    let mut room = vec![0; UNLISTED_ROOM];
+    let mut program = unlist::Program::default();
+    [
+        Some(Box::new(move |case| {
+            let length = case.image.len() as u32;
+            black_box(ours::unlist_text(&case.listing, length, &mut room));
+        })),
+        None,
+        Some(Box::new(move |case| {
+            black_box(program.unlist(&case.listing, case.image.len()));
         })),
     ]
 }

@@ -1,5 +1,6 @@
 //! The packed map. The original has none.
 
+use super::read;
 use crate::cases::Case;
 use crate::clock::Sides;
 use crate::ours;
@@ -50,14 +51,14 @@ pub fn testing() -> Sides<'static, Case> {
         Some(Box::new(|case| {
             let length = case.image.len() as u32;
             for at in 0..length {
-                black_box(ours::map_test(&case.map, length, at));
+                read::<1>(ours::map_test(&case.map, length, at));
             }
         })),
         None,
         Some(Box::new(|case| {
             let length = case.image.len();
             for at in 0..length {
-                black_box(asked::test(&case.map, length, at));
+                read::<1>(asked::test(&case.map, length, at));
             }
         })),
     ]

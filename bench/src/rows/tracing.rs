@@ -1,6 +1,6 @@
 //! Decoding and tracing.
 
-use super::MODE;
+use super::{MODE, read};
 use crate::cases::Case;
 use crate::clock::Sides;
 use crate::ours;
@@ -10,7 +10,7 @@ use crate::plain::sweep::Sweeper;
 use crate::plain::trace::Tracer;
 use compare::answer::Answer;
 use compare::paper::Mode;
-use pottagewing::IMAGE_LIMIT;
+use pottagewing::{IMAGE_LIMIT, VALUES};
 use std::hint::black_box;
 use waterbear::disasm::probe;
 use waterbear::instruction::Instr;
@@ -19,7 +19,7 @@ pub fn decoding() -> Sides<'static, Case> {
     [
         Some(Box::new(|case| {
             for at in 0..case.image.len() {
-                black_box(ours::decode(&case.image[at..]));
+                read::<VALUES>(ours::decode(&case.image[at..]));
             }
         })),
         Some(Box::new(|case| {
@@ -60,7 +60,7 @@ pub fn stepping() -> Sides<'static, Case> {
             let (image, marks) = (&case.image, &mut marks[..case.image.len()]);
             ours::start(image, marks, &case.entries, &[]);
             for at in &case.order {
-                black_box(ours::step(MODE, image, marks, *at));
+                read::<2>(ours::step(MODE, image, marks, *at));
             }
         })),
         None,
@@ -68,7 +68,7 @@ pub fn stepping() -> Sides<'static, Case> {
             let (image, marks) = (&case.image, &mut plain_marks[..case.image.len()]);
             steps::start(marks, &case.entries);
             for at in &case.order {
-                black_box(steps::step(image, marks, *at as usize));
+                read::<2>(steps::step(image, marks, *at as usize));
             }
         })),
     ]

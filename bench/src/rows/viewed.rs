@@ -110,6 +110,6 @@ pub fn running_over_data() -> Sides<'static, Case> {
 fn over_data(case: &Case, run: impl Fn(usize) -> Answer) {
     let mut at = 0;
     while at < case.image.len() {
-        at += black_box(run(at)).values[0].max(1) as usize;
+        at += black_box(run(at).values[0]).max(1) as usize;
     }
 }
