@@ -28,7 +28,7 @@ use Rattle.instruction.proofs.Shapes.{size-range}
 use Rattle.instruction.proofs.Sign.{never}
 use Rattle.targets.specs.Asked.{operandPlace}
 use Rattle.targets.specs.At.{placeOf}
-use Rattle.targets.specs.Naming.{isNaming}
+use Rattle.targets.specs.Opening.{isNaming}
 use Rattle.targets.specs.Targets.{inMode, addressOf, addressIn, byFlow, nextOf, targetsIn, targetsAnswer}
 use Rattle.targets.proofs.AskedAlone.{past-end, found}
 use Rattle.targets.proofs.AskedPlace.{past-memory, names}
