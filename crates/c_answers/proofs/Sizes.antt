@@ -1,12 +1,15 @@
 -- The numbers that the answers on instructions carry, sizes of 1 to 3 bytes and the position after one, fit a value of a reply.
 -- Assumes nothing.
 use mathlib.Core.Path.{_≡_, refl, sym}
+use mathlib.Core.Bool.{Bool, true, false}
 use mathlib.Core.List.{List, [], _∷_}
 use Prim.Native.Nat.{ℕ, _<_, _^_}
 use native.Mathlib.Omega.{arith}
+use borrow.Author.Tests.{ltb-true, ltb-false}
+use lib.Dec.{ltb}
 use lib.IntN.{ℤ, pos}
 use Rattle.instruction.specs.Encode.{formIn, encodedOf, encodeAnswer}
-use Rattle.instruction.specs.Forms.{sizeOf}
+use Rattle.instruction.specs.Forms.{formAt, sizeOf}
 use Rattle.instruction.specs.Parts.{partsOf}
 use Rattle.instruction.specs.declared.mode.Mode.{Mode}
 use Rattle.instruction.specs.declared.encode.Encoded.{Encoded}
@@ -14,6 +17,7 @@ use Rattle.instruction.specs.declared.encode.Encoded.the-variants.{Written, Unf
 use Rattle.instruction.specs.declared.instr.Instr.{Instr}
 use Rattle.instruction.proofs.Judging.{accepts}
 use Rattle.instruction.proofs.Known.{known}
+use Rattle.instruction.proofs.NoForm.{no-bytes}
 use Rattle.instruction.proofs.Shapes.{size-range}
 use Rattle.targets.specs.Targets.{nextOf, targetsOf, targetsAnswer}
 use Rattle.targets.specs.declared.target.Targets.{Targets}
@@ -21,8 +25,16 @@ use Rattle.targets.specs.declared.target.Targets.the-variants as targets
 use Rattle.c_answers.specs.CodecCounts.{lengthInEncoded, nextInTargets}
 use Rattle.instruction.proofs.Carried.{carries}
 
+-- a form has at most three bytes, and a number that no form has has none
+pub form-small : (k : ℕ) → sizeOf (formAt k) < 2 ^ 63
+form-small k = by (ltb k 70) refl
+  where
+    by : (b : Bool) → ltb k 70 ≡ b → sizeOf (formAt k) < 2 ^ 63
+    by true e = let h : sizeOf (formAt k) < 4 = size-range k (ltb-true k 70 e) .1 in omega arith
+    by false e = rw (no-bytes k (ltb-false k 70 e)) (omega arith)
+
 pub size-small : (i : Instr) → sizeOf (formIn i) < 2 ^ 63
-size-small i = let h : sizeOf (formIn i) < 4 = size-range (partsOf i .form) (known i .small) .1 in omega arith
+size-small i = form-small (partsOf i .form)
 
 -- refusal 11 of encode carries the size
 Needed : Instr → ℕ → List ℤ → Type 0

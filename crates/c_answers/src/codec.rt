@@ -10,12 +10,13 @@ use crate::codec_replies;
 use crate::reply::Reply;
 use instruction::Instr;
 use instruction::Mode;
+use instruction::Parts;
 
 // Accepted: form, size, three operands.
 pub fn decode(bytes: &[u8]) -> Reply
     ensures { λ r. ⌜ r ≡ replyOf instrValues (decodeAnswer (now (bytes .entry))) ⌝ }
 {
-    codec_replies::decoded(Instr::decode(bytes))
+    codec_replies::decoded(Parts::decode(bytes))
 }
 
 // Accepted: the number of bytes written.

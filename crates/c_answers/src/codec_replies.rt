@@ -1,35 +1,35 @@
 // The answers on instructions as replies: one function for each enum.
 ghost use mathlib.Core.Path.{_≡_};
 ghost use Prim.Native.Nat.{_<_, _^_};
-ghost use Rattle.instruction.specs.Decode.{decodedOf};
+ghost use Rattle.instruction.specs.Decode.{decodedPartsOf};
 ghost use Rattle.instruction.specs.Encode.{encodedOf};
 ghost use Rattle.instruction.specs.ResolveOperand.{misfitValues, whyOf};
 ghost use Rattle.instruction.specs.Resolve.{resolvedOf};
 ghost use Rattle.c_answers.specs.Reply.{reply, replyOf, countValues};
 ghost use Rattle.targets.specs.Targets.{targetsOf};
-ghost use Rattle.c_answers.specs.Codec.{instrValues, targetsValues};
+ghost use Rattle.c_answers.specs.Codec.{partsValues, instrValues, targetsValues};
 ghost use Rattle.c_answers.specs.CodecCounts.{lengthInEncoded, nextInTargets};
 use crate::reply::Reply;
-use instruction::Decoded;
+use instruction::DecodedParts;
 use instruction::Encoded;
 use instruction::Instr;
 use instruction::Misfit;
+use instruction::Parts;
 use instruction::Resolved;
 use instruction::Why;
 use targets::Targets;
 
+fn parts(v: Parts) -> Reply
+    ensures { λ r. ⌜ r ≡ reply 0 (partsValues v) ⌝ }
+{
+    let size = v.size() as i64;
+    Reply::new(0, v.form as i64, size, v.a as i64, v.b as i64, v.c as i64)
+}
+
 fn instr(i: Instr) -> Reply
     ensures { λ r. ⌜ r ≡ reply 0 (instrValues i) ⌝ }
 {
-    let v = i.apart();
-    Reply::new(
-        0,
-        v.form as i64,
-        i.size() as i64,
-        v.a as i64,
-        v.b as i64,
-        v.c as i64,
-    )
+    parts(i.apart())
 }
 
 fn misfit(m: Misfit) -> Reply
@@ -38,13 +38,13 @@ fn misfit(m: Misfit) -> Reply
     Reply::two(7, m.operand as i64, m.value as i64)
 }
 
-pub fn decoded(d: Decoded) -> Reply
-    ensures { λ r. ⌜ r ≡ replyOf instrValues (decodedOf d) ⌝ }
+pub fn decoded(d: DecodedParts) -> Reply
+    ensures { λ r. ⌜ r ≡ replyOf partsValues (decodedPartsOf d) ⌝ }
 {
     match d {
-        Decoded::Found(i) => instr(i),
-        Decoded::Nothing => Reply::one(12, 0),
-        Decoded::Cut(c) => Reply::cut(c),
+        DecodedParts::Found(v) => parts(v),
+        DecodedParts::Nothing => Reply::one(12, 0),
+        DecodedParts::Cut(c) => Reply::cut(c),
     }
 }
 

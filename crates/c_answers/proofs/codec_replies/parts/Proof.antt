@@ -1,43 +1,40 @@
--- `codec_replies::instr` meets its contract.
+-- `codec_replies::parts` meets its contract.
 -- Assumes nothing.
 use mathlib.Core.Path.{_∙_, ap}
 use borrow.Author.Needs.{needs}
 use lib.IntN.{pos}
 use mir.Facts.{toZ-pos}
 use mir.Syntax.{w64}
-use Rattle.instruction.specs.declared.instr.Parts.{Parts}
 use Rattle.c_answers.proofs.Told.{Read, told5}
 use Rattle.c_answers.proofs.Wider.{widened, wide-value}
-use Rattle.c_answers.proofs.Sizes.{size-small}
-use Rattle.c_answers.proofs.codec_replies.instr.Statement.{statement}
-use Rattle.c_answers.proofs.codec_replies.instr.Tie as tie
+use Rattle.c_answers.proofs.Sizes.{form-small}
+use Rattle.c_answers.proofs.codec_replies.parts.Statement.{statement}
+use Rattle.c_answers.proofs.codec_replies.parts.Tie as tie
+
+abbrev start : tie.After-struct-told → tie.Start
+start t = t .before .before .before .before
 
 -- the operands, read back
-abbrev parts : tie.After-struct-told → Parts
-parts t = t .before .before .before .before .apart .result
+read-a : (s : tie.Start) → Read (s .args .v .a)
+read-a s = search needs
 
-read-a : (t : tie.After-struct-told) → Read (parts t .a)
-read-a t = search needs
+read-b : (s : tie.Start) → Read (s .args .v .b)
+read-b s = search needs
 
-read-b : (t : tie.After-struct-told2) → Read (parts (t .before .before) .b)
-read-b t = search needs
-
-read-c : (t : tie.After-struct-told3) → Read (parts (t .before .before .before .before) .c)
-read-c t = search needs
+read-c : (s : tie.Start) → Read (s .args .v .c)
+read-c s = search needs
 
 returns : tie.Need-returns
 returns c =
-    let t3 = c .before in
-    let t2 = t3 .before .before in
-    let t1 = t2 .before .before in
-    let z = t1 .before .before in
-    let s = z .before .before in
-    let e = s .apart .ensures in
-    told5 (c .new .ensures) (toZ-pos w64 (search needs) ∙ ap (λ (u : Parts). pos (u .form)) e) (toZ-pos w64 (rw (z .size .ensures) (size-small (s .before .args .i))) ∙ ap pos (z .size .ensures))
-    (wide-value (read-a t1) ∙ ap (λ (u : Parts). u .a) e) (wide-value (read-b t2) ∙ ap (λ (u : Parts). u .b) e) (wide-value (read-c t3) ∙ ap (λ (u : Parts). u .c) e)
+    let t = c .before .before .before .before .before in
+    let s = start t in
+    let z = t .before .before .before in
+    told5 (c .new .ensures) (toZ-pos w64 (search needs)) (toZ-pos w64 (rw (z .size .ensures) (form-small (s .args .v .form))) ∙ ap pos (z .size .ensures))
+    (wide-value (read-a s)) (wide-value (read-b s)) (wide-value (read-c s))
 
-pub instr-spec : {M : Type 1} → statement M
-instr-spec =
+pub parts-spec : {M : Type 1} → statement M
+parts-spec =
     tie.close
-    (tie.spec (λ c κs. search needs) (λ c. search needs) (λ c κs. search needs) (λ c. record { sfits = rw (c .size .ensures) (size-small (c .before .before .before .args .i)) })
-    (λ c. widened (parts c .a)) (λ c. widened (parts (c .before .before) .b)) (λ c. widened (parts (c .before .before .before .before) .c)) (λ c κs. search needs) returns)
+    (tie.spec (λ c κs. search needs) (λ c. record { sfits = rw (c .size .ensures) (form-small (c .before .args .v .form)) }) (λ c. search needs)
+    (λ c. widened (start c .args .v .a)) (λ c. widened (start (c .before .before) .args .v .b)) (λ c. widened (start (c .before .before .before .before) .args .v .c))
+    (λ c κs. search needs) returns)
