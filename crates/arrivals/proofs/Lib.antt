@@ -1,5 +1,7 @@
 pub mod HeldTargets
-pub mod Nexts
+pub mod Lowest
+pub mod Namers
+pub mod Falls
 pub mod Entering
 pub mod Indexing
 pub mod Asking

@@ -1,20 +1,31 @@
--- The index answers as the plain definitions do. Document 01, 'Views'.
+-- Who arrives at p names it or goes on to it, and the index has those who name it. Document 01, 'Views'.
 -- Assumes nothing.
 use Prim.Native.Nat.{ℕ, _+_, _<_, _≤_}
-use mathlib.Core.Bool.{true}
+use mathlib.Core.Bool.{true, _||_}
 use mathlib.Core.List.{List}
 use mathlib.Core.Path.{_≡_}
-use lib.ListN.{length}
+use lib.ListN.{length, getD}
 use Rattle.instruction.specs.declared.mode.Mode.{Mode}
-use Rattle.arrivals.specs.Arrivals.{heldAt, arrives, nextArrival}
-use Rattle.arrivals.specs.Index.{indexOf, lowestIn, nextIn}
+use Rattle.arrivals.specs.Arrivals.{arrives}
+use Rattle.arrivals.specs.Index.{namesIt, namesHeld, fallsFrom, nextNamer, indexOf, firstIn, nextIn}
+
+-- of an image of bytes within its limit
+abbrev pub OfBytes : List ℕ → Type 0
+OfBytes image = ((i : ℕ) → getD image i 0 < 256) × (length image ≤ 65536)
 
 -- at every position of the image
-abbrev pub FirstIndexed : Type 0
-FirstIndexed = (mode : Mode) (image m : List ℕ) (p : ℕ) → p < length image → lowestIn (indexOf mode image m) p ≡ nextArrival mode image m p 0
+abbrev pub ArrivesTwoWays : Type 0
+ArrivesTwoWays =
+    (mode : Mode) (image m : List ℕ) (p q : ℕ) → OfBytes image → p < length image
+    → arrives mode image m p q ≡ (namesHeld mode image m p q || fallsFrom mode image m p q)
 
--- after every q that arrives at p
+abbrev pub FirstIndexed : Type 0
+FirstIndexed =
+    (mode : Mode) (image m : List ℕ) (p : ℕ) → OfBytes image → p < length image
+    → firstIn (indexOf mode image m) p ≡ nextNamer mode image m p 0
+
+-- after every q that names p
 abbrev pub NextIndexed : Type 0
 NextIndexed =
-    (mode : Mode) (image m : List ℕ) (p q : ℕ) → length image ≤ 65536 → q < length image → arrives mode image m p q ≡ true
-    → nextIn (indexOf mode image m) (length image) (heldAt mode image m q) p q ≡ nextArrival mode image m p (q + 1)
+    (mode : Mode) (image m : List ℕ) (p q : ℕ) → OfBytes image → q < length image → namesIt mode image m p q ≡ true
+    → nextIn (indexOf mode image m) q ≡ nextNamer mode image m p (q + 1)

@@ -1,4 +1,4 @@
--- An index on its way: serves inner functions alone.
+-- Of inner functions: an index on its way.
 -- Assumes nothing.
 use Prim.Native.Nat.{ℕ, _+_, _*_, _<_}
 use mathlib.Core.Bool.{Bool, cond}
@@ -7,8 +7,7 @@ use mathlib.Core.Path.{_≡_}
 use lib.Dec.{ltb}
 use lib.ListN.{length, getD, set}
 use Rattle.instruction.specs.declared.mode.Mode.{Mode}
-use Rattle.arrivals.specs.Arrivals.{nextArrival}
-use Rattle.arrivals.specs.Index.{afterBy}
+use Rattle.arrivals.specs.Index.{nextNamer, linkOf, cellOf}
 
 -- v stands at a place, if so it shall be
 abbrev pub placed : Bool → ℕ → ℕ → List ℕ → List ℕ
@@ -24,7 +23,6 @@ headed n t q index = placed (ltb t n) t q index
 
 -- the positions from k on are entered, and no others
 pub record Entered (mode : Mode) (image m : List ℕ) (k : ℕ) (index : List ℕ) : Type 0 where
-  pub long : length index ≡ 3 * length image
-  pub head : (p : ℕ) → p < length image → getD index p 0 ≡ nextArrival mode image m p k
-  pub one : (q : ℕ) → q < length image → getD index (length image + q) 0 ≡ cond (ltb q k) 65536 (afterBy mode image m 0 q)
-  pub two : (q : ℕ) → q < length image → getD index (2 * length image + q) 0 ≡ cond (ltb q k) 65536 (afterBy mode image m 1 q)
+  pub long : length index ≡ 2 * length image
+  pub head : (p : ℕ) → p < length image → getD index p 0 ≡ cellOf (nextNamer mode image m p k)
+  pub link : (q : ℕ) → q < length image → getD index (length image + q) 0 ≡ cond (ltb q k) 65535 (cellOf (linkOf mode image m q))

@@ -1,44 +1,80 @@
--- Of the index that the listing alone asks: at each position the lowest arrival, and for each position the next after it at either of its
--- targets. A reader need not believe how its cells stand: ClaimsIndex.antt says that it answers as document 01's 'Views' does.
+-- Of inner functions: what the listing asks of arrivals. An index has at each position the lowest traced position that names it, and for
+-- each traced position the next that names the same; control that goes on to the position behind needs none, since it comes from at most
+-- three bytes before. A reader need not believe how the cells stand: ClaimsIndex.antt says that both together are document 01's arrivals.
 -- Assumes nothing.
-use Prim.Native.Nat.{ℕ, _+_, _*_}
-use mathlib.Core.Bool.{Bool, cond, _&&_}
+use Prim.Native.Nat.{ℕ, _+_, _-_, _*_, _/_}
+use mathlib.Core.Bool.{Bool, cond, not, _&&_}
 use mathlib.Core.List.{List, _++_, map}
 use lib.Dec.{eqb, leb, ltb}
 use lib.ListN.{length, getD}
 use Rattle.instruction.specs.declared.mode.Mode.{Mode}
-use Rattle.views.specs.Positions.{positions}
-use Rattle.arrivals.specs.Arrivals.{heldAt, nextArrival}
+use Rattle.targets.specs.Ways.{nameOf, fallsTo}
+use Rattle.reach.specs.Mark.{flash}
+use Rattle.views.specs.Positions.{upFrom, positions, kept, tracedAt}
+use Rattle.arrivals.specs.Arrivals.{firstOr}
 
--- the first target that q had is number 0, the second number 1; where it had none, 65,536, which is outside every image
-abbrev pub targetOf : Mode → List ℕ → List ℕ → ℕ → ℕ → ℕ
-targetOf mode image m j q = getD (heldAt mode image m q) j 65536
+-- the lowest position from k on, of those below n, that passes a test; where there is none 65,536, which is outside every image
+unfoldable pub lowestOf : (ℕ → Bool) → ℕ → ℕ → ℕ
+lowestOf f n k = firstOr 65536 (kept f (upFrom (n - k) k))
 
--- the lowest arrival after q where q went by its target number j
-unfoldable pub afterBy : Mode → List ℕ → List ℕ → ℕ → ℕ → ℕ
-afterBy mode image m j q = nextArrival mode image m (targetOf mode image m j q) (q + 1)
+-- what q names, if it is traced
+unfoldable pub nameAt : Mode → List ℕ → List ℕ → ℕ → ℕ
+nameAt mode image m q = cond (tracedAt image m q) (nameOf mode image q) 65536
 
--- of all positions: the lowest arrivals, the next by the first target, the next by the second
+-- p is inside, and q names it
+unfoldable pub namesIt : Mode → List ℕ → List ℕ → ℕ → ℕ → Bool
+namesIt mode image m p q = ltb p (length image) && eqb p (nameAt mode image m q)
+
+-- no mark 3 stands at q: it had the targets that its instruction has
+abbrev pub isHeld : List ℕ → ℕ → Bool
+isHeld m q = not (eqb (getD m q 0) flash)
+
+-- q names p and had it among its targets
+unfoldable pub namesHeld : Mode → List ℕ → List ℕ → ℕ → ℕ → Bool
+namesHeld mode image m p q = namesIt mode image m p q && isHeld m q
+
+-- control went on from q to p, right behind it
+unfoldable pub fallsFrom : Mode → List ℕ → List ℕ → ℕ → ℕ → Bool
+fallsFrom mode image m p q = (tracedAt image m q && isHeld m q) && fallsTo mode image q p
+
+-- the lowest of each from k on
+abbrev pub nextNamer : Mode → List ℕ → List ℕ → ℕ → ℕ → ℕ
+nextNamer mode image m p k = lowestOf (namesIt mode image m p) (length image) k
+
+abbrev pub nextHeld : Mode → List ℕ → List ℕ → ℕ → ℕ → ℕ
+nextHeld mode image m p k = lowestOf (namesHeld mode image m p) (length image) k
+
+abbrev pub nextFall : Mode → List ℕ → List ℕ → ℕ → ℕ → ℕ
+nextFall mode image m p k = lowestOf (fallsFrom mode image m p) (length image) k
+
+-- a position as a cell of 16 bits: 65,535 stands for none, since the last position of memory names nothing
+abbrev pub cellOf : ℕ → ℕ
+cellOf q = cond (ltb q 65535) q 65535
+
+-- what a cell says
+abbrev pub cellSays : ℕ → ℕ
+cellSays v = cond (ltb v 65535) v 65536
+
+-- the next after q that names what q names
+abbrev pub linkOf : Mode → List ℕ → List ℕ → ℕ → ℕ
+linkOf mode image m q = nextNamer mode image m (nameAt mode image m q) (q + 1)
+
+-- of all positions: the lowest that name them, then the next after each
 unfoldable pub indexOf : Mode → List ℕ → List ℕ → List ℕ
 indexOf mode image m =
-    map (λ (p : ℕ). nextArrival mode image m p 0) (positions image)
-    ++ (map (afterBy mode image m 0) (positions image) ++ map (afterBy mode image m 1) (positions image))
+    map (λ (p : ℕ). cellOf (nextNamer mode image m p 0)) (positions image) ++ map (λ (q : ℕ). cellOf (linkOf mode image m q)) (positions image)
 
 -- a room of the index's own length, of an image that is not past its limit
 abbrev pub isIndexRoom : List ℕ → List ℕ → Bool
-isIndexRoom image room = leb (length image) 65536 && eqb (length room) (3 * length image)
+isIndexRoom image room = leb (length image) 65536 && eqb (length room) (2 * length image)
 
 -- the index is put into such a room, and nothing into another
 unfoldable pub roomOf : Mode → List ℕ → List ℕ → List ℕ → List ℕ
 roomOf mode image m room = cond (isIndexRoom image room) (indexOf mode image m) room
 
--- what is asked of an index: the lowest arrival at p
-abbrev pub lowestIn : List ℕ → ℕ → ℕ
-lowestIn index p = getD index p 65536
+-- what is asked of an index: the lowest that names p, and the next after q that names the same
+abbrev pub firstIn : List ℕ → ℕ → ℕ
+firstIn index p = cellSays (getD index p 65535)
 
--- the next at p after q in an image of n bytes, by the targets that q had; none past the limit
-unfoldable pub nextIn : List ℕ → ℕ → List ℕ → ℕ → ℕ → ℕ
-nextIn index n held p q =
-    cond (ltb 65536 n) 65536
-    (cond (eqb p (getD held 0 65536)) (getD index (n + q) 65536)
-    (cond (eqb p (getD held 1 65536)) (getD index (2 * n + q) 65536) 65536))
+abbrev pub nextIn : List ℕ → ℕ → ℕ
+nextIn index q = cellSays (getD index (length index / 2 + q) 65535)

@@ -14,6 +14,7 @@ use Rattle.instruction.specs.declared.mode.Mode.{Mode}
 use Rattle.views.specs.View.{Sound, viewRoom}
 use Rattle.views.proofs.Viewing.{Is, small, shown-as, no-room-for}
 use Rattle.views.specs.Labels.{labelsOf}
+use Rattle.views.proofs.Labelling.{labels-length}
 use Rattle.views.specs.Mask.{maskOf}
 use Rattle.arrivals.specs.Index.{indexOf}
 use Rattle.arrivals.proofs.Indexing.{index-length}
@@ -33,14 +34,9 @@ in-front image m s out e room f t g =
 pub long-enough : (l out : List ℕ) (n : ℕ) → take n l ≡ out → length out ≡ n → n ≤ length l
 long-enough l out n e f = omega (arith, length-take n l, ap length e ∙ f)
 
--- the part of a room that a walk is lent
+-- the part of a room that is lent
 pub part-is : (l out : List ℕ) (n : ℕ) → take n l ≡ out → take (n - 0) (drop 0 l) ≡ out
 part-is l out n e = let f : n - 0 ≡ n = omega arith in ap (λ (k : ℕ). take k l) f ∙ e
-
--- the walk over them is the listing
-pub is-text : (mode : Mode) (image m labels : List ℕ) (chosen : Bool) → labels ≡ labelsOf mode image m → walk mode image m (maskOf image m) labels chosen (length image) 0 0 ≡ textOf mode image m chosen
-unfolding textOf
-is-text mode image m labels chosen e = rw e
 
 pub is-listing : (mode : Mode) (image m : List ℕ) (choice : Arrivals) (chosen : Bool) → chosen ≡ isChosen choice → textOf mode image m chosen ≡ listingOf mode image m choice
 unfolding textOf listingOf
@@ -74,3 +70,12 @@ index-text mode image m index e = by (isLent index) refl
 -- what is answered of a text is answered of one that is the same
 pub same-text : (image m room : List ℕ) {s t : List ℕ} → s ≡ t → {r : Answer ℕ} {new : List ℕ} → Is image m s room r new → Is image m t room r new
 same-text image m room e {r} {new} h = subst (λ (x : List ℕ). Is image m x room r new) e h
+
+-- where such an index has no cells there are no positions, and no target marks
+pub no-labels : (mode : Mode) (image m index : List ℕ) → index ≡ indexOf mode image m → isLent index ≡ false → [] ≡ labelsOf mode image m
+no-labels mode image m index e f =
+    empty (labelsOf mode image m) (omega (arith, ltb-false 0 (length index) f, ap length e, index-length mode image m, labels-length mode image m))
+  where
+    empty : (l : List ℕ) → length l ≡ 0 → [] ≡ l
+    empty [] h = refl
+    empty (x ∷ l) h = absurd (omega arith)

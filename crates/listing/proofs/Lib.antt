@@ -6,6 +6,7 @@ pub mod Lining
 pub mod Alone
 pub mod Opened
 pub mod Walking
+pub mod Chaining
 pub mod Answering
 pub mod Example
 pub mod LineWidths

@@ -16,7 +16,8 @@ use Rattle.views.specs.Positions.{upFrom}
 use Rattle.views.specs.DataRun.{isData, leading, runLength, dataRun}
 use Rattle.views.specs.Mask.{maskOf}
 use Rattle.views.proofs.DataRuns.{data-inside, leading-in}
-use Rattle.listing.specs.Lent.{runAt}
+use Rattle.views.specs.Labels.{labelsOf}
+use Rattle.listing.specs.Lent.{runAt, textOf}
 use Rattle.listing.specs.Lines.{dataLine}
 use Rattle.listing.specs.Walk.{codeLines, linesAt, passed, walk}
 
@@ -103,9 +104,6 @@ module _ (mode : Mode) (image m mask labels : List ℕ) (chosen : Bool) where
   abbrev pub leftAt : ℕ → List ℕ
   leftAt p = from (length image - p) p 0
 
-  pub left-start : leftAt 0 ≡ walk mode image m mask labels chosen (length image) 0 0
-  left-start = let e : length image - 0 ≡ length image = omega arith in ap (λ (n : ℕ). from n 0 0) e
-
   pub left-next : (p s : ℕ) → p < length image → s ≡ 1 + passed image m mask p → leftAt p ≡ linesAt mode image m mask labels chosen p ++ leftAt (p + s)
   left-next p s h e =
       let j : ℕ = passed image m mask p in
@@ -120,3 +118,10 @@ module _ (mode : Mode) (image m mask labels : List ℕ) (chosen : Bool) where
   pub left-end : (p : ℕ) → length image ≤ p → leftAt p ≡ []
   unfolding walk
   left-end p h = let e : length image - p ≡ 0 = omega arith in ap (λ (n : ℕ). from n p 0) e
+
+-- at the start it is the listing
+pub left-text : (mode : Mode) (image m : List ℕ) (chosen : Bool) → leftAt mode image m (maskOf image m) (labelsOf mode image m) chosen 0 ≡ textOf mode image m chosen
+unfolding textOf
+left-text mode image m chosen =
+    let e : length image - 0 ≡ length image = omega arith in
+    ap (λ (n : ℕ). walk mode image m (maskOf image m) (labelsOf mode image m) chosen n 0 0) e

@@ -22,6 +22,8 @@ use Rattle.targets.proofs.Within.{Small, form-here, form-is, size-short}
 use Rattle.reach.specs.Mark.{tracedMark}
 use Rattle.views.specs.Positions.{upFrom, kept, tracedAt}
 use Rattle.views.proofs.Kept.{kept-few}
+use Rattle.views.specs.Labels.{labelsOf}
+use Rattle.views.specs.Mask.{maskOf}
 use Rattle.views.specs.DataRun.{leading, isData, runLength, dataRun}
 use Rattle.arrivals.specs.Arrivals.{arrivalsOf}
 use Rattle.views.specs.Overlaps.{fromBefore, overlapsOf}
@@ -29,6 +31,7 @@ use Rattle.arrivals.proofs.Counting.{total, total-same, arrivals-few}
 use Rattle.listing.specs.Hex.{hex4, hexes}
 use Rattle.listing.specs.Line.{fieldsText}
 use Rattle.listing.specs.Lines.{labelLine, foundLine, overlapLine, arrivalLine, instrText, hereLine, codeBy, codeLine, dataLine, allZero}
+use Rattle.listing.specs.Lent.{textOf}
 use Rattle.listing.specs.Walk.{codeLines, linesAt, passed, walk}
 use Rattle.listing.proofs.Hexing.{hex4-length, hexes-length}
 use Rattle.listing.proofs.Lining.{label-length}
@@ -161,3 +164,7 @@ module _ (mode : Mode) (image m : List ℕ) (B : Small image) where
       omega (arith, walk-width true arrivedMost arrived-width mask labels (length image) 0 0, total-line f (length image) 0, arrivals-few mode image m (length image) 0)
   all-width mask labels false =
       omega (arith, walk-width false (λ (p : ℕ). 0) (λ p. omega arith) mask labels (length image) 0 0, total-same 0 (length image) 0)
+
+  pub text-width : (chosen : Bool) → length (textOf mode image m chosen) ≤ cond chosen 77 60 * length image
+  unfolding textOf
+  text-width chosen = all-width (maskOf image m) (labelsOf mode image m) chosen

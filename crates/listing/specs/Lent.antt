@@ -1,7 +1,7 @@
 -- What inner functions are lent: serves them alone.
 -- Assumes nothing.
 use Prim.Native.Nat.{ℕ}
-use mathlib.Core.Bool.{Bool, true, cond}
+use mathlib.Core.Bool.{Bool, true, false, cond}
 use mathlib.Core.List.{List, []}
 use mathlib.Core.Path.{_≡_}
 use lib.Dec.{eqb, ltb}
@@ -26,6 +26,10 @@ isLent index = ltb 0 (length index)
 -- any other is the index of this image and these marks
 abbrev pub Indexed : Mode → List ℕ → List ℕ → List ℕ → Type 0
 Indexed mode image m index = isLent index ≡ true → index ≡ indexOf mode image m
+
+-- target marks are lent where no index is
+abbrev pub Labelled : Mode → List ℕ → List ℕ → List ℕ → List ℕ → Type 0
+Labelled mode image m labels index = isLent index ≡ false → labels ≡ labelsOf mode image m
 
 -- the listing, with arrivals or without
 unfoldable pub textOf : Mode → List ℕ → List ℕ → Bool → List ℕ

@@ -1,4 +1,5 @@
 // The listing: what stands at each position of an image, as tabbed text.
+mod chain;
 pub mod code;
 pub mod hex;
 mod lines;

@@ -10,15 +10,16 @@ ghost use Rattle.instruction.specs.Answer.{accepted};
 ghost use Rattle.instruction.specs.Decode.{decodeAnswer, partsAnswer};
 ghost use Rattle.instruction.specs.Parts.{madeOf};
 ghost use Rattle.targets.specs.Here.{hereOf};
-ghost use Rattle.arrivals.specs.Arrivals.{arrivalsOf, nextArrival};
+ghost use Rattle.arrivals.specs.Arrivals.{arrivalsOf};
 ghost use Rattle.views.specs.Overlaps.{overlapsIn, overlapsOf};
-ghost use Rattle.arrivals.specs.Index.{indexOf};
+ghost use Rattle.arrivals.specs.Index.{indexOf, nextHeld, nextFall};
 ghost use Rattle.listing.specs.Alone.{textOf};
 ghost use Rattle.listing.specs.Hex.{hex4};
 ghost use Rattle.listing.specs.Lent.{isLent, Indexed};
 ghost use Rattle.listing.specs.Line.{fieldsText};
 ghost use Rattle.listing.specs.Lines.{labelLine, overlapLine, arrivalLine, instrText, hereLine, allZero, dataLine};
 ghost use Rattle.text.specs.Puts.{Puts};
+use crate::chain;
 use crate::operands;
 use crate::put;
 use instruction::DecodedParts;
@@ -89,38 +90,45 @@ pub fn put_overlaps(image: &[u8], marks: &[u8], out: &mut [u8], at: usize, p: u3
     put_found(out, a, o)
 }
 
-// The arrivals at p from the first of them on as fields, and the end of the line.
+// The arrivals at p as fields, and the end of the line, by the lowest that names it and the lowest from which control goes on to it.
 fn put_arrived(
     mode: Mode,
     image: &[u8],
     marks: &[u8],
-    index: &[u32],
+    index: &[u16],
     out: &mut [u8],
     at: usize,
     p: u32,
-    first: u32,
+    named: u32,
+    falls: u32,
 ) -> usize
-    requires { ⌜ (at < 2 ^ 55) × (length (now image) ≤ 65536) × (now index ≡ indexOf mode (now image) (now marks))
-        × (first ≡ nextArrival mode (now image) (now marks) p 0) ⌝ }
-    ensures { λ r. ⌜ Puts (fieldsText (map hex4 (arrivalsOf mode (now (image .entry)) (now (marks .entry)) p))) at (now (out .entry)) (now (out .exit)) r ⌝ }
+    requires { ⌜ (at < 2 ^ 55) × (length (now image) ≤ 65536) × (now index ≡ indexOf mode (now image) (now marks)) × (p < length (now image))
+        × (named ≡ nextHeld mode (now image) (now marks) p 0) × (falls ≡ nextFall mode (now image) (now marks) p 0) ⌝ }
+    ensures { λ r. ⌜ Puts
+        (fieldsText (map hex4 (arrivalsOf mode (now (image .entry)) (now (marks .entry)) p)))
+        at (now (out .entry)) (now (out .exit)) r ⌝ }
     ensures { λ r. ⌜ r ≤ at + 327681 ⌝ }
 {
     let n = image.len() as u32;
     let mut a = at;
-    let mut q = first;
+    let mut c = named;
+    let mut f = falls;
+    let mut q = chain::lower(c, f);
     while q < n {
         a = put::put_place(out, a, q);
-        q = arrivals::next(mode, index, image, marks, p, q);
+        c = chain::held_past(mode, image, marks, index, p, c, q);
+        f = chain::fall_past(mode, image, marks, p, f, q);
+        q = chain::lower(c, f);
     }
     put::put_byte(out, a, b'\n')
 }
 
-// `A`, where an index of the arrivals is lent and there are any.
+// `A`, where an index is lent and there are any arrivals.
 pub fn put_arrivals(
     mode: Mode,
     image: &[u8],
     marks: &[u8],
-    index: &[u32],
+    index: &[u16],
     out: &mut [u8],
     at: usize,
     p: u32,
@@ -135,11 +143,13 @@ pub fn put_arrivals(
         return at;
     }
     let first = arrivals::first(index, p);
-    if image.len() <= first as usize {
+    let named = chain::held_from(mode, image, marks, index, p, first);
+    let falls = arrivals::next_fall(mode, image, marks, p, 0);
+    if image.len() <= chain::lower(named, falls) as usize {
         return at;
     }
     let a = put::put_start(out, at, b'A', p);
-    put_arrived(mode, image, marks, index, out, a, p, first)
+    put_arrived(mode, image, marks, index, out, a, p, named, falls)
 }
 
 // `I`, of the parts that decode answers of these bytes.

@@ -10,9 +10,9 @@ pub fn bytes() -> [u8; Image::LIMIT]
     [0; Image::LIMIT]
 }
 
-// Three cells for each.
-pub fn cells() -> [u32; 196_608]
-    ensures { λ r. ⌜ 196608 ≡ length r ⌝ }
+// Two cells for each.
+pub fn cells() -> [u16; 131_072]
+    ensures { λ r. ⌜ 131072 ≡ length r ⌝ }
 {
-    [0; 196_608]
+    [0; 131_072]
 }

@@ -1,12 +1,14 @@
-// The walk: upward by position. An index of no cells is lent where arrivals are declined.
+// The walk: upward by position. An index of no cells is lent where arrivals are declined, and target marks only there.
 ghost use mathlib.Core.Path.{_≡_};
 ghost use mathlib.Core.Bool.{cond};
 ghost use Prim.Native.Nat.{_+_, _-_, _^_, _≤_, _<_};
-ghost use lib.ListN.{length};
+ghost use lib.ListN.{length, getD};
+ghost use Rattle.views.specs.Labels.{labelsOf};
 ghost use Rattle.views.specs.Mask.{maskOf};
-ghost use Rattle.listing.specs.Lent.{isLent, Indexed, runAt};
+ghost use Rattle.listing.specs.Lent.{isLent, Indexed, Labelled, runAt, textOf};
 ghost use Rattle.text.specs.Puts.{Puts, Needed};
-ghost use Rattle.listing.specs.Walk.{codeLines, linesAt, walk};
+ghost use Rattle.listing.specs.Walk.{codeLines, linesAt};
+use crate::chain;
 use crate::lines;
 use instruction::Mode;
 use marks::Mark;
@@ -17,25 +19,38 @@ const MOST: usize = 60;
 // And with them, all positions taken together.
 const MOST_WITH: usize = 77;
 
+// The target mark of a position: from the index where one is lent.
+fn label_at(mode: Mode, image: &[u8], marks: &[u8], labels: &[u8], index: &[u16], p: u32) -> u8
+    requires { ⌜ (length (now image) ≤ 65536) × (p < length (now image)) × Labelled mode (now image) (now marks) (now labels) (now index)
+        × Indexed mode (now image) (now marks) (now index) ⌝ }
+    ensures { λ r. ⌜ r ≡ getD (labelsOf mode (now (image .entry)) (now (marks .entry))) p 0 ⌝ }
+{
+    if index.len() == 0 {
+        return labels[p as usize];
+    }
+    chain::is_labelled(mode, image, marks, index, p) as u8
+}
+
 // The lines of a traced position.
 fn put_code(
     mode: Mode,
     image: &[u8],
     marks: &[u8],
     labels: &[u8],
-    index: &[u32],
+    index: &[u16],
     out: &mut [u8],
     at: usize,
     p: u32,
 ) -> usize
-    requires { ⌜ (at < 2 ^ 52) × (length (now image) ≤ 65536) × (p < length (now labels)) × (p < length (now image))
-        × Indexed mode (now image) (now marks) (now index) ⌝ }
+    requires { ⌜ (at < 2 ^ 52) × (length (now image) ≤ 65536) × (p < length (now image))
+        × Labelled mode (now image) (now marks) (now labels) (now index) × Indexed mode (now image) (now marks) (now index) ⌝ }
     ensures { λ r. ⌜ Puts
-        (codeLines mode (now (image .entry)) (now (marks .entry)) (now (labels .entry)) (isLent (now (index .entry))) p)
+        (codeLines mode (now (image .entry)) (now (marks .entry)) (labelsOf mode (now (image .entry)) (now (marks .entry)))
+        (isLent (now (index .entry))) p)
         at (now (out .entry)) (now (out .exit)) r ⌝ }
     ensures { λ r. ⌜ r ≤ at + 2 ^ 22 ⌝ }
 {
-    let a = lines::put_label(out, at, p, labels[p as usize]);
+    let a = lines::put_label(out, at, p, label_at(mode, image, marks, labels, index, p));
     let b = lines::put_overlaps(image, marks, out, a, p);
     let c = lines::put_arrivals(mode, image, marks, index, out, b, p);
     lines::put_here(mode, image, out, c, p)
@@ -47,17 +62,18 @@ fn put_at(
     image: &[u8],
     marks: &[u8],
     labels: &[u8],
-    index: &[u32],
+    index: &[u16],
     run: &[u8],
     out: &mut [u8],
     at: usize,
     p: u32,
 ) -> usize
-    requires { ⌜ (at < 2 ^ 52) × (length (now image) ≤ 65536) × (p < length (now labels)) × (p < length (now marks))
-        × (p < length (now image)) × (now run ≡ runAt (now image) (now marks) p) × Indexed mode (now image) (now marks) (now index) ⌝ }
+    requires { ⌜ (at < 2 ^ 52) × (length (now image) ≤ 65536) × (p < length (now marks)) × (p < length (now image))
+        × (now run ≡ runAt (now image) (now marks) p)
+        × Labelled mode (now image) (now marks) (now labels) (now index) × Indexed mode (now image) (now marks) (now index) ⌝ }
     ensures { λ r. ⌜ Puts
         (linesAt mode (now (image .entry)) (now (marks .entry)) (maskOf (now (image .entry)) (now (marks .entry)))
-        (now (labels .entry)) (isLent (now (index .entry))) p)
+        (labelsOf mode (now (image .entry)) (now (marks .entry))) (isLent (now (index .entry))) p)
         at (now (out .entry)) (now (out .exit)) r ⌝ }
     ensures { λ r. ⌜ r ≤ at + 2 ^ 22 ⌝ }
 {
@@ -83,14 +99,13 @@ pub fn put_walk(
     image: &[u8],
     marks: &[u8],
     labels: &[u8],
-    index: &[u32],
+    index: &[u16],
     out: &mut [u8],
 ) -> usize
     requires { ⌜ (length (now image) ≤ 65536) × (length (now image) ≤ length (now marks))
-        × (length (now labels) ≡ length (now image)) × Indexed mode (now image) (now marks) (now index) ⌝ }
+        × Labelled mode (now image) (now marks) (now labels) (now index) × Indexed mode (now image) (now marks) (now index) ⌝ }
     ensures { λ r. ⌜ Puts
-        (walk mode (now (image .entry)) (now (marks .entry)) (maskOf (now (image .entry)) (now (marks .entry)))
-        (now (labels .entry)) (isLent (now (index .entry))) (length (now (image .entry))) 0 0)
+        (textOf mode (now (image .entry)) (now (marks .entry)) (isLent (now (index .entry))))
         0 (now (out .entry)) (now (out .exit)) r ⌝ }
 {
     let n = image.len();
@@ -106,7 +121,7 @@ pub fn put_walk(
     at
 }
 
-fn most(index: &[u32]) -> usize
+fn most(index: &[u16]) -> usize
     ensures { λ r. ⌜ r ≡ cond (isLent (now (index .entry))) 77 60 ⌝ }
 {
     if index.len() == 0 {
@@ -121,14 +136,13 @@ pub fn needed(
     image: &[u8],
     marks: &[u8],
     labels: &[u8],
-    index: &[u32],
+    index: &[u16],
     room: usize,
 ) -> usize
     requires { ⌜ (length (now image) ≤ 65536) × (length (now image) ≤ length (now marks))
-        × (length (now labels) ≡ length (now image)) × Indexed mode (now image) (now marks) (now index) ⌝ }
+        × Labelled mode (now image) (now marks) (now labels) (now index) × Indexed mode (now image) (now marks) (now index) ⌝ }
     ensures { λ r. ⌜ Needed
-        (walk mode (now (image .entry)) (now (marks .entry)) (maskOf (now (image .entry)) (now (marks .entry)))
-        (now (labels .entry)) (isLent (now (index .entry))) (length (now (image .entry))) 0 0)
+        (textOf mode (now (image .entry)) (now (marks .entry)) (isLent (now (index .entry))))
         room r ⌝ }
 {
     let most = most(index) * image.len();

@@ -13,7 +13,7 @@ use Rattle.arrivals.proofs.index_fill.blank.Tie as tie
 
 -- the first i cells blank, and the rest as it was
 abbrev front : ℕ → List ℕ → List ℕ
-front i index = replicate i 65536 ++ drop i index
+front i index = replicate i 65535 ++ drop i index
 
 abbrev Inv-loop : tie.InvT-loop
 Inv-loop index₀ i₀ index i = (i ≤ length index₀) × (length index ≡ length index₀) × (index ≡ front i index₀)
@@ -21,15 +21,15 @@ Inv-loop index₀ i₀ index i = (i ≤ length index₀) × (length index ≡ le
 abbrev μ-loop : tie.MeasureT-loop
 μ-loop index₀ i₀ index i = length index₀ - i
 
-whole : (index : List ℕ) → front (length index) index ≡ replicate (length index) 65536
-whole index = ap (λ (l : List ℕ). replicate (length index) 65536 ++ l) (drop-length index) ∙ append-nil (replicate (length index) 65536)
+whole : (index : List ℕ) → front (length index) index ≡ replicate (length index) 65535
+whole index = ap (λ (l : List ℕ). replicate (length index) 65535 ++ l) (drop-length index) ∙ append-nil (replicate (length index) 65535)
 
 loop-again : tie.Need-loop-again Inv-loop μ-loop
 loop-again c =
     let l = c .before in
     let v = l .loop .inv in
     let h : l .loop .i < length (l .before .args .index .now) = omega (arith, v .1, c .loop-test .taken) in
-    (omega arith, simp length-set (v .1), rw (v .2) (fill-more (l .loop .i) 65536 (l .before .args .index .now) h))
+    (omega arith, simp length-set (v .1), rw (v .2) (fill-more (l .loop .i) 65535 (l .before .args .index .now) h))
 
 returns : tie.Need-returns Inv-loop μ-loop
 returns c =
@@ -44,7 +44,7 @@ blank-spec =
     (tie.spec
     Inv-loop
     μ-loop
-    (λ c. (omega arith, refl, fill-none _ 65536))
+    (λ c. (omega arith, refl, fill-none _ 65535))
     (λ c. search needs)
     (λ c. search needs)
     (λ c. search needs)

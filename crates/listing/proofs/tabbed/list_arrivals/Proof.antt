@@ -11,7 +11,7 @@ use Rattle.instruction.specs.declared.mode.Mode.{Mode}
 use Rattle.views.proofs.Viewing.{small}
 use Rattle.arrivals.specs.Index.{indexOf}
 use Rattle.arrivals.proofs.Indexing.{own-room}
-use Rattle.listing.proofs.Answering.{index-text, same-text}
+use Rattle.listing.proofs.Answering.{index-text, same-text, no-labels}
 use Rattle.listing.proofs.tabbed.list_arrivals.Statement.{statement}
 use Rattle.listing.proofs.tabbed.list_arrivals.Tie as tie
 
@@ -28,7 +28,7 @@ abbrev marks : tie.After-cells → List ℕ
 marks k = start k .args .marks .now
 
 abbrev n : tie.After-cells → ℕ
-n k = 3 * length (image k)
+n k = 2 * length (image k)
 
 abbrev cells : tie.After-cells → List ℕ
 cells k = k .cells .result
@@ -78,12 +78,15 @@ sized : (i : tie.After-index-into) → n (made i) ≡ length (take (n (made i)) 
 sized i = sym (ap length (again i) ∙ new-long i)
 
 list-requires : tie.Need-list-requires
-list-requires c κs = let i = c .before .before .before in (start (made i) .pre, λ h. again i ∙ is-index i)
+list-requires c κs =
+    let i = c .before .before .before .before .before in
+    let k = made i in
+    (start k .pre, (λ h. no-labels (mode k) (image k) (marks k) (take (n k) (whole i)) (again i ∙ is-index i) h), λ h. again i ∙ is-index i)
 
 returns : tie.Need-returns
 returns c =
     let l = c .before .before in
-    let i = l .before .before .before .before in
+    let i = l .before .before .before .before .before .before in
     let k = made i in
     same-text (image k) (marks k) (start k .args .room .now) (index-text (mode k) (image k) (marks k) (take (n k) (whole i)) (again i ∙ is-index i)) (l .list .ensures)
 
@@ -96,8 +99,11 @@ list-arrivals-spec =
     room
     (λ c. sym (part (c .before)))
     (λ c κs. search needs)
-    (λ c. prefix (c .before))
-    (λ c. sized (c .before .before))
+    (λ c. search needs)
+    (λ c. search needs)
+    (λ c. search needs)
+    (λ c. prefix (c .before .before .before))
+    (λ c. sized (c .before .before .before .before))
     list-requires
     (λ c. search needs)
     returns)

@@ -6,7 +6,6 @@ use mathlib.Core.List.{List}
 use Prim.Native.Nat.{ℕ}
 use borrow.Author.Needs.{needs}
 use borrow.Author.Tests.{not-true, not-false}
-use Rattle.instruction.proofs.Sign.{never}
 use Rattle.instruction.specs.declared.mode.Mode.{Mode}
 use Rattle.views.specs.View.{Sound}
 use Rattle.views.proofs.Viewing.{is-sound, refused-all}
@@ -50,15 +49,15 @@ returns-2 c =
     let w = t .before .before .before in
     same-text (image w) (marks w) (room w) (is-listing (mode w) (image w) (marks w) (start w .args .arrivals) true (sym (t .if2 .taken) ∙ t .before .is-chosen .ensures)) (l .list-arrivals .ensures)
 
-list-requires : tie.Need-list-requires
-list-requires c κs = (sound (c .before .before .before .before .before), λ h. absurd (never (sym h)))
+list-declined-requires : tie.Need-list-declined-requires
+list-declined-requires c κs = sound (c .before .before .before)
 
 returns-3 : tie.Need-returns-3
 returns-3 c =
     let l = c .before .before in
-    let e = l .before .before .before .before in
+    let e = l .before .before in
     let w = e .before .before .before in
-    same-text (image w) (marks w) (room w) (is-listing (mode w) (image w) (marks w) (start w .args .arrivals) false (sym (e .if2 .left) ∙ e .before .is-chosen .ensures)) (l .list .ensures)
+    same-text (image w) (marks w) (room w) (is-listing (mode w) (image w) (marks w) (start w .args .arrivals) false (sym (e .if2 .left) ∙ e .before .is-chosen .ensures)) (l .list-declined .ensures)
 
 pub listing-with-spec : {M : Type 1} → statement M
 listing-with-spec =
@@ -71,9 +70,6 @@ listing-with-spec =
     list-arrivals-requires
     (λ c. search needs)
     returns-2
-    (λ c. search needs)
-    (λ c. search needs)
-    (λ c. search needs)
-    list-requires
+    list-declined-requires
     (λ c. search needs)
     returns-3)

@@ -2,15 +2,14 @@
 -- Assumes nothing.
 use mathlib.Core.Path.{subst, sym}
 use mathlib.Core.Bool.{Bool, true, false, cond}
+use mathlib.Core.List.{List}
 use Prim.Native.Nat.{ℕ, _*_, _≤_}
 use native.Mathlib.Omega.{arith}
 use borrow.Author.Needs.{needs}
 use lib.ListN.{length}
-use Rattle.views.specs.Mask.{maskOf}
-use Rattle.listing.specs.Lent.{isLent}
-use Rattle.listing.specs.Walk.{walk}
+use Rattle.listing.specs.Lent.{isLent, textOf}
 use Rattle.text.proofs.Putting.{puts-needed}
-use Rattle.listing.proofs.Widths.{all-width}
+use Rattle.listing.proofs.Widths.{text-width}
 use Rattle.listing.proofs.walk.needed.Statement.{statement}
 use Rattle.listing.proofs.walk.needed.Tie as tie
 
@@ -32,8 +31,9 @@ returns : tie.Need-returns
 returns c =
     let k = c .before in
     let a = start k .args in
-    let w = all-width (a .mode) (a .image .now) (a .marks .now) (λ n. k .before .before .before .before .shared-slice-known .given n .fits) (maskOf (a .image .now) (a .marks .now)) (a .labels .now) (isLent (a .index .now)) in
-    let l : length (walk (a .mode) (a .image .now) (a .marks .now) (maskOf (a .image .now) (a .marks .now)) (a .labels .now) (isLent (a .index .now)) (length (a .image .now)) 0 0) ≤ k .most .result * length (a .image .now) = subst (λ (j : ℕ). length (walk (a .mode) (a .image .now) (a .marks .now) (maskOf (a .image .now) (a .marks .now)) (a .labels .now) (isLent (a .index .now)) (length (a .image .now)) 0 0) ≤ j * length (a .image .now)) (sym (k .most .ensures)) w in
+    let w = text-width (a .mode) (a .image .now) (a .marks .now) (λ n. k .before .before .before .before .shared-slice-known .given n .fits) (isLent (a .index .now)) in
+    let text : List ℕ = textOf (a .mode) (a .image .now) (a .marks .now) (isLent (a .index .now)) in
+    let l : length text ≤ k .most .result * length (a .image .now) = subst (λ (j : ℕ). length text ≤ j * length (a .image .now)) (sym (k .most .ensures)) w in
     let h = c .if1 .taken in
     record { covers = l; exact = λ g. absurd (omega (arith, g, h)) }
 

@@ -7,6 +7,7 @@ use native.Mathlib.Omega.{arith}
 use borrow.Author.Needs.{needs}
 use lib.ListN.{getD}
 use Rattle.reach.specs.Mark.{tracedMark}
+use Rattle.views.specs.Labels.{labelsOf}
 use Rattle.listing.specs.Lent.{isLent}
 use Rattle.text.proofs.Putting.{puts-as}
 use Rattle.listing.proofs.Walking.{print-code, print-run, run-length}
@@ -26,13 +27,13 @@ returns c =
     let t = i .before in
     let a = start t .args in
     let e : traced t ≡ true = sym (t .is-traced .ensures) ∙ i .if1 .taken in
-    (puts-as (print-code (a .mode) (a .image .now) (a .marks .now) (a .labels .now) (isLent (a .index .now)) (a .p) e) (k .put-code .ensures .0), k .put-code .ensures .1)
+    (puts-as (print-code (a .mode) (a .image .now) (a .marks .now) (labelsOf (a .mode) (a .image .now) (a .marks .now)) (isLent (a .index .now)) (a .p) e) (k .put-code .ensures .0), k .put-code .ensures .1)
 
 put-data-requires : tie.Need-put-data-requires
 put-data-requires c κs =
     let s = start (c .before .before) in
     let b : s .args .at < 2 ^ 52 = s .pre .0 in
-    (omega arith, run-length (s .args .image .now) (s .args .marks .now) (s .args .p) (s .pre .1) _ (s .pre .5))
+    (omega arith, run-length (s .args .image .now) (s .args .marks .now) (s .args .p) (s .pre .1) _ (s .pre .4))
 
 returns-2 : tie.Need-returns-2
 returns-2 c =
@@ -43,7 +44,7 @@ returns-2 c =
     let a = s .args in
     let e : traced t ≡ false = sym (t .is-traced .ensures) ∙ i .if1 .left in
     let g : k .put-data .result ≤ a .at + 2 ^ 20 = k .put-data .ensures .1 in
-    (puts-as (print-run (a .mode) (a .image .now) (a .marks .now) (a .labels .now) (isLent (a .index .now)) (a .p) e _ (s .pre .5)) (k .put-data .ensures .0), omega arith)
+    (puts-as (print-run (a .mode) (a .image .now) (a .marks .now) (labelsOf (a .mode) (a .image .now) (a .marks .now)) (isLent (a .index .now)) (a .p) e _ (s .pre .4)) (k .put-data .ensures .0), omega arith)
 
 pub put-at-spec : {M : Type 1} → statement M
 put-at-spec =

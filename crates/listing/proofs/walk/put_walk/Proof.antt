@@ -8,15 +8,16 @@ use borrow.Author.Needs.{needs}
 use lib.ListN.{length}
 use Rattle.instruction.specs.declared.mode.Mode.{Mode}
 use Rattle.targets.proofs.Within.{Small}
+use Rattle.views.specs.Labels.{labelsOf}
 use Rattle.views.specs.Mask.{maskOf, endWith}
 use Rattle.views.specs.Unmasked.{unmaskedRun}
 use Rattle.views.proofs.Masking.{Masks, masks-start}
 use Rattle.views.proofs.TracedAt.{by-mark}
 use Rattle.views.proofs.Unmasking.{run-here, traced-masked, masks-over}
-use Rattle.listing.specs.Lent.{isLent, runAt}
-use Rattle.listing.specs.Walk.{passed, walk}
+use Rattle.listing.specs.Lent.{isLent, runAt, textOf}
+use Rattle.listing.specs.Walk.{passed}
 use Rattle.text.proofs.Putting.{Going, going-from, going-next, going-over, puts-length}
-use Rattle.listing.proofs.Walking.{leftAt, left-start, left-next, left-end, step-run, step-fits}
+use Rattle.listing.proofs.Walking.{leftAt, left-text, left-next, left-end, step-run, step-fits}
 use Rattle.listing.proofs.walk.put_walk.Statement.{statement}
 use Rattle.listing.proofs.walk.put_walk.Tie as tie
 
@@ -26,7 +27,7 @@ Inv-loop mode image marks labels index out₀ n at₀ end₀ p₀ out at end p =
     × (at ≤ 4194304 * p)
     × (length out ≡ length out₀)
     × Masks image marks p end
-    × Going (walk mode image marks (maskOf image marks) labels (isLent index) (length image) 0 0) out₀ 0 out at (leftAt mode image marks (maskOf image marks) labels (isLent index) p)
+    × Going (textOf mode image marks (isLent index)) out₀ 0 out at (leftAt mode image marks (maskOf image marks) (labelsOf mode image marks) (isLent index) p)
 
 abbrev μ-loop : tie.MeasureT-loop
 μ-loop mode image marks labels index out₀ n at₀ end₀ p₀ out at end p = length image - p
@@ -47,26 +48,25 @@ abbrev mask : tie.At-loop Inv-loop μ-loop → List ℕ
 mask l = maskOf (image l) (marks l)
 
 abbrev labels : tie.At-loop Inv-loop μ-loop → List ℕ
-labels l = start l .args .labels .now
+labels l = labelsOf (mode l) (image l) (marks l)
 
 loop-holds : tie.Need-loop-holds Inv-loop μ-loop
 loop-holds c =
     let a = c .before .before .before .before .before .args in
-    (omega arith, omega arith, refl, masks-start (a .image .now) (a .marks .now), going-from (a .out .now) 0 (left-start (a .mode) (a .image .now) (a .marks .now) (maskOf (a .image .now) (a .marks .now)) (a .labels .now) (isLent (a .index .now))))
+    (omega arith, omega arith, refl, masks-start (a .image .now) (a .marks .now), going-from (a .out .now) 0 (left-text (a .mode) (a .image .now) (a .marks .now) (isLent (a .index .now))))
 
--- the position is inside the image, the marks and the target marks
-record Inside (image marks labels : List ℕ) (p : ℕ) : Type 0 where
+-- the position is inside the image and the marks
+record Inside (image marks : List ℕ) (p : ℕ) : Type 0 where
   small : length image ≤ 65536
   byte : p < length image
   mark : p < length marks
-  label : p < length labels
 
-inside : (t : tie.In-loop Inv-loop μ-loop) → let l = t .before in Inside (image l) (marks l) (labels l) (l .loop .p)
+inside : (t : tie.In-loop Inv-loop μ-loop) → let l = t .before in Inside (image l) (marks l) (l .loop .p)
 inside t =
     let l = t .before in
     let v = start l .pre in
     let h : l .loop .p < length (image l) = t .loop-test .taken in
-    record { small = v .0; byte = h; mark = omega (arith, h, v .1); label = omega (arith, h, v .2) }
+    record { small = v .0; byte = h; mark = omega (arith, h, v .1) }
 
 -- the position fits the narrower number
 narrow : (t : tie.In-loop Inv-loop μ-loop) → t .before .loop .p < 65536
@@ -92,7 +92,7 @@ put-at-requires c κs =
     let i = inside t in
     let l = t .before in
     let h : l .loop .at ≤ 4194304 * l .loop .p = l .loop .inv .1 in
-    (omega (arith, h, narrow t), i .small, i .label, i .mark, i .byte, run-is r, start l .pre .3)
+    (omega (arith, h, narrow t), i .small, i .mark, i .byte, run-is r, start l .pre .2, start l .pre .3)
 
 -- up to the step
 abbrev walked : tie.After-step-by Inv-loop μ-loop → tie.After-unmasked-run Inv-loop μ-loop
