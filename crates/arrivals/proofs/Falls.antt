@@ -18,7 +18,7 @@ use Rattle.instruction.specs.declared.mode.Mode.the-variants.{Unwrapped, Wrappi
 use Rattle.targets.specs.At.{formHere, sizeHere, fitsHere, instrHere, placeOf, waysHere, nameHere, namedBy}
 use Rattle.targets.specs.Targets.{inMode, addressIn, byFlow}
 use Rattle.targets.specs.Ways.{isWhole, goesOn, fallsTo, nameOf}
-use Rattle.targets.proofs.Openings.{goes, names}
+use Rattle.targets.proofs.Openings.{goes, names-by-flow}
 use Rattle.targets.proofs.Within.{Small, size-short}
 use Rattle.reach.specs.Mark.{flash}
 use Rattle.reach.specs.Tracer.{held}
@@ -141,7 +141,7 @@ module _ (mode : Mode) (image m : List ℕ) (B : Small image) (fits : length ima
       let f : Flow = flowOf (formHere image q) in
       ap (some (eqb p)) (sym (goes mode image q B f refl))
       ∙ two-ways p (omega arith) f (addressIn mode (q + sizeHere image q) (instrHere image q)) (inMode mode (pos (q + sizeHere image q)))
-      ∙ ap (λ (t : ℕ). eqb p t || goingOn) (names mode image q B f refl)
+      ∙ ap (λ (t : ℕ). eqb p t || goingOn) (names-by-flow mode image q B f refl)
 
   outside : eqb p 65536 ≡ false
   outside = ne-eqb p 65536 (λ e. omega arith)

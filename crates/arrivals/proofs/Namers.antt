@@ -19,7 +19,7 @@ use Rattle.instruction.specs.declared.mode.Mode.{Mode}
 use Rattle.targets.specs.At.{formHere, sizeHere, fitsHere, instrHere, nameHere, namedBy, placeOf}
 use Rattle.targets.specs.Targets.{addressIn}
 use Rattle.targets.specs.Ways.{isWhole, nameOf}
-use Rattle.targets.proofs.Openings.{names}
+use Rattle.targets.proofs.Openings.{names-by-flow}
 use Rattle.targets.proofs.Within.{Small, form-here}
 use Rattle.views.specs.Positions.{tracedAt}
 use Rattle.arrivals.specs.Index.{nameAt, namesIt}
@@ -96,6 +96,6 @@ module _ (mode : Mode) (image m : List ℕ) (B : Small image) (p q : ℕ) where
       let y = named-from small (x .1) in
       let f : Flow = flowOf (formHere image q) in
       let t : ℕ = placeOf (addressIn mode (q + sizeHere image q) (instrHere image q)) in
-      let s : 2 ≤ sizeHere image q = long-by f t p (sizeHere image q) small (y .2 ∙ sym (names mode image q B f refl)) (naming-long (formHere image q) (form-here image q B)) in
+      let s : 2 ≤ sizeHere image q = long-by f t p (sizeHere image q) small (y .2 ∙ sym (names-by-flow mode image q B f refl)) (naming-long (formHere image q) (form-here image q B)) in
       let w : q + sizeHere image q ≤ length image = leb-true (q + sizeHere image q) (length image) (second-part (ltb q (length image) && leb (length image) 65536) _ (y .1)) in
       omega (arith, s, w)

@@ -146,6 +146,9 @@ module _ (mode : Mode) (image : List ℕ) (p : ℕ) where
     pub goes-by : (a b : Bool) → isNaming f ≡ a → goesOn f ≡ b → (t n : ℕ) → t ≡ named-as → n ≡ next-as → asked a b t n ≡ waysHere mode image p
     goes-by a b g h t n x y = rw (x, y, ← g, ← h) (sym (by-tests f _ _)) ∙ goes
 
-    pub names : (a : Bool) → isNaming f ≡ a → cond a named-as 65536 ≡ nameHere mode image p
+    pub names-by-flow : namedBy f named-as ≡ nameHere mode image p
     unfolding nameHere
-    names a g = rw (← g, ← flow-is) (sym (named-by-test f _))
+    names-by-flow = rw (← flow-is)
+
+    pub names : (a : Bool) → isNaming f ≡ a → cond a named-as 65536 ≡ nameHere mode image p
+    names a g = rw (← g) (sym (named-by-test f named-as)) ∙ names-by-flow
