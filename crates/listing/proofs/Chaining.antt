@@ -17,7 +17,7 @@ use Rattle.reach.specs.Mark.{flash, tracedMark}
 use Rattle.marks.specs.Tracer.{exemptHere}
 use Rattle.views.specs.Positions.{some, bit}
 use Rattle.views.specs.Labels.{namedFrom, names, labelled, labelsOf}
-use Rattle.views.proofs.Labelling.{from-untraced, from-exempt, from-name}
+use Rattle.views.proofs.Labelling.{named-untraced, named-traced}
 use Rattle.views.proofs.TracedAt.{by-mark, traced-marked}
 use Rattle.views.proofs.Ups.{up-start, up-at}
 use Rattle.arrivals.specs.Arrivals.{arrives, nextArrival}
@@ -89,15 +89,15 @@ module _ (mode : Mode) (image m : List ℕ) (b : OfBytes image) (p : ℕ) where
     exempt-not e = by (tracedMark (getD m q 0)) refl
       where
         by : (t : Bool) → tracedMark (getD m q 0) ≡ t → eqb (namedFrom mode image m q) p ≡ false
-        by true t = ap (λ (x : ℕ). eqb x p) (sym (from-exempt mode image m q t e)) ∙ not-memory
-        by false t = ap (λ (x : ℕ). eqb x p) (sym (from-untraced mode image m q t)) ∙ not-memory
+        by true t = ap (λ (x : ℕ). eqb x p) (sym (named-traced mode image m q t true e)) ∙ not-memory
+        by false t = ap (λ (x : ℕ). eqb x p) (sym (named-untraced mode image m q t)) ∙ not-memory
 
     plain-name : exemptHere image m q ≡ false → namedFrom mode image m q ≡ nameAt mode image m q
     plain-name e = by (tracedMark (getD m q 0)) refl
       where
         by : (t : Bool) → tracedMark (getD m q 0) ≡ t → namedFrom mode image m q ≡ nameAt mode image m q
-        by true t = sym (from-name mode image m q t e) ∙ traced-name mode image m q (sym (by-mark image m q i) ∙ t)
-        by false t = sym (from-untraced mode image m q t) ∙ untraced-name mode image m q (sym (by-mark image m q i) ∙ t)
+        by true t = sym (named-traced mode image m q t false e) ∙ traced-name mode image m q (sym (by-mark image m q i) ∙ t)
+        by false t = sym (named-untraced mode image m q t) ∙ untraced-name mode image m q (sym (by-mark image m q i) ∙ t)
 
     pub named-so : exemptHere image m q ≡ false → N q ≡ true → names mode image m p q ≡ true
     named-so e f =

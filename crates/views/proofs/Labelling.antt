@@ -20,6 +20,14 @@ use Rattle.views.proofs.Ors.{or-second, or-start}
 use Rattle.views.proofs.Ups.{up-length, up-at, some-snoc}
 use Rattle.views.specs.Labels.{namedFrom, names, labelled, labelsOf, labelAt}
 
+-- what one position names: nothing where it is not traced or is an exception
+module _ (mode : Mode) (image m : List ℕ) (p : ℕ) where
+  pub named-untraced : tracedMark (getD m p 0) ≡ false → 65536 ≡ namedFrom mode image m p
+  named-untraced t = rw t
+
+  pub named-traced : tracedMark (getD m p 0) ≡ true → (x : Bool) → exemptHere image m p ≡ x → cond x 65536 (nameOf mode image p) ≡ namedFrom mode image m p
+  named-traced t x e = sym (ap₂ (λ (a b : Bool). cond a (cond b 65536 (nameOf mode image p)) 65536) t e)
+
 -- one position: where it names none inside, the room stays
 module _ (mode : Mode) (image m : List ℕ) (p : ℕ) (room : List ℕ) (small : length image ≤ 65536) where
   abbrev After : List ℕ → Type 0
@@ -30,11 +38,11 @@ module _ (mode : Mode) (image m : List ℕ) (p : ℕ) (room : List ℕ) (small :
       let f : room ≡ labelAt (length image) t room = rw (le-ltb t (length image) h) in f ∙ ap (λ (k : ℕ). labelAt (length image) k room) e
 
   pub from-untraced : tracedMark (getD m p 0) ≡ false → After room
-  from-untraced t = none 65536 (rw t) small
+  from-untraced t = none 65536 (named-untraced mode image m p t) small
 
   module _ (t : tracedMark (getD m p 0) ≡ true) where
     by-exception : (x : Bool) → exemptHere image m p ≡ x → cond x 65536 (nameOf mode image p) ≡ namedFrom mode image m p
-    by-exception x e = sym (ap₂ (λ (a b : Bool). cond a (cond b 65536 (nameOf mode image p)) 65536) t e)
+    by-exception x e = named-traced mode image m p t x e
 
     pub from-exempt : exemptHere image m p ≡ true → After room
     from-exempt e = none 65536 (by-exception true e) small
