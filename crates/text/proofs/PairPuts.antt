@@ -1,12 +1,15 @@
 -- Bytes in hex, written pair by pair: each byte b as f b.
 -- Assumes nothing.
-use mathlib.Core.Path.{_≡_, refl, sym, ap, _∙_}
+use mathlib.Core.Path.{_≡_, refl, sym, ap, subst, _∙_}
+use mathlib.Core.Bool.{Bool, true, false}
 use mathlib.Core.List.{List, [], _∷_, map}
-use Prim.Native.Nat.{ℕ, suc, _+_, _-_, _*_, _≤_, _<_}
+use Prim.Native.Nat.{ℕ, suc, _+_, _-_, _*_, _/_, _≤_, _<_}
 use native.Mathlib.Numerals.{add-one}
 use native.Mathlib.Omega.{arith}
+use lib.Dec.{ltb}
 use lib.ListN.{length, getD, set, drop, length-set}
 use lib.Seq.{sets, set-out}
+use borrow.Author.Tests.{ltb-true, ltb-false}
 use Rattle.text.specs.Bytes.{bytesOf}
 use Rattle.text.specs.Hex.{digitOf}
 use Rattle.text.proofs.Pairs.{pair-next, pair-end}
@@ -47,3 +50,31 @@ module _ (f : ℕ → ℕ) where
       -- the room is full
       pub put-full : length room ≤ n → room ≡ sets room₀ at (map f (bytesOf digits))
       put-full k = sym (sets-past room n (map f (bytesOf (drop (i - 1) digits))) k) ∙ p .rest
+
+    -- by the number of bytes written so far
+    pub put-none : Putting digits room₀ at room₀ (2 * 0 + 1) (at + 0)
+    put-none = let a : at ≡ at + 0 = omega arith in subst (λ (m : ℕ). Putting digits room₀ at room₀ 1 m) a put-start
+
+    module _ (room : List ℕ) (i : ℕ) (p : Putting digits room₀ at room (2 * i + 1) (at + i)) where
+      pub put-byte : 2 * i + 1 < length digits → (x : ℕ) → x ≡ f (digitOf (getD digits (2 * i) 0) * 16 + digitOf (getD digits (2 * i + 1) 0))
+          → Putting digits room₀ at (set room (at + i) x) (2 * (i + 1) + 1) (at + (i + 1))
+      put-byte k x e =
+          let a : 2 * i ≡ 2 * i + 1 - 1 = omega arith in
+          let b : 2 * i + 1 + 2 ≡ 2 * (i + 1) + 1 = omega arith in
+          let c : at + i + 1 ≡ at + (i + 1) = omega arith in
+          let n = put-next room (2 * i + 1) (at + i) p k x (e ∙ ap (λ (j : ℕ). f (digitOf (getD digits j 0) * 16 + digitOf (getD digits (2 * i + 1) 0))) a) in
+          subst (λ (m : ℕ). Putting digits room₀ at (set room (at + i) x) (2 * (i + 1) + 1) m) c
+          (subst (λ (j : ℕ). Putting digits room₀ at (set room (at + i) x) j (at + i + 1)) b n)
+
+      -- as many as there are, or as there is room for
+      pub put-all : (n : ℕ) → i ≤ n → n ≤ i → (n < length digits / 2 → length room₀ ≤ at + n) → n ≤ length digits / 2
+          → room ≡ sets room₀ at (map f (bytesOf digits))
+      put-all n h k full few = by (ltb n (length digits / 2)) refl
+        where
+          by : (t : Bool) → ltb n (length digits / 2) ≡ t → room ≡ sets room₀ at (map f (bytesOf digits))
+          by true e =
+              let l = full (ltb-true n (length digits / 2) e) in
+              put-full room (2 * i + 1) (at + i) p (omega (arith, p .same, l))
+          by false e =
+              let l = ltb-false n (length digits / 2) e in
+              put-end room (2 * i + 1) (at + i) p (omega (arith, l))

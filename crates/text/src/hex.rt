@@ -1,17 +1,23 @@
 // Upper-case hex digits.
 ghost use mathlib.Core.Path.{_≡_};
+ghost use mathlib.Core.Bool.{true};
 ghost use Prim.Native.Nat.{_+_, _*_, _<_};
 ghost use lib.ListN.{getD};
 ghost use Rattle.text.specs.Hex.{isDigit, digitOf, valueOf, allHex};
 
-// Whether a byte is a digit.
+// Whether a byte is a digit. All four bounds are asked, so that the compiler makes no jump for each.
 pub fn is_digit(b: u8) -> bool
     ensures { λ r. ⌜ r ≡ isDigit b ⌝ }
 {
-    if b < b'A' {
-        return b'0' <= b && b <= b'9';
-    }
-    b <= b'F'
+    ((b'0' <= b) & (b <= b'9')) | ((b'A' <= b) & (b <= b'F'))
+}
+
+// The value of a byte that is a digit, by its low four bits: those of A are 1.
+fn value_of(b: u8) -> u32
+    requires { ⌜ isDigit b ≡ true ⌝ }
+    ensures { λ r. ⌜ (r ≡ digitOf b) × (r < 16) ⌝ }
+{
+    (b % 16) as u32 + 9 * (b / 64) as u32
 }
 
 // The value of a digit; 0 for any other byte.
@@ -21,29 +27,17 @@ pub fn digit(b: u8) -> u32
     if !is_digit(b) {
         return 0;
     }
-    if b <= b'9' {
-        return b as u32 - 48;
-    }
-    b as u32 - 55
+    value_of(b)
 }
 
 // The value of a digit; 16 for any other byte.
 pub fn value(b: u8) -> u32
     ensures { λ r. ⌜ (r ≡ valueOf b) × (r < 17) ⌝ }
 {
-    if b < b'0' {
+    if !is_digit(b) {
         return 16;
     }
-    if b <= b'9' {
-        return b as u32 - 48;
-    }
-    if b < b'A' {
-        return 16;
-    }
-    if b <= b'F' {
-        return b as u32 - 55;
-    }
-    16
+    value_of(b)
 }
 
 // The value of the digit at a place; 0 past the end.
@@ -63,16 +57,15 @@ pub fn pair(a: u8, b: u8) -> u8
     (digit(a) * 16 + digit(b)) as u8
 }
 
-// Whether every byte is a digit.
+// Whether every byte is a digit. All are looked at, so that the compiler takes many at a time.
 pub fn is_hex(s: &[u8]) -> bool
     ensures { λ r. ⌜ r ≡ allHex (now (s .entry)) ⌝ }
 {
+    let mut all = true;
     let mut i: usize = 0;
     while i < s.len() {
-        if !is_digit(s[i]) {
-            return false;
-        }
+        all = all & is_digit(s[i]);
         i += 1;
     }
-    true
+    all
 }
