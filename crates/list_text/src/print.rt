@@ -4,15 +4,25 @@ ghost use mathlib.Core.List.{[]};
 ghost use Prim.Native.Nat.{_≤_};
 ghost use lib.ListN.{length};
 ghost use Rattle.views.specs.View.{viewedOf, roomAnswer, roomAfter};
+ghost use Rattle.instruction.specs.declared.mode.Mode.the-variants.{Unwrapped};
+ghost use Rattle.listing.specs.Walk.{listingAnswer, listingRoom};
+ghost use Rattle.listing.specs.declared.tabbed.Arrivals.the-variants.{Declined};
 ghost use Rattle.list_text.specs.Output.{outputText, tracedText, outputOf};
 use crate::parsed::Parsed;
 use crate::read;
 use crate::refusal;
 use crate::rooms;
 use instruction::Mode;
-use listing::Arrivals;
 use trace::Ran;
 use views::Viewed;
+
+// The listing that the program prints: without arrivals.
+fn show(image: &[u8], marks: &[u8], room: &mut [u8]) -> Viewed
+    ensures { λ r. ⌜ viewedOf r ≡ listingAnswer Unwrapped (now (image .entry)) (now (marks .entry)) Declined (now (room .entry)) ⌝ }
+    ensures { λ _. ⌜ now (room .exit) ≡ listingRoom Unwrapped (now (image .entry)) (now (marks .entry)) Declined (now (room .entry)) ⌝ }
+{
+    listing::listing_declined(Mode::Unwrapped, image, marks, room)
+}
 
 // The listing of a run in this image from these entries, or the line of a refusal.
 fn list_image(image: &[u8], entries: &[u32], room: &mut [u8]) -> Viewed
@@ -23,10 +33,8 @@ fn list_image(image: &[u8], entries: &[u32], room: &mut [u8]) -> Viewed
     let n = image.len();
     let mut marks = rooms::bytes();
     let mut order = rooms::positions();
-    let mode = Mode::Unwrapped;
-    let arrivals = Arrivals::Declined;
     match trace::run::run(
-        mode,
+        Mode::Unwrapped,
         image,
         &mut marks[..n],
         &mut order[..n],
@@ -34,8 +42,8 @@ fn list_image(image: &[u8], entries: &[u32], room: &mut [u8]) -> Viewed
         &entries[..0],
         n as u32,
     ) {
-        Ran::Finished(_) => listing::listing_with(mode, image, &marks[..n], arrivals, room),
-        Ran::Stopped(_) => listing::listing_with(mode, image, &marks[..n], arrivals, room),
+        Ran::Finished(_) => show(image, &marks[..n], room),
+        Ran::Stopped(_) => show(image, &marks[..n], room),
         Ran::LongImage(_) => refusal::put_number(1, room),
         Ran::ShortMarks(_) => refusal::put_number(2, room),
         Ran::ShortOrder(_) => refusal::put_number(3, room),

@@ -42,6 +42,10 @@ pub is-listing : (mode : Mode) (image m : List ℕ) (choice : Arrivals) (chosen 
 unfolding textOf listingOf
 is-listing mode image m choice chosen e = rw e
 
+-- where the room holds as much as there can be, nothing is to be measured
+pub all-covered : (text : List ℕ) (room most : ℕ) → length text ≤ most → most ≤ room → Needed text room most
+all-covered text room most l h = record { covers = l; exact = λ g. absurd (omega (arith, g, h)) }
+
 module _ (image m : List ℕ) (text room : List ℕ) (s : Sound image m) where
   pub too-small : {r : ℕ} → Needed text (length room) r → length room < r → Is image m text room (refused 11 (pos r ∷ [])) room
   too-small {r} n h = no-room-for image m text room s r (n .exact h) h

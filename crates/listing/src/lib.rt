@@ -13,4 +13,5 @@ pub use code::code_line;
 pub use hex::hex1;
 pub use tabbed::Arrivals;
 pub use tabbed::listing;
+pub use tabbed::listing_declined;
 pub use tabbed::listing_with;

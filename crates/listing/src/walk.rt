@@ -1,23 +1,16 @@
 // The walk: upward by position. An index of no cells is lent where arrivals are declined, and target marks only there.
 ghost use mathlib.Core.Path.{_≡_};
-ghost use mathlib.Core.Bool.{cond};
 ghost use Prim.Native.Nat.{_+_, _-_, _^_, _≤_, _<_};
 ghost use lib.ListN.{length, getD};
 ghost use Rattle.views.specs.Labels.{labelsOf};
 ghost use Rattle.views.specs.Mask.{maskOf};
 ghost use Rattle.listing.specs.Lent.{isLent, Indexed, Labelled, runAt, textOf};
-ghost use Rattle.text.specs.Puts.{Puts, Needed};
+ghost use Rattle.text.specs.Puts.{Puts};
 ghost use Rattle.listing.specs.Walk.{codeLines, linesAt};
 use crate::chain;
 use crate::lines;
 use instruction::Mode;
 use marks::Mark;
-
-// The bytes that a position has at most, without arrivals.
-const MOST: usize = 60;
-
-// And with them, all positions taken together.
-const MOST_WITH: usize = 77;
 
 // The target mark of a position: from the index where one is lent.
 fn label_at(mode: Mode, image: &[u8], marks: &[u8], labels: &[u8], index: &[u16], p: u32) -> u8
@@ -119,36 +112,4 @@ pub fn put_walk(
         p += step_by(run);
     }
     at
-}
-
-fn most(index: &[u16]) -> usize
-    ensures { λ r. ⌜ r ≡ cond (isLent (now (index .entry))) 77 60 ⌝ }
-{
-    if index.len() == 0 {
-        return MOST;
-    }
-    MOST_WITH
-}
-
-// How many bytes the walk puts. Where the room holds every text of so many positions, that many: then nothing is to be measured.
-pub fn needed(
-    mode: Mode,
-    image: &[u8],
-    marks: &[u8],
-    labels: &[u8],
-    index: &[u16],
-    room: usize,
-) -> usize
-    requires { ⌜ (length (now image) ≤ 65536) × (length (now image) ≤ length (now marks))
-        × Labelled mode (now image) (now marks) (now labels) (now index) × Indexed mode (now image) (now marks) (now index) ⌝ }
-    ensures { λ r. ⌜ Needed
-        (textOf mode (now (image .entry)) (now (marks .entry)) (isLent (now (index .entry))))
-        room r ⌝ }
-{
-    let most = most(index) * image.len();
-    if most <= room {
-        return most;
-    }
-    let mut none = [0u8; 1];
-    put_walk(mode, image, marks, labels, index, &mut none)
 }

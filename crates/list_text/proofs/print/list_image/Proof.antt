@@ -104,13 +104,13 @@ returns : tie.Need-returns
 returns c =
     let w = c .before .before in
     let e = w .before .before .before in
-    listed-text (e .before .before .before .before) _ (ap ranOf (sym (e .enum-told .given .1))) _ _ (w .listing-with .ensures)
+    listed-text (e .before .before .before .before) _ (ap ranOf (sym (e .enum-told .given .1))) _ _ (w .show .ensures)
 
 returns-2 : tie.Need-returns-2
 returns-2 c =
     let w = c .before .before in
     let e = w .before .before .before in
-    listed-text (e .before .before .before .before) _ (ap ranOf (sym (e .enum-told2 .given .1))) _ _ (w .listing-with2 .ensures)
+    listed-text (e .before .before .before .before) _ (ap ranOf (sym (e .enum-told2 .given .1))) _ _ (w .show2 .ensures)
 
 returns-3 : tie.Need-returns-3
 returns-3 c =

@@ -1,64 +1,33 @@
 -- `tabbed::list_declined` meets its contract.
 -- Assumes nothing.
-use mathlib.Core.Path.{_≡_, sym}
+use mathlib.Core.Bool.{false}
 use mathlib.Core.List.{List}
-use Prim.Native.Nat.{ℕ, _-_, _≤_}
+use Prim.Native.Nat.{ℕ}
 use borrow.Author.Needs.{needs}
-use lib.ListN.{length, take, drop}
-use Rattle.instruction.proofs.Sign.{never}
-use Rattle.instruction.specs.declared.mode.Mode.{Mode}
-use Rattle.views.specs.Labels.{labelsOf}
-use Rattle.views.proofs.Labelling.{labels-length}
-use Rattle.listing.proofs.Answering.{in-front, long-enough, part-is}
+use Rattle.listing.specs.Lent.{textOf}
+use Rattle.listing.proofs.Answering.{too-small, all-written}
 use Rattle.listing.proofs.tabbed.list_declined.Statement.{statement}
 use Rattle.listing.proofs.tabbed.list_declined.Tie as tie
 
--- the room is made
-abbrev roomed : tie.After-labels2 → tie.After-bytes
-roomed l = l .before .before .before
+abbrev start : tie.After-needed-declined → tie.Start
+start k = k .before .before .before .before
 
-abbrev start : tie.After-labels2 → tie.Start
-start l = roomed l .before .before .before .before
+abbrev text : tie.After-needed-declined → List ℕ
+text k = textOf (start k .args .mode) (start k .args .image .now) (start k .args .marks .now) false
 
-abbrev mode : tie.After-labels2 → Mode
-mode l = start l .args .mode
+returns : tie.Need-returns
+returns c =
+    let k = c .before in
+    let s = start k in
+    too-small (s .args .image .now) (s .args .marks .now) (text k) (s .args .room .now) (s .pre) (k .needed-declined .ensures) (c .if1 .taken)
 
-abbrev image : tie.After-labels2 → List ℕ
-image l = start l .args .image .now
-
-abbrev marks : tie.After-labels2 → List ℕ
-marks l = start l .args .marks .now
-
-abbrev labels : tie.After-labels2 → List ℕ
-labels l = l .before .target-marks .last .1 .1 .1 .0
-
-labels-front : (l : tie.After-labels2) → take (length (image l)) (labels l) ≡ labelsOf (mode l) (image l) (marks l)
-labels-front l =
-    let b = roomed l in
-    in-front (image l) (marks l) (start l .pre) (labelsOf (mode l) (image l) (marks l)) (labels-length (mode l) (image l) (marks l)) (b .bytes .result) (b .bytes .ensures) (labels l) (l .before .target-marks .ensures .1)
-
-labels-long : (l : tie.After-labels2) → length (image l) ≤ length (labels l)
-labels-long l = long-enough (labels l) (labelsOf (mode l) (image l) (marks l)) (length (image l)) (labels-front l) (labels-length (mode l) (image l) (marks l))
-
-labels-part : (l : tie.After-labels2) → take (length (image l) - 0) (drop 0 (labels l)) ≡ labelsOf (mode l) (image l) (marks l)
-labels-part l = part-is (labels l) (labelsOf (mode l) (image l) (marks l)) (length (image l)) (labels-front l)
-
-list-requires : tie.Need-list-requires
-list-requires c κs = let l = c .before .before .before .before .before in (start l .pre, (λ h. labels-part l), λ h. absurd (never (sym h)))
+returns-2 : tie.Need-returns-2
+returns-2 c =
+    let j = c .before .before in
+    let e = j .before .before in
+    let k = e .before in
+    let s = start k in
+    all-written (s .args .image .now) (s .args .marks .now) (text k) (s .args .room .now) (s .pre) (j .put-declined .ensures) (k .needed-declined .ensures) (e .if1 .left)
 
 pub list-declined-spec : {M : Type 1} → statement M
-list-declined-spec =
-    tie.close
-    (tie.spec
-    (λ c κs. search needs)
-    (λ c. search needs)
-    (λ c κs. search needs)
-    (λ c. search needs)
-    (λ c. search needs)
-    (λ c. labels-long (c .before))
-    (λ c. search needs)
-    (λ c. search needs)
-    (λ c. search needs)
-    list-requires
-    (λ c. search needs)
-    (λ c. c .before .before .list .ensures))
+list-declined-spec = tie.close (tie.spec (λ c κs. c .before .before .before .pre) returns (λ c κs. start (c .before .before) .pre) (λ c. search needs) returns-2)

@@ -1,4 +1,4 @@
--- `tabbed::list_arrivals` meets its contract.
+-- `tabbed::put_chosen` meets its contract.
 -- Assumes nothing.
 use mathlib.Core.Path.{_≡_, sym, ap, _∙_}
 use mathlib.Core.List.{List, _++_}
@@ -8,12 +8,13 @@ use borrow.Author.Needs.{needs}
 use lib.ListN.{length, take, drop, length-append}
 use lib.Seq.{length-take-le, take-at}
 use Rattle.instruction.specs.declared.mode.Mode.{Mode}
-use Rattle.views.proofs.Viewing.{small}
+use Rattle.views.proofs.Viewing.{small, covered}
 use Rattle.arrivals.specs.Index.{indexOf}
 use Rattle.arrivals.proofs.Indexing.{own-room}
-use Rattle.listing.proofs.Answering.{index-text, same-text, no-labels}
-use Rattle.listing.proofs.tabbed.list_arrivals.Statement.{statement}
-use Rattle.listing.proofs.tabbed.list_arrivals.Tie as tie
+use Rattle.text.proofs.Putting.{puts-as}
+use Rattle.listing.proofs.Answering.{index-text, no-labels}
+use Rattle.listing.proofs.tabbed.put_chosen.Statement.{statement}
+use Rattle.listing.proofs.tabbed.put_chosen.Tie as tie
 
 abbrev start : tie.After-cells → tie.Start
 start k = k .before .before .before .before
@@ -77,21 +78,21 @@ prefix i = omega (arith, length-append (new i) (drop (n (made i)) (cells (made i
 sized : (i : tie.After-index-into) → n (made i) ≡ length (take (n (made i)) (whole i))
 sized i = sym (ap length (again i) ∙ new-long i)
 
-list-requires : tie.Need-list-requires
-list-requires c κs =
+put-walk-requires : tie.Need-put-walk-requires
+put-walk-requires c κs =
     let i = c .before .before .before .before .before in
     let k = made i in
-    (start k .pre, (λ h. no-labels (mode k) (image k) (marks k) (take (n k) (whole i)) (again i ∙ is-index i) h), λ h. again i ∙ is-index i)
+    (fits k, covered (image k) (marks k) (start k .pre), (λ h. no-labels (mode k) (image k) (marks k) (take (n k) (whole i)) (again i ∙ is-index i) h), λ h. again i ∙ is-index i)
 
 returns : tie.Need-returns
 returns c =
-    let l = c .before .before in
-    let i = l .before .before .before .before .before .before in
+    let w = c .before .before in
+    let i = w .before .before .before .before .before .before in
     let k = made i in
-    same-text (image k) (marks k) (start k .args .room .now) (index-text (mode k) (image k) (marks k) (take (n k) (whole i)) (again i ∙ is-index i)) (l .list .ensures)
+    puts-as (index-text (mode k) (image k) (marks k) (take (n k) (whole i)) (again i ∙ is-index i)) (w .put-walk .ensures)
 
-pub list-arrivals-spec : {M : Type 1} → statement M
-list-arrivals-spec =
+pub put-chosen-spec : {M : Type 1} → statement M
+put-chosen-spec =
     tie.close
     (tie.spec
     mul-n
@@ -104,6 +105,6 @@ list-arrivals-spec =
     (λ c. search needs)
     (λ c. prefix (c .before .before .before))
     (λ c. sized (c .before .before .before .before))
-    list-requires
+    put-walk-requires
     (λ c. search needs)
     returns)
