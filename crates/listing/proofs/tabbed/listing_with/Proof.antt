@@ -3,7 +3,6 @@
 use mathlib.Core.Path.{sym, ap}
 use borrow.Author.Needs.{needs}
 use Rattle.listing.specs.Walk.{listingOf}
-use Rattle.listing.specs.declared.tabbed.Arrivals.{Arrivals}
 use Rattle.listing.proofs.Answering.{same-text}
 use Rattle.listing.proofs.tabbed.listing_with.Statement.{statement}
 use Rattle.listing.proofs.tabbed.listing_with.Tie as tie
