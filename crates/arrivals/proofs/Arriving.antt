@@ -40,6 +40,11 @@ module _ (mode : Mode) (image m : List ℕ) (p : ℕ) where
   unfolding arrives
   not-inside h q = sym (not-first (ltb p (length image)) _ (le-ltb p (length image) h))
 
+  -- none arrives outside
+  pub none-outside : length image ≤ p → arrivalsOf mode image m p ≡ []
+  unfolding arrivalsOf
+  none-outside h = kept-no (arrives mode image m p) (λ q. sym (not-inside h q)) _
+
   pub by-targets : p < length image → (q : ℕ) (l : List ℕ) → l ≡ heldAt mode image m q → some (eqb p) l ≡ arrives mode image m p q
   unfolding arrives
   by-targets h q l e = rw (lt-ltb p (length image) h, e)
@@ -82,15 +87,9 @@ module _ (mode : Mode) (image m : List ℕ) (p : ℕ) where
     unfolding leftFrom
     takes e = from-takes (arrives mode image m p) (length image) q h e
 
-    pub skips : arrives mode image m p q ≡ false → leftFrom q ≡ leftFrom (q + 1)
+    skips : arrives mode image m p q ≡ false → leftFrom q ≡ leftFrom (q + 1)
     unfolding leftFrom
     skips e = from-skips (arrives mode image m p) (length image) q h e
-
-    pub found-next : (from : ℕ) → leftFrom q ≡ leftFrom from → arrives mode image m p q ≡ true → q ≡ nextArrival mode image m p from
-    found-next from l e = sym (next-left from ∙ ap (firstOr 65536) (sym l ∙ takes e))
-
-  pub none-next : (q from : ℕ) → length image ≤ q → leftFrom q ≡ leftFrom from → 65536 ≡ nextArrival mode image m p from
-  none-next q from h l = sym (next-left from ∙ ap (firstOr 65536) (sym l ∙ none-left q h))
 
 -- of the lowest arrival q from k on: none is left between, and it is the first that is left
 pub record Next (mode : Mode) (image m : List ℕ) (p k q : ℕ) : Type 0 where
@@ -125,3 +124,11 @@ module _ (mode : Mode) (image m : List ℕ) (p : ℕ) (fits : length image ≤ 6
   -- q passed, the next is the first that is left
   pub passed : (q r : ℕ) → q < length image → (q < length image → leftFrom mode image m p q ≡ q ∷ leftFrom mode image m p (q + 1)) → Next mode image m p (q + 1) r → leftFrom mode image m p q ≡ q ∷ leftFrom mode image m p r
   passed q r h g n = g h ∙ ap (λ (l : List ℕ). q ∷ l) (sym (n .same))
+
+-- from the arrival q on one is left and those behind it, and from past all of them none
+module _ {mode : Mode} {image m : List ℕ} {p k q : ℕ} (n : Next mode image m p k q) where
+  pub next-one : q < length image → leftFrom mode image m p k ≡ q ∷ leftFrom mode image m p (q + 1)
+  next-one h = sym (n .same) ∙ n .head h
+
+  pub next-none : length image ≤ q → leftFrom mode image m p k ≡ []
+  next-none h = sym (n .same) ∙ none-left mode image m p q h

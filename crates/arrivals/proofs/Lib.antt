@@ -1,6 +1,7 @@
 pub mod HeldTargets
 pub mod Lowest
 pub mod Namers
+pub mod HeldNames
 pub mod Falls
 pub mod Entering
 pub mod Indexing
@@ -9,3 +10,4 @@ pub mod ClaimsIndexed
 pub mod Counting
 pub mod Holding
 pub mod Arriving
+pub mod Searching

@@ -2,17 +2,17 @@
 // Ported from the `jump_from` sets of `build_instruction_graph` of src/disasm.rs of wtetzner/waterbear, and changed: they are worked out from
 // the marks, and the positions go to lent room.
 ghost use mathlib.Core.Path.{_≡_};
-ghost use Prim.Native.Nat.{_≤_};
+ghost use Prim.Native.Nat.{_≤_, _<_};
 ghost use lib.Dec.{eqb};
 ghost use lib.ListN.{length};
 ghost use Rattle.targets.specs.Ways.{placesIn};
 ghost use Rattle.views.specs.Positions.{some};
 ghost use Rattle.views.specs.View.{viewedOf};
-ghost use Rattle.arrivals.specs.Arrivals.{arrives, arrivalsOf, nextArrival, arrivalsAnswer, arrivalsRoom};
+ghost use Rattle.arrivals.specs.Arrivals.{arrives, arrivalsOf, arrivalsAnswer, arrivalsRoom};
 ghost use Rattle.instruction.specs.Answer.{laid};
 use crate::held;
+use crate::search;
 use instruction::Mode;
-use targets::Image;
 use targets::Places;
 use views::Viewed;
 
@@ -42,50 +42,57 @@ pub fn arrives(mode: Mode, image: &[u8], marks: &[u8], p: u32, q: u32) -> bool
     has(held::held_at(mode, image, marks, q), p)
 }
 
-// The lowest arrival at p that is not below this position; where there is none, a position outside every image.
-fn next_arrival(mode: Mode, image: &[u8], marks: &[u8], p: u32, from: u32) -> u32
-    ensures { λ r. ⌜ r ≡ nextArrival mode (now (image .entry)) (now (marks .entry)) p from ⌝ }
-{
-    if Image::LIMIT < image.len() {
-        return Image::NOWHERE;
-    }
-    let n = image.len() as u32;
-    let mut q = from;
-    while q < n {
-        if arrives(mode, image, marks, p, q) {
-            return q;
-        }
-        q += 1;
-    }
-    Image::NOWHERE
-}
-
 fn count_arrivals(mode: Mode, image: &[u8], marks: &[u8], p: u32) -> usize
-    requires { ⌜ length (now image) ≤ 65536 ⌝ }
+    requires { ⌜ (length (now image) ≤ 65536) × (length (now image) ≤ length (now marks)) × (p < length (now image)) ⌝ }
     ensures { λ r. ⌜ r ≡ length (arrivalsOf mode (now (image .entry)) (now (marks .entry)) p) ⌝ }
 {
     let n = image.len() as u32;
     let mut count: usize = 0;
-    let mut q = next_arrival(mode, image, marks, p, 0);
-    while q < n {
+    let mut from: u32 = 0;
+    while from < n {
+        let q = search::next_arrival(mode, image, marks, p, from);
+        if n <= q {
+            return count;
+        }
         count += 1;
-        q = next_arrival(mode, image, marks, p, q + 1);
+        from = q + 1;
     }
     count
 }
 
-fn write_arrivals(mode: Mode, image: &[u8], marks: &[u8], p: u32, room: &mut [u32])
-    requires { ⌜ (length (now image) ≤ 65536) × (length (arrivalsOf mode (now image) (now marks) p) ≤ length (now room)) ⌝ }
+// How much room is asked for. There are no more arrivals than positions, so a room with an entry for each is enough, and they are not
+// counted first; for a shorter one, as many entries as there are arrivals.
+fn needed(mode: Mode, image: &[u8], marks: &[u8], p: u32, room: usize) -> usize
+    requires { ⌜ (length (now image) ≤ 65536) × (length (now image) ≤ length (now marks)) × (p < length (now image)) ⌝ }
+    ensures { λ r. ⌜ length (arrivalsOf mode (now (image .entry)) (now (marks .entry)) p) ≤ r ⌝ }
+    ensures { λ r. ⌜ (room < r → r ≡ length (arrivalsOf mode (now (image .entry)) (now (marks .entry)) p)) ⌝ }
+{
+    if image.len() <= room {
+        return image.len();
+    }
+    count_arrivals(mode, image, marks, p)
+}
+
+// How many are written.
+fn write_arrivals(mode: Mode, image: &[u8], marks: &[u8], p: u32, room: &mut [u32]) -> usize
+    requires { ⌜ (length (now image) ≤ 65536) × (length (now image) ≤ length (now marks)) × (p < length (now image)) ⌝ }
+    requires { ⌜ length (arrivalsOf mode (now image) (now marks) p) ≤ length (now room) ⌝ }
+    ensures { λ r. ⌜ r ≡ length (arrivalsOf mode (now (image .entry)) (now (marks .entry)) p) ⌝ }
     ensures { λ _. ⌜ now (room .exit) ≡ laid (arrivalsOf mode (now (image .entry)) (now (marks .entry)) p) (now (room .entry)) ⌝ }
 {
     let n = image.len() as u32;
     let mut i: usize = 0;
-    let mut q = next_arrival(mode, image, marks, p, 0);
-    while q < n {
+    let mut from: u32 = 0;
+    while from < n {
+        let q = search::next_arrival(mode, image, marks, p, from);
+        if n <= q {
+            return i;
+        }
         room[i] = q;
         i += 1;
-        q = next_arrival(mode, image, marks, p, q + 1);
+        from = q + 1;
     }
+    i
 }
 
 // The traced positions that have p among the targets they had when they were taken up, upward.
@@ -97,10 +104,12 @@ pub fn arrivals(mode: Mode, image: &[u8], marks: &[u8], p: u32, room: &mut [u32]
     if !v.is_written() {
         return v;
     }
-    let n = count_arrivals(mode, image, marks, p);
+    if image.len() <= p as usize {
+        return Viewed::Written(0);
+    }
+    let n = needed(mode, image, marks, p, room.len());
     if room.len() < n {
         return Viewed::NoRoom(n);
     }
-    write_arrivals(mode, image, marks, p, room);
-    Viewed::Written(n)
+    Viewed::Written(write_arrivals(mode, image, marks, p, room))
 }

@@ -6,6 +6,8 @@ mod index_entry;
 pub mod index_fill;
 pub mod index_lookup;
 mod named;
+mod naming;
+mod search;
 
 pub use arrival::arrivals;
 pub use arrival::arrives;

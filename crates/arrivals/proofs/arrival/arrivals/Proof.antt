@@ -2,14 +2,16 @@
 -- Assumes nothing.
 use mathlib.Core.Path.{sym, ap, _∙_}
 use mathlib.Core.List.{List, _++_}
-use Prim.Native.Nat.{ℕ}
+use Prim.Native.Nat.{ℕ, _<_, _≤_}
+use native.Mathlib.Omega.{arith}
 use borrow.Author.Needs.{needs}
 use borrow.Author.Tests.{not-true, not-false}
-use lib.ListN.{drop}
+use lib.ListN.{length, drop}
 use Rattle.instruction.specs.declared.mode.Mode.{Mode}
 use Rattle.views.specs.View.{Sound}
-use Rattle.views.proofs.Viewing.{is-sound, small, refused-all, no-room-for, shown-as}
+use Rattle.views.proofs.Viewing.{is-sound, small, covered, refused-all, no-room-for, shown-as}
 use Rattle.arrivals.specs.Arrivals.{arrivalsOf}
+use Rattle.arrivals.proofs.Arriving.{none-outside}
 use Rattle.arrivals.proofs.arrival.arrivals.Statement.{statement}
 use Rattle.arrivals.proofs.arrival.arrivals.Tie as tie
 
@@ -25,11 +27,14 @@ image c = start c .args .image .now
 abbrev marks : tie.After-is-written → List ℕ
 marks c = start c .args .marks .now
 
+abbrev p : tie.After-is-written → ℕ
+p c = start c .args .p
+
 abbrev room : tie.After-is-written → List ℕ
 room c = start c .args .room .now
 
 abbrev out : tie.After-is-written → List ℕ
-out c = arrivalsOf (mode c) (image c) (marks c) (start c .args .p)
+out c = arrivalsOf (mode c) (image c) (marks c) (p c)
 
 returns : tie.Need-returns
 returns c =
@@ -43,28 +48,39 @@ sound c =
 
 returns-2 : tie.Need-returns-2
 returns-2 c =
-    let n = c .before in
-    let e = n .before in
+    let e = c .before in
     let w = e .before in
-    no-room-for (image w) (marks w) (out w) (room w) (sound e) (n .count-arrivals .result) (sym (n .count-arrivals .ensures)) (c .if2 .taken)
+    let z = none-outside (mode w) (image w) (marks w) (p w) (c .if2 .taken) in
+    shown-as (image w) (marks w) (out w) (room w) (sound e) 0 (ap length z) (omega arith) (room w) (ap (λ (l : List ℕ). l ++ room w) (sym z))
 
-write-arrivals-requires : tie.Need-write-arrivals-requires
-write-arrivals-requires c κs =
-    let k = c .before in
-    let n = k .before in
-    let e = n .before in
+-- what holds of the marks and of the position asked
+asked : (c : tie.Else2) → let w = c .before .before in (length (image w) ≤ 65536) × (length (image w) ≤ length (marks w)) × (p w < length (image w))
+asked c =
+    let e = c .before in
     let w = e .before in
-    (small (image w) (marks w) (sound e), rw (n .count-arrivals .ensures) at (k .if2 .left))
+    (small (image w) (marks w) (sound e), covered (image w) (marks w) (sound e), c .if2 .left)
 
 returns-3 : tie.Need-returns-3
 returns-3 c =
-    let p = c .before .before in
-    let k = p .before .before in
-    let n = k .before in
-    let e = n .before in
+    let n = c .before in
+    let e = n .before .before in
     let w = e .before in
-    let f = ap (λ (j : ℕ). out w ++ drop j (room w)) (sym (n .count-arrivals .ensures)) in
-    shown-as (image w) (marks w) (out w) (room w) (sound e) (n .count-arrivals .result) (sym (n .count-arrivals .ensures)) (k .if2 .left) _ (p .write-arrivals .ensures ∙ f)
+    no-room-for (image w) (marks w) (out w) (room w) (sound e) (n .needed .result) (sym (n .needed .ensures .1 (c .if3 .taken))) (c .if3 .taken)
+
+-- there is room for all
+enough : (c : tie.Else3) → let w = c .before .before .before .before in length (out w) ≤ length (room w)
+enough c = omega (arith, c .before .needed .ensures .0, c .if3 .left)
+
+returns-4 : tie.Need-returns-4
+returns-4 c =
+    let k = c .before .before in
+    let i = k .before .before in
+    let e = i .before .before .before in
+    let w = e .before in
+    let n : ℕ = k .write-arrivals .result in
+    let g = sym (k .write-arrivals .ensures .0) in
+    let h : n ≤ length (room w) = omega (arith, g, enough i) in
+    shown-as (image w) (marks w) (out w) (room w) (sound e) n g h _ (k .write-arrivals .ensures .1 ∙ ap (λ (j : ℕ). out w ++ drop j (room w)) g)
 
 pub arrivals-spec : {M : Type 1} → statement M
 arrivals-spec =
@@ -73,8 +89,9 @@ arrivals-spec =
     (λ c κs. search needs)
     (λ c κs. search needs)
     returns
-    (λ c κs. small (image (c .before)) (marks (c .before)) (sound c))
     returns-2
-    write-arrivals-requires
+    (λ c κs. asked c)
+    returns-3
+    (λ c κs. let k = c .before in (asked (k .before .before), enough k))
     (λ c. search needs)
-    returns-3)
+    returns-4)

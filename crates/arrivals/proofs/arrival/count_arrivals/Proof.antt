@@ -1,78 +1,79 @@
 -- `arrival::count_arrivals` meets its contract: those counted and those left are all.
 -- Assumes nothing.
-use mathlib.Core.Path.{_≡_, ap, _∙_}
-use mathlib.Core.List.{List, _∷_}
-use Prim.Native.Nat.{ℕ, _+_, _<_, _≤_}
+use mathlib.Core.Path.{_≡_, ap}
+use mathlib.Core.List.{List}
+use Prim.Native.Nat.{ℕ, _+_, _≤_}
 use native.Mathlib.Omega.{arith}
 use borrow.Author.Needs.{needs}
 use lib.ListN.{length}
 use Rattle.instruction.specs.declared.mode.Mode.{Mode}
 use Rattle.arrivals.specs.Arrivals.{arrivalsOf}
-use Rattle.arrivals.proofs.Arriving.{leftFrom, all-left, none-left, few, Next, next-is, passed}
+use Rattle.arrivals.proofs.Arriving.{leftFrom, all-left, none-left, few, Next, next-is, next-one, next-none}
 use Rattle.arrivals.proofs.arrival.count_arrivals.Statement.{statement}
 use Rattle.arrivals.proofs.arrival.count_arrivals.Tie as tie
 
 abbrev Inv-loop : tie.InvT-loop
-Inv-loop mode image marks p n count₀ q₀ count q =
-    (count + length (leftFrom mode image marks p q) ≡ length (arrivalsOf mode image marks p))
-    × (q < length image → leftFrom mode image marks p q ≡ q ∷ leftFrom mode image marks p (q + 1))
+Inv-loop mode image marks p n count₀ from₀ count from =
+    count + length (leftFrom mode image marks p from) ≡ length (arrivalsOf mode image marks p)
 
 abbrev μ-loop : tie.MeasureT-loop
-μ-loop mode image marks p n count₀ q₀ count q = length (leftFrom mode image marks p q)
+μ-loop mode image marks p n count₀ from₀ count from = length (leftFrom mode image marks p from)
 
-abbrev start : tie.After-next-arrival Inv-loop μ-loop → tie.Start Inv-loop μ-loop
-start c = c .before .before .before
+abbrev start : tie.At-loop Inv-loop μ-loop → tie.Start Inv-loop μ-loop
+start l = l .before .before .before
 
-abbrev mode : tie.After-next-arrival Inv-loop μ-loop → Mode
-mode c = start c .args .mode
+abbrev mode : tie.At-loop Inv-loop μ-loop → Mode
+mode l = start l .args .mode
 
-abbrev image : tie.After-next-arrival Inv-loop μ-loop → List ℕ
-image c = start c .args .image .now
+abbrev image : tie.At-loop Inv-loop μ-loop → List ℕ
+image l = start l .args .image .now
 
-abbrev marks : tie.After-next-arrival Inv-loop μ-loop → List ℕ
-marks c = start c .args .marks .now
+abbrev marks : tie.At-loop Inv-loop μ-loop → List ℕ
+marks l = start l .args .marks .now
 
-abbrev p : tie.After-next-arrival Inv-loop μ-loop → ℕ
-p c = start c .args .p
+abbrev p : tie.At-loop Inv-loop μ-loop → ℕ
+p l = start l .args .p
+
+fits : (l : tie.At-loop Inv-loop μ-loop) → length (image l) ≤ 65536
+fits l = start l .pre .0
 
 loop-holds : tie.Need-loop-holds Inv-loop μ-loop
 loop-holds c =
-    let n = next-is (mode c) (image c) (marks c) (p c) (start c .pre) 0 (c .next-arrival .result) (c .next-arrival .ensures) in
-    (omega (arith, ap length (n .same ∙ all-left (mode c) (image c) (marks c) (p c))), n .head)
+    let a = c .before .before .args in omega (arith, ap length (all-left (a .mode) (a .image .now) (a .marks .now) (a .p)))
 
-add-count : tie.Need-add-count Inv-loop μ-loop
-add-count c =
-    let l = c .before in
-    let s = l .before in
-    let e = ap length (l .loop .inv .1 (c .loop-test .taken)) in
-    let h : length (image s) ≤ 65536 = start s .pre in
-    record { fits = omega (arith, l .loop .inv .0, few (mode s) (image s) (marks s) (p s)) }
+abbrev Found : tie.At-loop Inv-loop μ-loop → ℕ → Type 0
+Found l q = Next (mode l) (image l) (marks l) (p l) (l .loop .from) q
 
--- the arrival after q
-next : (c : tie.After-next-arrival2 Inv-loop μ-loop) → let s = c .before .before .before in Next (mode s) (image s) (marks s) (p s) (c .before .before .loop .q + 1) (c .next-arrival2 .result)
+-- the arrival that is found
+next : (c : tie.After-next-arrival Inv-loop μ-loop) → Found (c .before .before) (c .next-arrival .result)
 next c =
-    let s = c .before .before .before in
-    next-is (mode s) (image s) (marks s) (p s) (start s .pre) (c .before .before .loop .q + 1) (c .next-arrival2 .result) (c .next-arrival2 .ensures)
-
--- one less is left
-turn : (c : tie.After-next-arrival2 Inv-loop μ-loop) → let l = c .before .before in let s = l .before in leftFrom (mode s) (image s) (marks s) (p s) (l .loop .q) ≡ l .loop .q ∷ leftFrom (mode s) (image s) (marks s) (p s) (c .next-arrival2 .result)
-turn c =
-    let t = c .before in
-    let l = t .before in
-    let s = l .before in
-    passed (mode s) (image s) (marks s) (p s) (start s .pre) (l .loop .q) (c .next-arrival2 .result) (t .loop-test .taken) (l .loop .inv .1) (next c)
-
-loop-less : tie.Need-loop-less Inv-loop μ-loop
-loop-less c = omega (arith, ap length (turn c))
-
-loop-again : tie.Need-loop-again Inv-loop μ-loop
-loop-again c = (omega (arith, c .before .before .loop .inv .0, ap length (turn c)), next c .head)
+    let l = c .before .before in
+    next-is (mode l) (image l) (marks l) (p l) (fits l) (l .loop .from) (c .next-arrival .result) (c .next-arrival .ensures)
 
 returns : tie.Need-returns Inv-loop μ-loop
 returns c =
+    let w = c .before in
+    omega (arith, w .before .before .loop .inv, ap length (next-none (next w) (c .if1 .taken)))
+
+add-count : tie.Need-add-count Inv-loop μ-loop
+add-count c =
+    let w = c .before in
+    let l = w .before .before in
+    let h = fits l in
+    record { fits = omega (arith, l .loop .inv, h, few (mode l) (image l) (marks l) (p l), ap length (next-one (next w) (c .if1 .left))) }
+
+loop-less : tie.Need-loop-less Inv-loop μ-loop
+loop-less c = omega (arith, ap length (next-one (next (c .before)) (c .if1 .left)))
+
+loop-again : tie.Need-loop-again Inv-loop μ-loop
+loop-again c =
+    let w = c .before in
+    omega (arith, w .before .before .loop .inv, ap length (next-one (next w) (c .if1 .left)))
+
+returns-2 : tie.Need-returns-2 Inv-loop μ-loop
+returns-2 c =
     let l = c .before in
-    let s = l .before in
-    omega (arith, l .loop .inv .0, ap length (none-left (mode s) (image s) (marks s) (p s) (l .loop .q) (c .loop-test .left)))
+    omega (arith, l .loop .inv, ap length (none-left (mode l) (image l) (marks l) (p l) (l .loop .from) (c .loop-test .left)))
 
 pub count-arrivals-spec : {M : Type 1} → statement M
 count-arrivals-spec =
@@ -81,11 +82,11 @@ count-arrivals-spec =
     Inv-loop
     μ-loop
     (λ c. search needs)
-    (λ c κs. search needs)
     loop-holds
-    add-count
-    (λ c. let h : length (image (c .before .before)) ≤ 65536 = start (c .before .before) .pre in record { fits = omega arith })
     (λ c κs. search needs)
+    returns
+    add-count
+    (λ c. let h = fits (c .before .before .before) in record { fits = omega (arith, h, c .if1 .left) })
     loop-less
     loop-again
-    returns)
+    returns-2)
