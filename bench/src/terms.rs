@@ -17,7 +17,7 @@ use std::hint::black_box;
 const TERMS: [(usize, usize); 3] = [(MOST, 4_096), (MOST / 4, LENGTH), (MOST, LENGTH)];
 const MOST: usize = 1_000;
 const LENGTH: usize = pottagewing::MOST_BYTES;
-/// For each image: more than a line has, and the one of the sums.
+/// For each image and one more: more than a line can have, the one of the sums too, so that ours need not count them first.
 const LINE: usize = 256;
 /// Images of the term that is changed at some places before anything is measured.
 const FEW: usize = 3;

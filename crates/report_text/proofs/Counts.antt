@@ -19,7 +19,7 @@ use Rattle.views.proofs.Ups.{up-length}
 use Rattle.report_text.specs.Figures.{isSet}
 
 -- what a test adds, in the machine's words
-a-byte : (t : Bool) → boolByte t ≡ one t
+pub a-byte : (t : Bool) → boolByte t ≡ one t
 a-byte true = refl
 a-byte false = refl
 

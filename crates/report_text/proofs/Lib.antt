@@ -5,6 +5,7 @@ pub mod ClaimsSums
 pub mod CodeAndData
 pub mod Counts
 pub mod Covering
+pub mod EmptyLines
 pub mod Finishes
 pub mod Firsts
 pub mod Gathers
@@ -17,6 +18,7 @@ pub mod Named
 pub mod Names
 pub mod PrintedFits
 pub mod ReportFed
+pub mod ReportLengths
 pub mod ReportedApart
 pub mod Runs
 pub mod Starts

@@ -42,7 +42,7 @@ module _ (s : Sums) (i : List (List ℕ)) where
       by (inr p) = rw p refl
 
   -- an image's line, or 22; and what may follow it at the end
-  image-out : (length (imageOut s i) ≤ 159) × (length (lastOut (imageTerm s i)) ≤ 170)
+  pub image-out : (length (imageOut s i) ≤ 159) × (length (lastOut (imageTerm s i)) ≤ 170)
   image-out = by (fitting (adding s (imageAnswer i))) refl
     where
       by : (x : Bool) → fitting (adding s (imageAnswer i)) ≡ x → (length (imageOut s i) ≤ 159) × (length (lastOut (imageTerm s i)) ≤ 170)

@@ -47,11 +47,11 @@ module _ (s : Sums) (i : List (List ℕ)) (is : List (List (List ℕ))) where
   abbrev sum : Sums
   sum = adding s (imageAnswer i)
 
-  reported-on : fitting sum ≡ true → reported s (i ∷ is) ≡ imageLine (nameOf (first i)) (imageAnswer i) ++ reported sum is
+  pub reported-on : fitting sum ≡ true → reported s (i ∷ is) ≡ imageLine (nameOf (first i)) (imageAnswer i) ++ reported sum is
   unfolding reported
   reported-on e = rw e refl
 
-  reported-over : fitting sum ≡ false → reported s (i ∷ is) ≡ numberLine 22
+  pub reported-over : fitting sum ≡ false → reported s (i ∷ is) ≡ numberLine 22
   unfolding reported
   reported-over e = rw e refl
 

@@ -5,5 +5,6 @@ pub mod Image
 pub mod Sums
 pub mod Report
 pub mod Term
+pub mod Enough
 pub mod ClaimsReport
 pub mod ClaimsTerm

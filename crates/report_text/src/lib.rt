@@ -1,5 +1,6 @@
 // The term report's work: the texts of many images to a line for each, and the sums.
 mod count;
+mod enough;
 mod figures;
 mod finish;
 mod gather;

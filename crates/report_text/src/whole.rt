@@ -6,12 +6,11 @@ ghost use lib.Seq.{sets};
 ghost use Rattle.views.specs.View.{viewedOf};
 ghost use Rattle.report_text.specs.Report.{reportAnswer, reportRoom, writtenIn, Filling};
 ghost use Rattle.report_text.specs.Term.{state, most, mostPrinted, closeOut, firstOut, Writing};
+use crate::enough;
+use crate::enough::HIGHEST;
 use crate::term;
 use crate::term::Term;
 use views::Viewed;
-
-// A report that is longer is not written: an answer holds no number over it.
-const HIGHEST: usize = 0x7FFF_FFFF_FFFF_FFFF;
 
 // As much as is held of an image's text.
 fn held() -> [u8; Term::MOST]
@@ -139,11 +138,15 @@ fn fill(text: &[u8], room: &mut [u8]) -> usize
     write_all(text, &mut held, &mut line, room)
 }
 
-// The whole report of a text: how many bytes were written, or 11 with how many are needed. It is made twice, so that a refusal writes nothing.
+// The whole report of a text: how many bytes were written, or 11 with how many are needed. A refusal writes nothing, so it is counted first,
+// unless the room is long enough for any.
 pub fn report_text(text: &[u8], room: &mut [u8]) -> Viewed
     ensures { λ r. ⌜ viewedOf r ≡ reportAnswer (now (text .entry)) (now (room .entry)) ⌝ }
     ensures { λ _. ⌜ now (room .exit) ≡ reportRoom (now (text .entry)) (now (room .entry)) ⌝ }
 {
+    if enough::is_enough(text, room.len()) {
+        return Viewed::Written(fill(text, room));
+    }
     let n = fill(text, &mut room[..0]);
     if HIGHEST < n {
         return Viewed::NoRoom(HIGHEST);

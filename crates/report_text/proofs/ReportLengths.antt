@@ -1,0 +1,42 @@
+-- How long a report can be.
+-- Assumes nothing.
+use Prim.Native.Nat.{ℕ, _+_, _*_, _≤_}
+use native.Mathlib.Omega.{arith}
+use mathlib.Core.Bool.{Bool, true, false}
+use mathlib.Core.List.{List, [], _∷_, _++_}
+use mathlib.Core.Path.{_≡_, refl, ap}
+use lib.ListN.{length, length-append}
+use Rattle.list_text.specs.Text.{first}
+use Rattle.report_text.specs.Enough.{emptyLines}
+use Rattle.report_text.specs.Images.{imagesOf}
+use Rattle.report_text.specs.Image.{imageAnswer}
+use Rattle.report_text.specs.Name.{nameOf}
+use Rattle.report_text.specs.Report.{imageLine, reported, reportOf}
+use Rattle.report_text.specs.Sums.{adding, allFit, fitting, noSums}
+use Rattle.report_text.specs.Term.{imageOut}
+use Rattle.report_text.specs.declared.sums.Sums.{Sums}
+use Rattle.report_text.proofs.EmptyLines.{images-most}
+use Rattle.report_text.proofs.Finishes.{out-on, out-over}
+use Rattle.report_text.proofs.Lines.{total-length}
+use Rattle.report_text.proofs.PrintedFits.{image-out}
+use Rattle.report_text.proofs.ReportFed.{reported-on, reported-over}
+
+reported-most : (is : List (List (List ℕ))) (s : Sums) → fitting s ≡ true → length (reported s is) ≤ 159 * length is + 170
+unfolding reported
+reported-most [] s f = total-length s f
+reported-most (i ∷ is) s f = by (fitting (adding s (imageAnswer i))) refl (reported-most is (adding s (imageAnswer i)))
+  where
+    line : length (imageOut s i) ≤ 159
+    line = image-out s i .0
+
+    by : (x : Bool) → fitting (adding s (imageAnswer i)) ≡ x
+        → (fitting (adding s (imageAnswer i)) ≡ true → length (reported (adding s (imageAnswer i)) is) ≤ 159 * length is + 170)
+        → length (reported s (i ∷ is)) ≤ 159 * length (i ∷ is) + 170
+    by true e r =
+        let n = length-append (imageLine (nameOf (first i)) (imageAnswer i)) (reported (adding s (imageAnswer i)) is) in
+        omega (arith, ap length (reported-on s i is e), n, ap length (out-on s i e .0), line, r e)
+    by false e r = omega (arith, ap length (reported-over s i is e), ap length (out-over s i e .0), line)
+
+pub report-most : (text : List ℕ) → length (reportOf text) ≤ 159 * (emptyLines text + 1) + 170
+unfolding reportOf allFit
+report-most text = omega (arith, images-most text, reported-most (imagesOf text) noSums refl)
