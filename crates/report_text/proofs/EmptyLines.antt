@@ -1,11 +1,11 @@
 -- Empty lines counted byte by byte, and part by part; and that each image but one is ended by one of them.
 -- Assumes nothing.
 use Prim.Native.Nat.{ℕ, zero, suc, _+_, _≤_, _<_}
-use native.Mathlib.Nat.{zero-add, le-of-suc-le-suc}
+use native.Mathlib.Nat.{zero-add}
 use native.Mathlib.Omega.{arith}
 use mathlib.Core.Bool.{Bool, true, false, cond, _&&_}
 use mathlib.Core.List.{List, [], _∷_, _++_}
-use mathlib.Core.Path.{_≡_, refl, sym, ap, _∙_}
+use mathlib.Core.Path.{_≡_, refl, ap}
 use lib.Dec.{eqb}
 use lib.ListN.{length, getD, take, drop, length-append, length-drop, length-map}
 use lib.Seq.{drop-cons}
@@ -13,7 +13,7 @@ use mir.Val.{boolByte}
 use Rattle.instruction.proofs.Ands.{second-part}
 use Rattle.reach.proofs.Count.{one}
 use Rattle.text.specs.Cut.{lines}
-use Rattle.report_text.specs.Enough.{endsEmpty, emptyLines}
+use Rattle.report_text.specs.Empty.{endsEmpty, emptyLines, isQuiet}
 use Rattle.report_text.specs.Images.{imagesOf}
 use Rattle.report_text.proofs.Counts.{a-byte}
 use Rattle.report_text.proofs.ImageTexts.{endedText, texts, texts-images}
@@ -48,6 +48,18 @@ empty-parts zero (a ∷ l) = zero-add (emptyLines (a ∷ l))
 empty-parts (suc k) [] = refl
 empty-parts (suc k) (a ∷ []) = let z = empty-few (drop k []) (omega (arith, length-drop {A = ℕ} k [])) in omega arith
 empty-parts (suc k) (a ∷ b ∷ t) = let r = empty-parts k (b ∷ t) in omega arith
+
+-- where none is counted, none ends
+pub quiet-none : (f : Bool) (p : List ℕ) → 0 < length p → (f && eqb (getD p 0 0) 10) ≡ false → emptyLines p ≡ 0 → isQuiet f p ≡ true
+unfolding isQuiet emptyLines
+quiet-none f [] h e z = absurd (omega arith)
+quiet-none f (b ∷ []) h e z = rw e
+quiet-none f (b ∷ c ∷ t) h e z =
+    let k = by (endsEmpty b c) refl z in rw e (quiet-none (eqb b 10) (c ∷ t) (omega arith) (k .0) (k .1))
+  where
+    by : (x : Bool) → endsEmpty b c ≡ x → one x + emptyLines (c ∷ t) ≡ 0 → (endsEmpty b c ≡ false) × (emptyLines (c ∷ t) ≡ 0)
+    by true i j = absurd (omega arith)
+    by false i j = (i, omega arith)
 
 -- the images
 ended-most : (h : List ℕ) → length (endedText h) ≤ 1

@@ -1,34 +1,23 @@
 -- Bytes held one after another, up to the first that ends an image.
 -- Assumes nothing.
-use Prim.Native.Nat.{ℕ, zero, suc, _+_, _≤_, _<_, min}
+use Prim.Native.Nat.{ℕ, suc, _+_, _≤_, _<_, min}
 use native.Mathlib.Nat.{zero-add, add-zero}
 use native.Mathlib.Omega.{arith}
-use mathlib.Core.Bool.{Bool, true, false, cond, not, _&&_}
-use mathlib.Core.List.{List, [], _∷_, _++_, append-nil}
+use mathlib.Core.Bool.{Bool, true, false, _&&_}
+use mathlib.Core.List.{List, [], _∷_, append-nil}
 use mathlib.Core.Logic.{_⊎_, inl, inr}
 use mathlib.Core.Path.{_≡_, refl, sym, ap, ap₂, _∙_}
-use lib.Dec.{eqb, ltb}
-use lib.ListN.{length, getD, take, drop, drop-of-length-le}
-use lib.Seq.{drop-cons}
+use lib.Dec.{eqb}
+use lib.ListN.{length, getD, take, drop, length-drop, drop-of-length-le}
+use lib.Seq.{drop-cons, drop-drop}
 use borrow.Author.Tests.{eq-eqb, ne-eqb}
 use Rattle.instruction.proofs.Ands.{not-first, not-second}
 use Rattle.instruction.proofs.Sign.{never}
 use Rattle.report_text.specs.Term.{State, state, most, heldIn, pushedCount, pushedRoom, pushed, isEmptyLine, completes, stepTo, stepOut}
-use Rattle.report_text.specs.Term.{fedTo, fedOut, usedIn, heldState, Gathering}
-use Rattle.report_text.specs.declared.gather.Gathered.{Gathered}
+use Rattle.report_text.specs.Term.{fedTo, fedOut, usedIn, Gathering}
+use Rattle.report_text.specs.Going.{going, Gone, Ended}
 use Rattle.report_text.specs.declared.sums.Sums.{Sums}
 use Rattle.report_text.specs.declared.term.Term.{Term}
-
--- a state that is not over
-abbrev pub going : Sums → ℕ → Bool → List ℕ → State
-going s held fresh room = state (record { sums = s; held = held; fresh = fresh; over = false }) room
-
--- the first `at` bytes of the text lead from s to t, and nothing is printed of them
-pub record Gone (s : State) (text : List ℕ) (t : State) (at : ℕ) : Type 0 where
-  pub inside : at ≤ length text
-  pub used : usedIn s text ≡ at + usedIn t (drop at text)
-  pub to : (n : ℕ) → fedTo s (take (at + n) text) ≡ fedTo t (take n (drop at text))
-  pub out : (n : ℕ) → fedOut s (take (at + n) text) ≡ fedOut t (take n (drop at text))
 
 pub gone-none : (s : State) (text : List ℕ) → Gone s text s 0
 gone-none s text = record {
@@ -88,14 +77,39 @@ module _ {s : State} {text : List ℕ} {t : State} {at : ℕ} (g : Gone s text t
   unfolding usedIn
   used-ended c = rw c refl
 
-  pub gone-ended : completes (t .term) byte ≡ true
-      → (usedIn s text ≡ at + 1) × (fedTo s (take (at + 1) text) ≡ stepTo t byte) × (fedOut s (take (at + 1) text) ≡ stepOut t byte)
+  pub gone-ended : byte ≡ 10 → completes (t .term) byte ≡ true → Ended s text t (at + 1)
   unfolding fedTo fedOut
-  gone-ended c = (
-    g .used ∙ ap (λ (x : List ℕ). at + usedIn t x) splits ∙ ap (λ (k : ℕ). at + k) (used-ended c),
-    g .to 1 ∙ ap (λ (x : List ℕ). fedTo t (take 1 x)) splits,
-    g .out 1 ∙ ap (λ (x : List ℕ). fedOut t (take 1 x)) splits ∙ append-nil (stepOut t byte),
-  )
+  gone-ended q c = record {
+    complete = ap (completes (t .term)) (sym q) ∙ c;
+    used = g .used ∙ ap (λ (x : List ℕ). at + usedIn t x) splits ∙ ap (λ (k : ℕ). at + k) (used-ended c);
+    to = g .to 1 ∙ ap (λ (x : List ℕ). fedTo t (take 1 x)) splits ∙ ap (stepTo t) q;
+    out = g .out 1 ∙ ap (λ (x : List ℕ). fedOut t (take 1 x)) splits ∙ append-nil (stepOut t byte) ∙ ap (stepOut t) q;
+  }
+
+-- one part after another
+on-is : (at k n : ℕ) → at + k + n ≡ at + (k + n)
+on-is at k n = omega arith
+
+module _ {s : State} {text : List ℕ} {t : State} {at : ℕ} (g : Gone s text t at) {u : State} {k : ℕ} where
+  pub gone-on : Gone t (drop at text) u k → Gone s text u (at + k)
+  gone-on h = record {
+    inside = let l = length-drop at text in let i = h .inside in let j = g .inside in omega arith;
+    used =
+        let z : at + (k + usedIn u (drop (at + k) text)) ≡ at + k + usedIn u (drop (at + k) text) = omega arith in
+        g .used ∙ ap (λ (n : ℕ). at + n) (h .used ∙ ap (λ (x : List ℕ). k + usedIn u x) (drop-drop k at text)) ∙ z;
+    to = λ n.
+        ap (λ (j : ℕ). fedTo s (take j text)) (on-is at k n) ∙ g .to (k + n) ∙ h .to n ∙ ap (λ (x : List ℕ). fedTo u (take n x)) (drop-drop k at text);
+    out = λ n.
+        ap (λ (j : ℕ). fedOut s (take j text)) (on-is at k n) ∙ g .out (k + n) ∙ h .out n ∙ ap (λ (x : List ℕ). fedOut u (take n x)) (drop-drop k at text);
+  }
+
+  pub ended-on : Ended t (drop at text) u k → Ended s text u (at + k)
+  ended-on h = record {
+    complete = h .complete;
+    used = g .used ∙ ap (λ (n : ℕ). at + n) (h .used);
+    to = g .to k ∙ h .to;
+    out = g .out k ∙ h .out;
+  }
 
 -- the whole text
 pub gone-whole : {s : State} {text : List ℕ} {t : State} {at : ℕ} → Gone s text t at → length text ≤ at
@@ -155,16 +169,14 @@ module _ (t : Term) (text room : List ℕ) (o : t .over ≡ false) (held : ℕ) 
   abbrev same : begin ≡ state t room
   same = as-going t room o
 
-  pub ends : (b : ℕ) → b ≡ 10 → completes (then .term) b ≡ true
-      → (usedIn begin text ≡ at + 1) × (fedTo begin (take (at + 1) text) ≡ stepTo then b) × (fedOut begin (take (at + 1) text) ≡ stepOut then b)
-      → Gathering t text room room′ (record { held = held; fresh = fresh; used = at + 1; complete = true })
-  ends b q e g = record {
-    used-is = sym (g .0) ∙ ap (λ (x : State). usedIn x text) same;
+  pub ends : Ended begin text then at → Gathering t text room room′ (record { held = held; fresh = fresh; used = at; complete = true })
+  ends g = record {
+    used-is = sym (g .used) ∙ ap (λ (x : State). usedIn x text) same;
     whole = λ f. absurd (never f);
     ended = λ f. (
-      ap (λ (x : ℕ). completes (then .term) x) (sym q) ∙ e,
-      ap (λ (x : State). fedTo x (take (at + 1) text)) (sym same) ∙ g .1 ∙ ap (stepTo then) q,
-      ap (λ (x : State). fedOut x (take (at + 1) text)) (sym same) ∙ g .2 ∙ ap (stepOut then) q,
+      g .complete,
+      ap (λ (x : State). fedTo x (take at text)) (sym same) ∙ g .to,
+      ap (λ (x : State). fedOut x (take at text)) (sym same) ∙ g .out,
     );
   }
 

@@ -17,6 +17,7 @@ pub mod Marked
 pub mod Named
 pub mod Names
 pub mod PrintedFits
+pub mod QuietParts
 pub mod ReportFed
 pub mod ReportLengths
 pub mod ReportedApart

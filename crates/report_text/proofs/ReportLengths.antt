@@ -3,11 +3,11 @@
 use Prim.Native.Nat.{ℕ, _+_, _*_, _≤_}
 use native.Mathlib.Omega.{arith}
 use mathlib.Core.Bool.{Bool, true, false}
-use mathlib.Core.List.{List, [], _∷_, _++_}
+use mathlib.Core.List.{List, [], _∷_}
 use mathlib.Core.Path.{_≡_, refl, ap}
 use lib.ListN.{length, length-append}
 use Rattle.list_text.specs.Text.{first}
-use Rattle.report_text.specs.Enough.{emptyLines}
+use Rattle.report_text.specs.Empty.{emptyLines}
 use Rattle.report_text.specs.Images.{imagesOf}
 use Rattle.report_text.specs.Image.{imageAnswer}
 use Rattle.report_text.specs.Name.{nameOf}

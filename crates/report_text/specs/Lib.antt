@@ -5,6 +5,7 @@ pub mod Image
 pub mod Sums
 pub mod Report
 pub mod Term
-pub mod Enough
+pub mod Empty
+pub mod Going
 pub mod ClaimsReport
 pub mod ClaimsTerm

@@ -1,5 +1,7 @@
 // The term report's work: the texts of many images to a line for each, and the sums.
+mod copy;
 mod count;
+mod empty;
 mod enough;
 mod figures;
 mod finish;

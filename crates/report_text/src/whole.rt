@@ -6,6 +6,7 @@ ghost use lib.Seq.{sets};
 ghost use Rattle.views.specs.View.{viewedOf};
 ghost use Rattle.report_text.specs.Report.{reportAnswer, reportRoom, writtenIn, Filling};
 ghost use Rattle.report_text.specs.Term.{state, most, mostPrinted, closeOut, firstOut, Writing};
+use crate::copy;
 use crate::enough;
 use crate::enough::HIGHEST;
 use crate::term;
@@ -36,22 +37,6 @@ fn count_of(viewed: Viewed) -> usize
         Viewed::ShortMarks(_) => 0,
         Viewed::Damaged(_) => 0,
         Viewed::NoRoom(_) => 0,
-    }
-}
-
-// Writes a text into a room from a place on; what falls past its end is not written.
-fn copy(text: &[u8], room: &mut [u8], at: usize)
-    ensures { λ _. ⌜ now (room .exit) ≡ sets (now (room .entry)) at (now (text .entry)) ⌝ }
-{
-    let mut to = at;
-    let mut i: usize = 0;
-    while i < text.len() {
-        if room.len() <= to {
-            return;
-        }
-        room[to] = text[i];
-        to += 1;
-        i += 1;
     }
 }
 
@@ -91,7 +76,7 @@ fn write_some(
     let taken = term::take(term, text, held, line);
     let printed = taken.printed;
     let k = count_of(printed);
-    copy(&line[..k], room, n);
+    copy::copy(&line[..k], room, n);
     let next = taken.term;
     Progress {
         term: next,
@@ -107,7 +92,7 @@ fn write_last(term: Term, held: &[u8], line: &mut [u8], room: &mut [u8], n: usiz
     ensures { λ _. ⌜ now (room .exit) ≡ sets (now (room .entry)) n (closeOut (state term (now (held .entry)))) ⌝ }
 {
     let k = count_of(term::close(term, held, line));
-    copy(&line[..k], room, n);
+    copy::copy(&line[..k], room, n);
     more(n, k)
 }
 

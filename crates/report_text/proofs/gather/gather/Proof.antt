@@ -1,20 +1,15 @@
 -- `gather::gather` meets its contract.
 -- Assumes nothing.
-use Prim.Native.Nat.{ℕ, _+_, _-_, _≤_, _<_}
+use Prim.Native.Nat.{ℕ, _+_, _-_, _≤_}
 use native.Mathlib.Omega.{arith}
-use mathlib.Core.Bool.{Bool, true, false, _&&_}
 use mathlib.Core.List.{List}
-use mathlib.Core.Logic.{_⊎_, inl, inr, ⊎-elim}
-use mathlib.Core.Path.{_≡_, refl, sym, ap, ap₂, subst, _∙_}
+use mathlib.Core.Path.{_≡_, refl, ap, subst, _∙_}
 use borrow.Author.Needs.{needs}
-use borrow.Author.Tests.{eqb-true}
-use lib.Dec.{eqb}
-use lib.ListN.{length, getD}
-use Rattle.instruction.proofs.Ands.{not-first, not-second}
-use Rattle.report_text.specs.Term.{State, state, most, stepTo, stepOut, pushed, isEmptyLine}
+use lib.ListN.{length, drop, length-drop}
+use Rattle.targets.proofs.HereIs.{to-end}
+use Rattle.report_text.specs.Going.{going, Gone, Going}
 use Rattle.report_text.specs.declared.sums.Sums.{Sums}
-use Rattle.report_text.proofs.Gathers.{going, Gone, gone-none, gone-more, gone-ended, gone-whole}
-use Rattle.report_text.proofs.Gathers.{byte-ends, byte-skipped, byte-held, not-both, pushed-as, ends, whole}
+use Rattle.report_text.proofs.Gathers.{gone-none, gone-on, ended-on, gone-whole, ends, whole}
 use Rattle.report_text.proofs.gather.gather.Statement.{statement}
 use Rattle.report_text.proofs.gather.gather.Tie as tie
 
@@ -28,61 +23,66 @@ abbrev μ-loop : tie.MeasureT-loop
 loop-holds : tie.Need-loop-holds Inv-loop μ-loop
 loop-holds c = (omega arith, refl, λ s. gone-none _ _)
 
+abbrev start : tie.At-loop Inv-loop μ-loop → tie.Start Inv-loop μ-loop
+start l = l .before .before .before
+
+abbrev looped : tie.After-gather-part Inv-loop μ-loop → tie.At-loop Inv-loop μ-loop
+looped g = g .before .before .before .before .before
+
+-- one part more
+more : (g : tie.After-gather-part Inv-loop μ-loop) → let l = looped g in
+    Going (l .loop .held) (l .loop .fresh) (drop (l .loop .at) (start l .args .text .now)) (g .before .before .before .part-of .result) (l .loop .room)
+    (g .gather-part .last .1 .1 .1 .1 .0) (g .gather-part .result)
+more g =
+    let l = looped g in
+    subst
+    (λ (x : List ℕ). Going (l .loop .held) (l .loop .fresh) x (g .before .before .before .part-of .result) (l .loop .room) (g .gather-part .last .1 .1 .1 .1 .0)
+    (g .gather-part .result))
+    (to-end (start l .args .text .now) (l .loop .at)) (g .gather-part .ensures)
+
+gather-part-requires : tie.Need-gather-part-requires Inv-loop μ-loop
+gather-part-requires c κs =
+    let p = c .before .before in
+    let l = p .before .before in
+    let t : List ℕ = start l .args .text .now in
+    let r = p .part-of .ensures in
+    (r .0, r .2, omega (arith, ap length (to-end t (l .loop .at)), length-drop (l .loop .at) t, r .1), omega (arith, l .loop .inv .1, start l .pre .0))
+
+inside : (g : tie.After-gather-part Inv-loop μ-loop) → let l = looped g in
+    l .loop .at + g .gather-part .result .used ≤ length (start l .args .text .now)
+inside g =
+    let l = looped g in
+    omega (arith, more g .inside, length-drop (l .loop .at) (start l .args .text .now), l .loop .inv .0)
+
 returns : tie.Need-returns Inv-loop μ-loop
 returns c =
-    let r = c .before .before .before in
-    let i = r .before in
-    let l = i .before in
-    let a = l .before .before .before .args in
-    let t = a .term in
-    let o = l .before .before .before .pre .1 in
-    let b : ℕ = getD (a .text .now) (l .loop .at) 0 in
-    let e = byte-ends (t .sums) (l .loop .held) (l .loop .fresh) (l .loop .room) b (c .before .before .if1 .taken) (c .before .if2 .taken) (c .if3 .taken) in
-    let g = gone-ended (l .loop .inv .2 (t .sums)) (i .loop-test .taken) e in
-    let q : b ≡ 10 = eqb-true b 10 (c .before .if2 .taken) in
-    ends t (a .text .now) (a .room .now) o (l .loop .held) (l .loop .fresh) (l .loop .room) (l .loop .at) b q e g
+    let g = c .before .before .before .before in
+    let l = looped g in
+    let a = start l .args in
+    ends (a .term) (a .text .now) (a .room .now) (start l .pre .1) _ _ _ _
+    (ended-on (l .loop .inv .2 (a .term .sums)) (more g .ended (c .if1 .taken) (a .term .sums)))
+
+loop-less : tie.Need-loop-less Inv-loop μ-loop
+loop-less c =
+    let g = c .before .before .before .before in
+    omega (arith, more g .whole (c .if1 .left) .0, g .before .before .before .part-of .ensures .0, inside g)
 
 loop-again : tie.Need-loop-again Inv-loop μ-loop
 loop-again c =
-    let i = c .before .before .before .before in
-    let l = i .before in
-    let a = l .before .before .before .args in
-    let b : ℕ = getD (a .text .now) (l .loop .at) 0 in (
-      omega (arith, i .loop-test .taken),
-      l .loop .inv .1,
-      λ s.
-          let p = byte-skipped s (l .loop .held) (l .loop .fresh) (l .loop .room) b (c .before .before .if1 .taken) (c .before .if2 .taken) (c .if3 .left) in
-          gone-more (l .loop .inv .2 s) (i .loop-test .taken) _ (p .0) (p .1),
-    )
-
-loop-again-2 : tie.Need-loop-again-2 Inv-loop μ-loop
-loop-again-2 c =
-    let p = c .before .before in
-    let j = p .before .before in
-    let i = j .before .before in
-    let l = i .before in
-    let a = l .before .before .before .args in
-    let b : ℕ = getD (a .text .now) (l .loop .at) 0 in (
-      omega (arith, i .loop-test .taken),
-      p .push .kept .0 ∙ l .loop .inv .1,
-      λ s.
-          let n = not-both (l .loop .fresh) (eqb b 10) (⊎-elim (λ x. inr (x .1 .left)) (λ x. inl (x .left)) (j .if1 .came)) in
-          let q = byte-held s (l .loop .held) (l .loop .fresh) (l .loop .room) b n in
-          gone-more (l .loop .inv .2 s) (i .loop-test .taken) _
-          (q .0 ∙ pushed-as s (l .loop .held) (l .loop .fresh) (l .loop .room) b _ _ (p .push .ensures .0) (p .push .ensures .1)) (q .1),
-    )
+    let g = c .before .before .before .before in
+    let l = looped g in
+    (inside g, g .gather-part .kept .1 .1 .1 .1 .0 ∙ l .loop .inv .1, λ s. gone-on (l .loop .inv .2 s) (more g .whole (c .if1 .left) .1 s))
 
 returns-2 : tie.Need-returns-2 Inv-loop μ-loop
 returns-2 c =
     let l = c .before in
-    let a = l .before .before .before .args in
-    let t = a .term in
-    let o = l .before .before .before .pre .1 in
-    let g = gone-whole (l .loop .inv .2 (t .sums)) (c .loop-test .left) in
-    whole t (a .text .now) (a .room .now) o (l .loop .held) (l .loop .fresh) (l .loop .room) (l .loop .at) g
+    let a = start l .args in
+    let g = gone-whole (l .loop .inv .2 (a .term .sums)) (c .loop-test .left) in
+    whole (a .term) (a .text .now) (a .room .now) (start l .pre .1) (l .loop .held) (l .loop .fresh) (l .loop .room) (l .loop .at) g
 
 pub gather-spec : {M : Type 1} → statement M
 gather-spec =
     tie.close
-    (tie.spec Inv-loop μ-loop loop-holds (λ c. search needs) (λ c. search needs) (λ c. search needs) returns (λ c. search needs) loop-again
-    (λ c κs. search needs) (λ c. search needs) loop-again-2 (λ c. search needs) returns-2)
+    (tie.spec Inv-loop μ-loop loop-holds (λ c. search needs) (λ c κs. search needs) (λ c. search needs) (λ c. search needs) (λ c. search needs)
+    gather-part-requires (λ c. let h = inside (c .before .before .before) in search needs) (λ c. search needs) returns loop-less loop-again
+    (λ c. search needs) returns-2)

@@ -1,8 +1,8 @@
--- `enough::ends_empty` meets its contract.
+-- `empty::ends_empty` meets its contract.
 -- Assumes nothing.
 use borrow.Author.Tests.{ne-eqb}
-use Rattle.report_text.proofs.enough.ends_empty.Statement.{statement}
-use Rattle.report_text.proofs.enough.ends_empty.Tie as tie
+use Rattle.report_text.proofs.empty.ends_empty.Statement.{statement}
+use Rattle.report_text.proofs.empty.ends_empty.Tie as tie
 
 returns : tie.Need-returns
 returns c = rw (c .if1 .taken)

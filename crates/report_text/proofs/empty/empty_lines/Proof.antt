@@ -1,4 +1,4 @@
--- `enough::empty_lines` meets its contract.
+-- `empty::empty_lines` meets its contract.
 -- Assumes nothing.
 use Prim.Native.Nat.{ℕ, _+_, _-_, _≤_, _<_, _^_}
 use native.Mathlib.Nat.{zero-add}
@@ -6,12 +6,13 @@ use native.Mathlib.Omega.{arith}
 use mathlib.Core.List.{List}
 use mathlib.Core.Path.{_≡_, ap, _∙_}
 use borrow.Author.Needs.{needs}
-use lib.ListN.{length, take, drop, length-take, length-drop}
-use lib.Seq.{take-all, drop-drop}
-use Rattle.report_text.specs.Enough.{emptyLines}
+use lib.ListN.{length, take, drop, length-take}
+use lib.Seq.{drop-drop}
+use Rattle.targets.proofs.HereIs.{to-end}
+use Rattle.report_text.specs.Empty.{emptyLines}
 use Rattle.report_text.proofs.EmptyLines.{empty-most, empty-parts}
-use Rattle.report_text.proofs.enough.empty_lines.Statement.{statement}
-use Rattle.report_text.proofs.enough.empty_lines.Tie as tie
+use Rattle.report_text.proofs.empty.empty_lines.Statement.{statement}
+use Rattle.report_text.proofs.empty.empty_lines.Tie as tie
 
 abbrev Inv-loop : tie.InvT-loop
 Inv-loop text n₀ from₀ n from = (from ≤ length text) × (n + emptyLines (drop from text) ≡ emptyLines text)
@@ -30,14 +31,14 @@ text l = l .before .before .args .text .now
 
 -- one part more
 more : (c : tie.After-in-part Inv-loop μ-loop) → let l = looped c in
-    l .loop .n + c .in-part .result + emptyLines (drop (l .loop .from + 255) (text l)) ≡ emptyLines (text l)
+    l .loop .n + c .in-part .result + emptyLines (drop (l .loop .from + 192) (text l)) ≡ emptyLines (text l)
 more c =
     let l = looped c in
     let f : ℕ = l .loop .from in
     let t : List ℕ = text l in
-    let m : f + 256 - f ≡ 256 = omega arith in
+    let m : f + 193 - f ≡ 193 = omega arith in
     let k = c .in-part .ensures ∙ ap (λ (j : ℕ). emptyLines (take j (drop f t))) m in
-    omega (arith, k, empty-parts 255 (drop f t), ap emptyLines (drop-drop 255 f t), l .loop .inv .1)
+    omega (arith, k, empty-parts 192 (drop f t), ap emptyLines (drop-drop 192 f t), l .loop .inv .1)
 
 few : (l : tie.At-loop Inv-loop μ-loop) → emptyLines (text l) < 2 ^ 64
 few l = omega (arith, empty-most (text l), l .before .before .good .0)
@@ -48,7 +49,7 @@ last c =
     let l = c .before .before .before in
     let f : ℕ = l .loop .from in
     let t : List ℕ = text l in
-    let k = c .in-part2 .ensures ∙ ap emptyLines (take-all (length t - f) (drop f t) (omega (arith, length-drop f t))) in
+    let k = c .in-part2 .ensures ∙ ap emptyLines (to-end t f) in
     omega (arith, k, l .loop .inv .1)
 
 pub empty-lines-spec : {M : Type 1} → statement M

@@ -1,4 +1,4 @@
--- `enough::in_part` meets its contract.
+-- `empty::in_part` meets its contract.
 -- Assumes nothing.
 use Prim.Native.Nat.{ℕ, zero, suc, _+_, _-_, _≤_, _<_}
 use native.Mathlib.Nat.{zero-add}
@@ -9,11 +9,11 @@ use mathlib.Core.Path.{_≡_, ap, _∙_}
 use borrow.Author.Needs.{needs}
 use lib.ListN.{length, getD, drop, length-drop}
 use mir.Val.{boolByte}
-use Rattle.report_text.specs.Enough.{endsEmpty, emptyLines}
+use Rattle.report_text.specs.Empty.{endsEmpty, emptyLines}
 use Rattle.report_text.proofs.Counts.{at-most-one}
 use Rattle.report_text.proofs.EmptyLines.{empty-next, empty-few}
-use Rattle.report_text.proofs.enough.in_part.Statement.{statement}
-use Rattle.report_text.proofs.enough.in_part.Tie as tie
+use Rattle.report_text.proofs.empty.in_part.Statement.{statement}
+use Rattle.report_text.proofs.empty.in_part.Tie as tie
 
 abbrev Inv-loop : tie.InvT-loop
 Inv-loop part n₀ i₀ n i = (n < i) × (n + emptyLines (drop (i - 1) part) ≡ emptyLines part)
