@@ -7,7 +7,7 @@ use Prim.Native.Nat.{ℕ, zero, suc, _+_, _-_, _≤_, _<_}
 use native.Mathlib.Omega.{arith}
 use borrow.Author.Tests.{lt-ltb, le-ltb}
 use lib.IntN.{ℤ, pos}
-use lib.ListN.{length, getD, set, take, drop, replicate, length-map, length-replicate}
+use lib.ListN.{length, getD, set, drop, replicate}
 use lib.Seq.{sets, getD-drop}
 use Rattle.instruction.specs.Answer.{Answer, accepted, refused, judge, after, laid}
 use Rattle.instruction.specs.declared.mode.Mode.{Mode}
@@ -15,22 +15,15 @@ use Rattle.text.specs.Bytes.{bytesOf}
 use Rattle.text.specs.Cut.{lines}
 use Rattle.text.proofs.Pairs.{bytes-small}
 use Rattle.read_back.specs.Back.{restoredOf, lineRefusals, sheetAfter, backAnswer, backImage, backMarks}
-use Rattle.read_back.specs.LinesLeave.{sheet, LinesLeave}
+use Rattle.read_back.specs.LinesLeave.{LinesLeave}
+use Rattle.read_back.specs.Noted.{marksIn}
 use Rattle.read_back.specs.Line.{fieldOn, letterOn, positionOn, hasBytes}
 use Rattle.read_back.specs.Order.{start}
 use Rattle.read_back.specs.Sheet.{Sheet, emptySheet, listedOn, sheetWith}
 use Rattle.read_back.specs.declared.back.Restored.{Restored}
 use Rattle.read_back.specs.declared.back.Restored.the-variants.{Written, LongImage, ShortMarks, NoRoom, Malformed, PastEnd}
-
--- ---- the bytes of cells
-
-abbrev pub bytesIn : List ℕ → List ℕ
-bytesIn cells = map (λ (c : ℕ). c - 1) cells
-
-pub bytes-at : (cells : List ℕ) (i : ℕ) → getD (bytesIn cells) i 0 ≡ getD cells i 0 - 1
-bytes-at [] i = refl
-bytes-at (c ∷ cells) zero = refl
-bytes-at (c ∷ cells) (suc i) = bytes-at cells i
+use Rattle.read_back.proofs.Keeping.{bytesIn, bytes-at}
+use Rattle.read_back.proofs.Noting.{marks-length}
 
 -- ---- cells stay below 257
 
@@ -122,10 +115,10 @@ module _ (mode : Mode) (text : List ℕ) (n : ℕ) (image marks : List ℕ) wher
         unfolding backAnswer judge
         by-lines = rw (le-ltb 65536 n h, le-ltb (length marks) n k, le-ltb (length image) n g)
 
-        -- the lines were read over cells and marks of zeros
-        module _ (cells seen new told : List ℕ) (c : cells ≡ replicate n 0) (s : seen ≡ replicate n 0) (x : Restored) (r : LinesLeave mode text cells seen new told (restoredOf x)) where
+        -- what the lines leave
+        module _ (new told : List ℕ) (x : Restored) (r : LinesLeave mode text n new told (restoredOf x)) where
           said : restoredOf x ≡ backAnswer mode text n image marks
-          said = r .answer ∙ rw (c, s, length-replicate {A = ℕ} n 0) by-lines
+          said = r .answer ∙ by-lines
 
           pub is-bad : ((j : ℕ) → x ≡ Written j → ⊥) → Is (restoredOf x) image marks
           is-bad f = by x said f
@@ -138,16 +131,9 @@ module _ (mode : Mode) (text : List ℕ) (n : ℕ) (image marks : List ℕ) wher
               by (Malformed j) e f = is-refused 15 (pos j ∷ []) e
               by (PastEnd j) e f = is-refused 16 (pos j ∷ []) e
 
-          module _ (j : ℕ) (f : x ≡ Written j) where
-            left : sheet new told ≡ sheetAfter (emptySheet n) (lines text)
-            left = r .leaves j (ap restoredOf f) ∙ rw (c, s)
-
-            pub bounded : Bounded new
-            bounded = rw (ap (λ (y : Sheet). y .cells) left) (after-bounded (lines text) (emptySheet n) (zeros-bounded n))
-
-            pub is-done : (im mk : List ℕ) → im ≡ bytesIn new ++ drop (length new) image → mk ≡ told ++ drop (length told) marks → Is (restoredOf x) im mk
-            unfolding backImage backMarks
-            is-done im mk p q =
-                let e : accepted j ≡ backAnswer mode text n image marks = sym (ap restoredOf f) ∙ said in
-                let i : im ≡ laid (bytesIn new) image = p ∙ ap (λ (k : ℕ). bytesIn new ++ drop k image) (sym (length-map new (λ (c : ℕ). c - 1))) in
-                (said, rw (← e) (i ∙ ap (λ (y : Sheet). laid (bytesIn (y .cells)) image) left), rw (← e) (q ∙ ap (λ (y : Sheet). laid (y .marks) marks) left))
+          pub is-done : (j : ℕ) → x ≡ Written j → (im mk : List ℕ) → im ≡ laid new image → mk ≡ marksIn told n ++ drop n marks → Is (restoredOf x) im mk
+          unfolding backImage backMarks
+          is-done j f im mk p q =
+              let e : accepted j ≡ backAnswer mode text n image marks = sym (ap restoredOf f) ∙ said in
+              let k : mk ≡ laid (marksIn told n) marks = q ∙ ap (λ (i : ℕ). marksIn told n ++ drop i marks) (sym (marks-length told n)) in
+              (said, rw (← e) (p ∙ ap (λ (y : List ℕ). laid y image) (r .image j (ap restoredOf f))), rw (← e) (k ∙ ap (λ (y : List ℕ). laid y marks) (r .marks j (ap restoredOf f))))

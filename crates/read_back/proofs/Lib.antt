@@ -9,6 +9,9 @@ pub mod Codes
 pub mod Records
 pub mod Reading
 pub mod Notes
+pub mod Noting
+pub mod Marking
+pub mod Keeping
 pub mod Turning
 pub mod Going
 pub mod Backs

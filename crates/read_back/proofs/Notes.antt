@@ -4,54 +4,55 @@ use mathlib.Core.Path.{_≡_, refl, sym, ap, _∙_}
 use mathlib.Core.Bool.{Bool, true, false, _&&_}
 use mathlib.Core.List.{List, [], _∷_}
 use Prim.Native.Nat.{ℕ, suc, _+_, _-_, _*_, _≤_, _<_}
-use Prim.Native.Char.{code}
 use native.Mathlib.Numerals.{add-one}
 use native.Mathlib.Omega.{arith}
-use borrow.Author.Tests.{eq-eqb, ne-eqb}
-use lib.Dec.{ltb}
-use lib.ListN.{length, getD, set, drop, List·getD-eq-default}
-use lib.Seq.{set-out}
+use borrow.Author.Tests.{eq-eqb, ne-eqb, le-leb, lt-leb}
+use lib.Dec.{eqb}
+use lib.ListN.{length, getD, drop}
 use Rattle.text.specs.Bytes.{bytesOf}
+use Rattle.text.specs.Four.{fourOf}
 use Rattle.text.specs.Hex.{digitOf}
+use Rattle.text.proofs.Digits.{digit-small}
 use Rattle.text.proofs.Pairs.{pair-next, pair-end}
-use Rattle.read_back.specs.Line.{letterOn, positionOn, hasBytes, recordOf}
+use Rattle.read_back.specs.Line.{fieldOn, letterOn, positionOn, hasBytes, recordOf}
 use Rattle.read_back.specs.Offsets.{digitsAt, Spaced}
-use Rattle.read_back.specs.Sheet.{fits, listedOn, agree, reach, markedBy}
+use Rattle.read_back.specs.Sheet.{listedOn}
+use Rattle.read_back.specs.Turn.{agreeTo, farOf}
 use Rattle.read_back.specs.declared.place.Record.{Record}
 
 -- past the end nothing was listed
-agree-past : (cells : List ℕ) (n : ℕ) (bs : List ℕ) → length cells ≤ n → agree cells n bs ≡ true
-unfolding agree
-agree-past cells n [] h = refl
-agree-past cells n (b ∷ bs) h = rw (List·getD-eq-default cells 0 h) (agree-past cells (suc n) bs (omega arith))
+agree-past : (end : ℕ) (image : List ℕ) (n : ℕ) (bs : List ℕ) → end ≤ n → agreeTo end image n bs ≡ true
+unfolding agreeTo
+agree-past end image n [] h = refl
+agree-past end image n (b ∷ bs) h = rw (le-leb end n h) (agree-past end image (suc n) bs (omega arith))
 
 -- what remains to be compared
-pub record Comparing (digits cells : List ℕ) (p i n : ℕ) : Type 0 where
+pub record Comparing (digits image : List ℕ) (p end i n : ℕ) : Type 0 where
   pub ahead : 1 ≤ i
-  pub rest : agree cells p (bytesOf digits) ≡ agree cells n (bytesOf (drop (i - 1) digits))
+  pub rest : agreeTo end image p (bytesOf digits) ≡ agreeTo end image n (bytesOf (drop (i - 1) digits))
 
-module _ (digits cells : List ℕ) (p : ℕ) where
-  pub compare-start : Comparing digits cells p 1 p
+module _ (digits image : List ℕ) (p end : ℕ) where
+  pub compare-start : Comparing digits image p end 1 p
   compare-start = record { ahead = omega arith; rest = refl }
 
-  module _ (i n : ℕ) (c : Comparing digits cells p i n) where
-    pub compare-past : length cells ≤ n → true ≡ agree cells p (bytesOf digits)
-    compare-past h = sym (c .rest ∙ agree-past cells n (bytesOf (drop (i - 1) digits)) h)
+  module _ (i n : ℕ) (c : Comparing digits image p end i n) where
+    pub compare-past : end ≤ n → true ≡ agreeTo end image p (bytesOf digits)
+    compare-past h = sym (c .rest ∙ agree-past end image n (bytesOf (drop (i - 1) digits)) h)
 
-    pub compare-end : length digits ≤ i → true ≡ agree cells p (bytesOf digits)
-    unfolding agree
-    compare-end h = sym (c .rest ∙ ap (agree cells n) (pair-end digits i (c .ahead) h))
+    pub compare-end : length digits ≤ i → true ≡ agreeTo end image p (bytesOf digits)
+    unfolding agreeTo
+    compare-end h = sym (c .rest ∙ ap (agreeTo end image n) (pair-end digits i (c .ahead) h))
 
-    module _ (h : i < length digits) (x : ℕ) (e : x ≡ digitOf (getD digits (i - 1) 0) * 16 + digitOf (getD digits i 0)) (b : Bool) (f : b ≡ fits (getD cells n 0) x) where
-      one : agree cells n (bytesOf (drop (i - 1) digits)) ≡ (b && agree cells (n + 1) (bytesOf (drop (i + 2 - 1) digits)))
-      unfolding agree
-      one = ap (agree cells n) (pair-next digits i (c .ahead) h) ∙ rw (f, e, add-one)
+    module _ (h : i < length digits) (l : n < end) (x : ℕ) (e : x ≡ digitOf (getD digits (i - 1) 0) * 16 + digitOf (getD digits i 0)) where
+      one : agreeTo end image n (bytesOf (drop (i - 1) digits)) ≡ (eqb (getD image n 0) x && agreeTo end image (n + 1) (bytesOf (drop (i + 2 - 1) digits)))
+      unfolding agreeTo
+      one = ap (agreeTo end image n) (pair-next digits i (c .ahead) h) ∙ rw (lt-leb end n l, e, add-one)
 
-      pub compare-off : b ≡ false → false ≡ agree cells p (bytesOf digits)
-      compare-off g = sym (c .rest ∙ one ∙ rw g)
+      pub compare-off : (getD image n 0 ≡ x → ⊥) → false ≡ agreeTo end image p (bytesOf digits)
+      compare-off g = sym (c .rest ∙ one ∙ rw (ne-eqb (getD image n 0) x g))
 
-      pub compare-on : b ≡ true → Comparing digits cells p (i + 2) (n + 1)
-      compare-on g = record { ahead = omega arith; rest = c .rest ∙ one ∙ rw g }
+      pub compare-on : getD image n 0 ≡ x → Comparing digits image p end (i + 2) (n + 1)
+      compare-on g = record { ahead = omega arith; rest = c .rest ∙ one ∙ rw (eq-eqb (getD image n 0) x g) }
 
 -- a line with this record
 module _ (line : List ℕ) (r : Record) (e : r ≡ recordOf line) where
@@ -73,22 +74,18 @@ module _ (line : List ℕ) (r : Record) (e : r ≡ recordOf line) where
     pub bytes-listed : b ≡ true → Spaced line → (d : List ℕ) → d ≡ digitsAt line → bytesOf d ≡ listedOn line
     bytes-listed g l d q = ap bytesOf (q ∙ l .digits) ∙ rw (← has, g)
 
+-- a position lies in memory
+pub position-small : (line : List ℕ) → recordOf line .position < 65536
+unfolding recordOf fourOf
+position-small line =
+    let f = fieldOn 1 line in
+    omega (arith, digit-small (getD f 0 0), digit-small (getD f 1 0), digit-small (getD f 2 0), digit-small (getD f 3 0))
+
 -- how far bytes reach
-pub reach-none : (n p : ℕ) (bs : List ℕ) → length bs ≡ 0 → false ≡ reach n p bs
-reach-none n p [] h = refl
-reach-none n p (b ∷ bs) h = absurd (omega arith)
+pub far-none : (p : ℕ) (bs : List ℕ) → length bs ≡ 0 → 0 ≡ farOf p bs
+far-none p [] h = refl
+far-none p (b ∷ bs) h = absurd (omega arith)
 
-pub reach-some : (n p k : ℕ) (bs : List ℕ) → length bs ≡ k → (k ≡ 0 → ⊥) → ltb n (p + k) ≡ reach n p bs
-reach-some n p k [] h z = absurd (z (sym h))
-reach-some n p k (b ∷ bs) h z = ap (λ (x : ℕ). ltb n (p + x)) (sym h)
-
--- marks
-module _ (r : Record) (marks : List ℕ) where
-  pub marked : r .letter ≡ code "I" → set marks (r .position) 2 ≡ markedBy r marks
-  marked e = rw (eq-eqb (r .letter) (code "I") e)
-
-  pub marked-past : r .letter ≡ code "I" → length marks ≤ r .position → marks ≡ markedBy r marks
-  marked-past e h = sym (set-out marks (r .position) 2 h) ∙ marked e
-
-  pub unmarked : (r .letter ≡ code "I" → ⊥) → marks ≡ markedBy r marks
-  unmarked n = rw (ne-eqb (r .letter) (code "I") n)
+pub far-some : (p k : ℕ) (bs : List ℕ) → length bs ≡ k → (k ≡ 0 → ⊥) → p + k ≡ farOf p bs
+far-some p k [] h z = absurd (z (sym h))
+far-some p k (b ∷ bs) h z = ap (λ (x : ℕ). p + x) (sym h)

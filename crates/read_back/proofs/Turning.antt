@@ -2,7 +2,7 @@
 -- Assumes nothing.
 use mathlib.Core.Path.{_≡_, refl, sym, ap, _∙_}
 use mathlib.Core.Bool.{Bool, true, false, not, _&&_}
-use mathlib.Core.List.{List, [], _∷_, map}
+use mathlib.Core.List.{List, [], _∷_}
 use Prim.Native.Nat.{ℕ, suc, _+_, _-_, _≤_, _<_}
 use native.Mathlib.Nat.{le-of-lt}
 use native.Mathlib.Omega.{arith}
@@ -10,7 +10,7 @@ use borrow.Author.Tests.{lt-leb}
 use lib.IntN.{pos}
 use lib.ListN.{length, take, drop}
 use lib.Seq.{sets}
-use Rattle.instruction.specs.Answer.{Answer, accepted, refused, refuse, judge, after}
+use Rattle.instruction.specs.Answer.{Answer, accepted, refused, refuse, judge}
 use Rattle.instruction.proofs.Ands.{first-part}
 use Rattle.instruction.proofs.Sign.{never}
 use Rattle.instruction.specs.declared.mode.Mode.{Mode}
@@ -19,12 +19,16 @@ use Rattle.text.proofs.Cuts.{end-inside, take-first}
 use Rattle.read_back.specs.Line.{positionOn, isLine, recordOf}
 use Rattle.read_back.specs.Order.{follows, placeAfter}
 use Rattle.read_back.specs.Read.{Found, listed, ended, readOf, isGood, lineAnswer, readAnswer}
-use Rattle.read_back.specs.Sheet.{listedOn, agree, reach, markedBy}
-use Rattle.read_back.specs.Turn.{turnAnswer, turnCells, turnMarks}
+use Rattle.read_back.specs.Noted.{notedBy}
+use Rattle.read_back.specs.Sheet.{listedOn, reach}
+use Rattle.read_back.specs.Turn.{agreeTo, farOf, laterOf, turnedOf, turnAnswer, Turned}
 use Rattle.read_back.specs.declared.place.Place.{Place}
 use Rattle.read_back.specs.declared.place.Record.{Record}
 use Rattle.read_back.specs.declared.read.Read.{Read}
-use Rattle.read_back.specs.declared.read.Read.the-variants.{Line, End, Malformed}
+use Rattle.read_back.specs.declared.read.Read.the-variants.{Line, End}
+use Rattle.read_back.specs.declared.read.Read.the-variants as read
+use Rattle.read_back.specs.declared.turn.Turn.{Turn}
+use Rattle.read_back.specs.declared.turn.Turn.the-variants.{On, Malformed, PastEnd}
 
 -- what is found, and whether it is a line
 abbrev isListed : Answer Found → Bool
@@ -41,6 +45,17 @@ abbrev placeIn : Place → Answer Found → Place
 placeIn d (accepted (listed r n)) = n
 placeIn d (accepted ended) = d
 placeIn d (refused k vs) = d
+
+-- whether a line was good, and the end that it tells
+abbrev isOn : Turn → Bool
+isOn (On n e) = true
+isOn Malformed = false
+isOn PastEnd = false
+
+abbrev endIn : ℕ → Turn → ℕ
+endIn d (On n e) = e
+endIn d Malformed = d
+endIn d PastEnd = d
 
 module _ (mode : Mode) (text : List ℕ) (place : Place) (h : place .at < length text) where
   abbrev pub line : List ℕ
@@ -76,7 +91,7 @@ module _ (mode : Mode) (text : List ℕ) (place : Place) (h : place .at < length
       by : (b : Bool) → isGood mode place line ≡ b → (x : Read) → readOf x ≡ answerBy (isGood mode place line) → ((r : Record) (n : Place) → x ≡ Line r n → ⊥) → isGood mode place line ≡ false
       by true g (Line r n) q f = absurd (f r n refl)
       by true g End q f = let p : accepted ended ≡ answerBy true = q ∙ ap answerBy g in absurd (never (sym (ap isListed p)))
-      by true g (Malformed k) q f = let p : refused 15 (pos k ∷ []) ≡ answerBy true = q ∙ ap answerBy g in absurd (never (sym (ap isListed p)))
+      by true g (read.Malformed k) q f = let p : refused 15 (pos k ∷ []) ≡ answerBy true = q ∙ ap answerBy g in absurd (never (sym (ap isListed p)))
       by false g x q f = g
 
   module _ (r : Record) (n : Place) (t : Taken r n) where
@@ -105,30 +120,33 @@ module _ (mode : Mode) (text : List ℕ) (place : Place) (h : place .at < length
     pub its-record : r ≡ recordOf (take (n .at - 1 - place .at) (drop (place .at) text))
     its-record = t .is ∙ ap recordOf (sym its-line)
 
--- the line l at the place, over these cells and marks
-module _ (mode : Mode) (place : Place) (cells marks l : List ℕ) where
+-- the line l at the place, over what the lines before it gave
+module _ (mode : Mode) (place : Place) (end : ℕ) (image table l : List ℕ) where
+  abbrev agrees : Bool
+  agrees = agreeTo end image (positionOn l) (listedOn l)
+
   unfoldable answer : Bool → Bool → Answer Place
   answer b c = judge (refuse (not b) 15 (pos (place .line) ∷ []) ∷ refuse c 16 (pos (place .line) ∷ []) ∷ []) (placeAfter place (length l) (recordOf l))
 
-  -- what is answered and left
-  abbrev pub Left : Answer Place → List ℕ → List ℕ → Type 0
-  Left a new told = (a ≡ turnAnswer mode place cells l) × (new ≡ turnCells mode place cells l) × (told ≡ turnMarks mode place cells l marks)
+  answered : (b c : Bool) → isGood mode place l && agrees ≡ b → reach (length image) (positionOn l) (listedOn l) ≡ c → answer b c ≡ turnAnswer mode place agrees (length image) l
+  unfolding turnAnswer answer
+  answered b c f g = rw (f, g)
 
-  left : (b c : Bool) → isGood mode place l && agree cells (positionOn l) (listedOn l) ≡ b → reach (length cells) (positionOn l) (listedOn l) ≡ c
-      → Left (answer b c) (after (answer b c) (sets cells (positionOn l) (map suc (listedOn l))) cells) (after (answer b c) (markedBy (recordOf l) marks) marks)
-  unfolding turnAnswer turnCells turnMarks answer
-  left b c f g = rw (f, g) (refl, refl, refl)
+  -- a bad line leaves nothing
+  stopped : (r : Turn) → isOn r ≡ false → turnedOf place r ≡ turnAnswer mode place agrees (length image) l → (new told : List ℕ) → Turned mode place end image table l r new told
+  stopped r n e new told = record { answer = e; leaves = λ next k f. absurd (never (sym (ap isOn f) ∙ n)) }
 
-  pub left-bad : isGood mode place l && agree cells (positionOn l) (listedOn l) ≡ false → Left (refused 15 (pos (place .line) ∷ [])) cells marks
+  pub left-bad : isGood mode place l && agrees ≡ false → (new told : List ℕ) → Turned mode place end image table l Malformed new told
   unfolding judge answer
-  left-bad f = left false (reach (length cells) (positionOn l) (listedOn l)) f refl
+  left-bad f = stopped Malformed refl (answered false (reach (length image) (positionOn l) (listedOn l)) f refl)
 
-  module _ (f : isGood mode place l && agree cells (positionOn l) (listedOn l) ≡ true) where
-    pub left-past : reach (length cells) (positionOn l) (listedOn l) ≡ true → Left (refused 16 (pos (place .line) ∷ [])) cells marks
+  module _ (f : isGood mode place l && agrees ≡ true) where
+    pub left-past : reach (length image) (positionOn l) (listedOn l) ≡ true → (new told : List ℕ) → Turned mode place end image table l PastEnd new told
     unfolding judge answer
-    left-past g = left true true f g
+    left-past g = stopped PastEnd refl (answered true true f g)
 
-    pub left-on : reach (length cells) (positionOn l) (listedOn l) ≡ false → (n : Place) → n ≡ placeAfter place (length l) (recordOf l)
-        → (new told : List ℕ) → new ≡ sets cells (positionOn l) (map suc (listedOn l)) → told ≡ markedBy (recordOf l) marks → Left (accepted n) new told
+    pub left-on : reach (length image) (positionOn l) (listedOn l) ≡ false → (n : Place) → n ≡ placeAfter place (length l) (recordOf l)
+        → (new told : List ℕ) (e : ℕ) → new ≡ sets image (positionOn l) (listedOn l) → told ≡ notedBy (recordOf l) table → e ≡ laterOf end (farOf (positionOn l) (listedOn l))
+        → Turned mode place end image table l (On n e) new told
     unfolding judge answer
-    left-on g n e new told p q = let w = left true false f g in (ap accepted e ∙ w .0, p ∙ w .1, q ∙ w .2)
+    left-on g n q new told e a b c = record { answer = ap accepted q ∙ answered true false f g; leaves = λ next k h. (a, b, sym (ap (endIn e) h) ∙ c) }

@@ -3,6 +3,7 @@ pub mod Line
 pub mod Offsets
 pub mod Read
 pub mod Sheet
+pub mod Noted
 pub mod Turn
 pub mod Back
 pub mod LinesLeave

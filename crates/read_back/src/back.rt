@@ -1,10 +1,11 @@
 // The whole listing: read into local arrays first, then laid over the lent rooms, so that a refusal changes nothing.
 ghost use mathlib.Core.Path.{_≡_};
-ghost use mathlib.Core.List.{_++_, map};
-ghost use Prim.Native.Nat.{ℕ, _-_, _≤_};
-ghost use lib.ListN.{length, getD, drop, replicate};
+ghost use mathlib.Core.List.{_++_};
+ghost use Prim.Native.Nat.{_≤_};
+ghost use lib.ListN.{length, drop, replicate};
 ghost use Rattle.read_back.specs.Back.{restoredOf, backAnswer, backImage, backMarks};
 ghost use Rattle.read_back.specs.LinesLeave.{LinesLeave};
+use crate::noted;
 use crate::place::Place;
 use crate::turn::Turn;
 use crate::turn::read_on;
@@ -26,27 +27,24 @@ pub enum Restored {
     PastEnd(usize),
 }
 
-fn no_cells() -> [u16; Image::LIMIT]
+fn no_bytes() -> [u8; Image::LIMIT]
     ensures { λ r. ⌜ r ≡ replicate 65536 0 ⌝ }
 {
     [0; Image::LIMIT]
 }
 
-fn no_marks() -> [u8; Image::LIMIT]
-    ensures { λ r. ⌜ r ≡ replicate 65536 0 ⌝ }
-{
-    [0; Image::LIMIT]
-}
-
-// Reads every line over these arrays, up to the first bad one.
-fn read_lines(mode: Mode, text: &[u8], cells: &mut [u16], marks: &mut [u8]) -> Restored
-    ensures { λ r. ⌜ LinesLeave mode (now (text .entry)) (now (cells .entry)) (now (marks .entry)) (now (cells .exit)) (now (marks .exit)) (restoredOf r) ⌝ }
+// Reads every line over an empty image and an empty table, up to the first bad one.
+fn read_lines(mode: Mode, text: &[u8], image: &mut [u8], table: &mut [u64]) -> Restored
+    requires { ⌜ (now image ≡ replicate (length (now image)) 0) × (now table ≡ replicate 1024 0xFFFFFFFFFFFFFFFF) × (length (now image) ≤ 65536) ⌝ }
+    ensures { λ r. ⌜ LinesLeave mode (now (text .entry)) (length (now (image .entry))) (now (image .exit)) (now (table .exit)) (restoredOf r) ⌝ }
 {
     let mut place = Place::start();
+    let mut end: usize = 0;
     while place.at < text.len() {
-        match read_on(mode, text, place, cells, marks) {
-            Turn::On(next) => {
+        match read_on(mode, text, place, image, table, end) {
+            Turn::On(next, e) => {
                 place = next;
+                end = e;
             }
             Turn::Malformed => {
                 return Restored::Malformed(place.line);
@@ -59,35 +57,13 @@ fn read_lines(mode: Mode, text: &[u8], cells: &mut [u16], marks: &mut [u8]) -> R
     Restored::Written(place.line - 1)
 }
 
-// The byte that a cell stands for: 0 where nothing is listed.
-fn byte(cell: u16) -> u8
-    requires { ⌜ cell ≤ 256 ⌝ }
-    ensures { λ r. ⌜ r ≡ cell - 1 ⌝ }
-{
-    if cell == 0 {
-        return 0;
-    }
-    (cell - 1) as u8
-}
-
-fn put_image(cells: &[u16], image: &mut [u8])
-    requires { ⌜ (length (now cells) ≤ length (now image)) × ((i : ℕ) → getD (now cells) i 0 ≤ 256) ⌝ }
-    ensures { λ _. ⌜ now (image .exit) ≡ map (λ (c : ℕ). c - 1) (now (cells .entry)) ++ drop (length (now (cells .entry))) (now (image .entry)) ⌝ }
+fn put_image(bytes: &[u8], image: &mut [u8])
+    requires { ⌜ length (now bytes) ≤ length (now image) ⌝ }
+    ensures { λ _. ⌜ now (image .exit) ≡ now (bytes .entry) ++ drop (length (now (bytes .entry))) (now (image .entry)) ⌝ }
 {
     let mut i: usize = 0;
-    while i < cells.len() {
-        image[i] = byte(cells[i]);
-        i += 1;
-    }
-}
-
-fn put_marks(seen: &[u8], marks: &mut [u8])
-    requires { ⌜ length (now seen) ≤ length (now marks) ⌝ }
-    ensures { λ _. ⌜ now (marks .exit) ≡ now (seen .entry) ++ drop (length (now (seen .entry))) (now (marks .entry)) ⌝ }
-{
-    let mut i: usize = 0;
-    while i < seen.len() {
-        marks[i] = seen[i];
+    while i < bytes.len() {
+        image[i] = bytes[i];
         i += 1;
     }
 }
@@ -113,13 +89,13 @@ pub fn read_back(
     if image.len() < length {
         return Restored::NoRoom(length);
     }
-    let mut cells = no_cells();
-    let mut seen = no_marks();
-    let r = read_lines(mode, text, &mut cells[..length], &mut seen[..length]);
+    let mut bytes = no_bytes();
+    let mut table = noted::table();
+    let r = read_lines(mode, text, &mut bytes[..length], &mut table);
     let Restored::Written(_) = r else {
         return r;
     };
-    put_image(&cells[..length], image);
-    put_marks(&seen[..length], marks);
+    put_image(&bytes[..length], image);
+    noted::put_marks(&table, length, marks);
     r
 }

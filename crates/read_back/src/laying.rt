@@ -1,38 +1,40 @@
-// A line over what the lines before it gave, in two arrays of the image's length: for each position its byte and one more, 0 where nothing
-// is listed; and the marks.
+// A line over what the lines before it gave: the image's bytes, 0 where nothing is listed, and where what is listed ends. Positions may not
+// fall, so that from a line's position on the bytes before that end were listed, and no others.
 ghost use mathlib.Core.Path.{_≡_};
-ghost use mathlib.Core.List.{map};
-ghost use Prim.Native.Nat.{suc};
-ghost use lib.Seq.{sets};
+ghost use Prim.Native.Nat.{_≤_};
+ghost use lib.ListN.{length};
 ghost use Rattle.text.specs.Bytes.{bytesOf};
-ghost use Rattle.read_back.specs.Line.{positionOn, recordOf};
+ghost use Rattle.read_back.specs.Line.{recordOf};
 ghost use Rattle.read_back.specs.Offsets.{Spaced};
-ghost use Rattle.read_back.specs.Sheet.{fits, listedOn, agree, reach, markedBy};
+ghost use Rattle.read_back.specs.Sheet.{listedOn};
+ghost use Rattle.read_back.specs.Turn.{agreeTo, farOf, laterOf};
 use crate::line;
 use crate::place::Record;
-use marks::Mark;
 use text::hex;
 
-// Whether a byte contradicts nothing listed before.
-fn fits(cell: u16, byte: u8) -> bool
-    ensures { λ r. ⌜ r ≡ fits cell byte ⌝ }
+// The digits of the bytes that a line lists; none in `L`, `O` and `A`.
+pub fn listed(line: &[u8], r: Record) -> &[u8]
+    requires { ⌜ Spaced (now line) × (r ≡ recordOf (now line)) ⌝ }
+    ensures { λ d. ⌜ bytesOf (now d) ≡ listedOn (now (line .entry)) ⌝ }
 {
-    if cell == 0 {
-        return true;
+    if !line::has_bytes(r.letter) {
+        return &line[0..0];
     }
-    cell == byte as u16 + 1
+    line::digits(line)
 }
 
-fn agree(digits: &[u8], cells: &[u16], p: usize) -> bool
-    ensures { λ r. ⌜ r ≡ agree (now (cells .entry)) p (bytesOf (now (digits .entry))) ⌝ }
+// Whether the bytes of these digits, from p on, contradict nothing listed before.
+pub fn agree(digits: &[u8], image: &[u8], p: usize, end: usize) -> bool
+    requires { ⌜ end ≤ length (now image) ⌝ }
+    ensures { λ r. ⌜ r ≡ agreeTo end (now (image .entry)) p (bytesOf (now (digits .entry))) ⌝ }
 {
     let mut i: usize = 1;
     let mut n = p;
     while i < digits.len() {
-        if cells.len() <= n {
+        if end <= n {
             return true;
         }
-        if !fits(cells[n], hex::pair(digits[i - 1], digits[i])) {
+        if image[n] != hex::pair(digits[i - 1], digits[i]) {
             return false;
         }
         n += 1;
@@ -41,66 +43,23 @@ fn agree(digits: &[u8], cells: &[u16], p: usize) -> bool
     true
 }
 
-// Lists the bytes of these digits from p on; what falls past the end is not listed.
-fn put(digits: &[u8], cells: &mut [u16], p: usize)
-    ensures { λ _. ⌜ now (cells .exit) ≡ sets (now (cells .entry)) p (map suc (bytesOf (now (digits .entry)))) ⌝ }
+// Where the bytes of these digits, from p on, end; 0 where there are none.
+pub fn far(digits: &[u8], p: u32) -> usize
+    ensures { λ r. ⌜ r ≡ farOf p (bytesOf (now (digits .entry))) ⌝ }
 {
-    let mut i: usize = 1;
-    let mut n = p;
-    while i < digits.len() {
-        if cells.len() <= n {
-            return;
-        }
-        cells[n] = hex::pair(digits[i - 1], digits[i]) as u16 + 1;
-        n += 1;
-        i += 2;
-    }
-}
-
-// Whether the line contradicts no earlier one.
-pub fn agrees(line: &[u8], r: Record, cells: &[u16]) -> bool
-    requires { ⌜ Spaced (now line) × (r ≡ recordOf (now line)) ⌝ }
-    ensures { λ b. ⌜ b ≡ agree (now (cells .entry)) (positionOn (now (line .entry))) (listedOn (now (line .entry))) ⌝ }
-{
-    if !line::has_bytes(r.letter) {
-        return true;
-    }
-    agree(line::digits(line), cells, r.position as usize)
-}
-
-// Whether the line's bytes reach past n.
-pub fn reaches(line: &[u8], r: Record, n: usize) -> bool
-    requires { ⌜ Spaced (now line) × (r ≡ recordOf (now line)) ⌝ }
-    ensures { λ b. ⌜ b ≡ reach n (positionOn (now (line .entry))) (listedOn (now (line .entry))) ⌝ }
-{
-    if !line::has_bytes(r.letter) {
-        return false;
-    }
-    let k = line::digits(line).len() / 2;
+    let k = digits.len() / 2;
     if k == 0 {
-        return false;
+        return 0;
     }
-    n < r.position as usize + k
+    p as usize + k
 }
 
-// Notes an `I` line's mark.
-pub fn mark(r: Record, marks: &mut [u8])
-    ensures { λ _. ⌜ now (marks .exit) ≡ markedBy r (now (marks .entry)) ⌝ }
+// The later of two ends.
+pub fn later(a: usize, b: usize) -> usize
+    ensures { λ r. ⌜ r ≡ laterOf a b ⌝ }
 {
-    let p = r.position as usize;
-    if r.letter == b'I' {
-        if p < marks.len() {
-            marks[p] = Mark::TRACED;
-        }
+    if a < b {
+        return b;
     }
-}
-
-// Lists a line's bytes.
-pub fn list(line: &[u8], r: Record, cells: &mut [u16])
-    requires { ⌜ Spaced (now line) × (r ≡ recordOf (now line)) ⌝ }
-    ensures { λ _. ⌜ now (cells .exit) ≡ sets (now (cells .entry)) (positionOn (now (line .entry))) (map suc (listedOn (now (line .entry)))) ⌝ }
-{
-    if line::has_bytes(r.letter) {
-        put(line::digits(line), cells, r.position as usize);
-    }
+    a
 }

@@ -2,6 +2,7 @@
 pub mod back;
 mod laying;
 mod line;
+mod noted;
 mod order;
 pub mod place;
 pub mod read;
