@@ -3,12 +3,12 @@
 use mathlib.Core.Path.{_≡_, refl, sym, ap, ap₂, subst, _∙_}
 use mathlib.Core.Bool.{Bool, true, false, cond, _&&_}
 use mathlib.Core.List.{List, [], _∷_, _++_}
-use Prim.Native.Nat.{ℕ, _/_, _≤_}
+use Prim.Native.Nat.{ℕ, _/_}
 use Prim.Native.Char.{code}
 use native.Mathlib.Omega.{arith}
 use borrow.Author.Tests.{le-leb}
 use lib.Dec.{eqb}
-use lib.ListN.{length, getD, drop}
+use lib.ListN.{length, getD, drop, length-append}
 use Rattle.instruction.proofs.Ands.{second-part}
 use Rattle.instruction.proofs.Sign.{never}
 use Rattle.instruction.specs.declared.mode.Mode.{Mode}
@@ -16,9 +16,9 @@ use Rattle.text.specs.Bytes.{bytesOf}
 use Rattle.text.specs.Cut.{fields}
 use Rattle.text.specs.Four.{isFour, allFour, fourOf}
 use Rattle.text.specs.Hex.{allHex}
+use Rattle.text.proofs.Pairs.{bytes-parts}
 use Rattle.read_back.specs.Line.{fieldOn, letterOn, positionOn, bytesOn, furtherOn, isStart, isLabel, isFound, isData, isCode, byLetter, isLine, hasBytes, recordOf}
 use Rattle.read_back.specs.Offsets.{positionAt, digitsAt, bytesAt, isStartAt, byLetterAt, isLineAt, recordAt, Spaced}
-use Rattle.read_back.specs.declared.place.Record.{Record}
 use Rattle.read_back.proofs.Pieces.{tabbed, NoTab, NoTabs, fields-are, Fielded, fielded, fielded-of}
 use Rattle.read_back.proofs.Rests.{label-is, found-is, fives, data-is, digits-are}
 use Rattle.read_back.proofs.Shapes.{starts, Shape, lined, other, shape}
@@ -88,6 +88,21 @@ module _ (mode : Mode) (c a b d e : ℕ) (gs : List (List ℕ)) (n : NoTab (c �
       let k = all-four (eqb c (code "L")) (eqb c (code "O")) (eqb c (code "A")) (eqb c (code "I")) (eqb c (code "D")) _ _ (sym q ∙ second-part (isStart line) (byLetter mode c line) g) h in
       omega (arith, fives gs k, ap length further)
 
+  -- a field of bytes alone, in `D`
+  even : isData gs ≡ true → length (tabbed gs) / 2 ≡ length (bytesOf (getD gs 0 []))
+  even q = by gs q
+    where
+      by : (hs : List (List ℕ)) → isData hs ≡ true → length (tabbed hs) / 2 ≡ length (bytesOf (getD hs 0 []))
+      by [] q = absurd (never (sym q))
+      by (h ∷ []) q = omega (arith, length-append h [], bytes-parts 16 h q .0)
+      by (h ∷ k ∷ hs) q = absurd (never (sym q))
+
+  paired : isLine mode line ≡ true → c ≡ code "D" → length (drop 6 line) / 2 ≡ length (bytesOn line)
+  unfolding isLine
+  paired g h =
+      let q : byLetter mode (code "D") line ≡ true = subst (λ (x : ℕ). byLetter mode x line ≡ true) h (second-part (isStart line) (byLetter mode c line) g) in
+      even (sym (ap isData further) ∙ q) ∙ sym (ap (λ (fs : List (List ℕ)). length (bytesOf (getD fs 2 []))) cuts)
+
 -- ---- every line
 
 pub line-is : (mode : Mode) (line : List ℕ) → isLineAt mode line ≡ isLine mode line
@@ -109,6 +124,7 @@ good-line mode line g = by (fielded-of line)
       long = omega arith;
       position = position-is mode c a b d e gs n ns;
       digits = digits-is mode c a b d e gs n ns;
+      halves = paired mode c a b d e gs n ns g;
       count = counted mode c a b d e gs n ns g;
     }
     is (other p q) n ns g = absurd (never (sym g ∙ p))

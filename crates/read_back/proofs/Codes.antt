@@ -12,12 +12,11 @@ use Rattle.listing.specs.Lines.{codeLine}
 use Rattle.text.specs.Puts.{Puts}
 use Rattle.listing.proofs.Widths.{alone-width}
 use Rattle.text.specs.Bytes.{bytesOf}
-use Rattle.text.specs.Cut.{upTo}
 use Rattle.text.proofs.Cuts.{take-first}
 use Rattle.text.proofs.Pairs.{pairs, bytes-small}
 use Rattle.text.specs.Same.{same}
 use Rattle.read_back.specs.Line.{isCode}
-use Rattle.read_back.specs.Offsets.{positionAt, digitsAt, bytesAt}
+use Rattle.read_back.specs.Offsets.{digitsAt, bytesAt}
 use Rattle.text.proofs.Sames.{other-length, same-false, same-but-last}
 
 -- what is written from the start on stands at the start
@@ -30,42 +29,42 @@ take-sets [] room h = refl
 take-sets (a ∷ s) [] h = absurd (omega arith)
 take-sets (a ∷ s) (x ∷ room) h = ap (take (suc (length s))) (sets-cons room a 0 s) ∙ ap (λ (l : List ℕ). a ∷ l) (take-sets s room (omega arith))
 
--- a field is no longer than its line
-pub digits-short : (line : List ℕ) → length (digitsAt line) ≤ length line
-digits-short line = omega (arith, first-short (drop 7 line), length-drop 7 line)
-  where
-    first-short : (t : List ℕ) → length (upTo 9 t) ≤ length t
-    first-short t = omega (arith, ap length (take-first 9 t), length-take (length (upTo 9 t)) t)
+-- a field is no longer than what it begins
+pub digits-inside : (line : List ℕ) → length (digitsAt line) ≤ length (drop 7 line)
+digits-inside line = omega (arith, ap length (take-first 9 (drop 7 line)), length-take (length (digitsAt line)) (drop 7 line))
 
-module _ (mode : Mode) (line : List ℕ) where
+pub digits-short : (line : List ℕ) → length (digitsAt line) ≤ length line
+digits-short line = omega (arith, digits-inside line, length-drop 7 line)
+
+module _ (mode : Mode) (line : List ℕ) (p : ℕ) where
   abbrev written : List ℕ
-  written = codeLine mode (positionAt line) (bytesAt line)
+  written = codeLine mode p (bytesAt line)
 
   width : length written ≤ 31
-  width = alone-width mode (bytesAt line) [] (bytes-small (digitsAt line)) (positionAt line)
+  width = alone-width mode (bytesAt line) [] (bytes-small (digitsAt line)) p
 
   longer : length (line ++ 10 ∷ []) ≡ length line + 1
   longer = length-append line (10 ∷ [])
 
-  pub too-wide : 30 < length line → false ≡ isCode mode (positionAt line) (bytesAt line) line
+  pub too-wide : 30 < length line → false ≡ isCode mode p (bytesAt line) line
   unfolding isCode
   too-wide h = sym (other-length (line ++ 10 ∷ []) written (λ e. absurd (omega (arith, e, longer, width))))
 
   -- its bytes, as they were read into a room of 16
   pub read-bytes : (d : List ℕ) → d ≡ digitsAt line → (room : List ℕ) → length room ≡ 16 → length d ≤ 30 → take (length d / 2) (sets room 0 (bytesOf d)) ≡ bytesAt line
   read-bytes d e room l h =
-      let p : length (bytesOf d) ≡ length d / 2 = pairs d (length d / 2) refl in
-      ap (λ (k : ℕ). take k (sets room 0 (bytesOf d))) (sym p) ∙ take-sets (bytesOf d) room (omega (arith, p)) ∙ ap bytesOf e
+      let q : length (bytesOf d) ≡ length d / 2 = pairs d (length d / 2) refl in
+      ap (λ (k : ℕ). take k (sets room 0 (bytesOf d))) (sym q) ∙ take-sets (bytesOf d) room (omega (arith, q)) ∙ ap bytesOf e
 
   -- the line as it was written again
-  module _ (p : ℕ) (bytes room new : List ℕ) (k : ℕ) (q : p ≡ positionAt line) (f : bytes ≡ bytesAt line) (l : length room ≡ 32) (w : Puts (codeLine mode p bytes) 0 room new k) where
+  module _ (bytes room new : List ℕ) (k : ℕ) (f : bytes ≡ bytesAt line) (l : length room ≡ 32) (w : Puts (codeLine mode p bytes) 0 room new k) where
     is-written : codeLine mode p bytes ≡ written
-    is-written = rw (q, f)
+    is-written = rw f
 
     size : k ≡ length written
     size = omega (arith, w .next, ap length is-written)
 
-    pub other-width : (k ≡ length line + 1 → ⊥) → false ≡ isCode mode (positionAt line) (bytesAt line) line
+    pub other-width : (k ≡ length line + 1 → ⊥) → false ≡ isCode mode p (bytesAt line) line
     unfolding isCode
     other-width n = sym (other-length (line ++ 10 ∷ []) written (λ e. n (omega (arith, e, longer, size))))
 
@@ -76,7 +75,7 @@ module _ (mode : Mode) (line : List ℕ) where
       last : getD written (length line) 0 ≡ getD new (length line) 0
       last = ap (λ (t : List ℕ). getD t (length line) 0) (sym shown) ∙ getD-take (length written) new (length line) 0 (omega (arith, size, g))
 
-      pub other-end : (getD new (length line) 0 ≡ 10 → ⊥) → false ≡ isCode mode (positionAt line) (bytesAt line) line
+      pub other-end : (getD new (length line) 0 ≡ 10 → ⊥) → false ≡ isCode mode p (bytesAt line) line
       unfolding isCode
       other-end n = sym (same-false (line ++ 10 ∷ []) written (λ e. n (sym last ∙ sym (ap (λ (t : List ℕ). getD t (length line) 0) e) ∙ at-end line)))
         where
@@ -84,7 +83,7 @@ module _ (mode : Mode) (line : List ℕ) where
           at-end [] = refl
           at-end (a ∷ s) = at-end s
 
-      pub compared : getD new (length line) 0 ≡ 10 → same line (take (length line) new) ≡ isCode mode (positionAt line) (bytesAt line) line
+      pub compared : getD new (length line) 0 ≡ 10 → same line (take (length line) new) ≡ isCode mode p (bytesAt line) line
       unfolding isCode
       compared e =
           ap (same line) (sym (take-take (length line) (length written) new (omega (arith, size, g))) ∙ ap (take (length line)) shown)

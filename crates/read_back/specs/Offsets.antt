@@ -13,7 +13,7 @@ use Rattle.text.specs.Cut.{upTo}
 use Rattle.text.specs.Four.{fourOf}
 use Rattle.text.specs.Hex.{allHex}
 use mathlib.Core.Path.{_≡_}
-use Rattle.read_back.specs.Line.{fieldOn, letterOn, positionOn, furtherOn, isCode, hasBytes}
+use Rattle.read_back.specs.Line.{fieldOn, letterOn, positionOn, bytesOn, furtherOn, isCode, hasBytes}
 use Rattle.read_back.specs.declared.place.Record.{Record}
 
 abbrev pub positionAt : List ℕ → ℕ
@@ -29,6 +29,10 @@ bytesAt line = bytesOf (digitsAt line)
 -- a byte, a tab and four digits
 unfoldable pub isStartAt : List ℕ → Bool
 isStartAt line = leb 6 (length line) && (eqb (getD line 1 0) 9 && allHex (take 4 (drop 2 line)))
+
+-- the position of a line that begins so; 65,536, which none has, of any other
+unfoldable pub positionIn : List ℕ → ℕ
+positionIn line = cond (isStartAt line) (positionAt line) 65536
 
 -- a tab and four digits, for each further position
 unfoldable pub arePlaces : List ℕ → Bool
@@ -72,4 +76,5 @@ pub record Spaced (line : List ℕ) : Type 0 where
   pub long : 6 ≤ length line
   pub position : positionAt line ≡ positionOn line
   pub digits : digitsAt line ≡ fieldOn 2 line
+  pub halves : letterOn line ≡ code "D" → length (drop 6 line) / 2 ≡ length (bytesOn line)
   pub count : hasBytes (letterOn line) ≡ false → length (drop 6 line) / 5 ≡ length (furtherOn line)

@@ -12,7 +12,7 @@ use crate::line;
 use crate::place::Record;
 use text::hex;
 
-// The digits of the bytes that a line lists; none in `L`, `O` and `A`.
+// The digits of the bytes that a line lists, two for each byte that it counts; none in `L`, `O` and `A`.
 pub fn listed(line: &[u8], r: Record) -> &[u8]
     requires { ⌜ Spaced (now line) × (r ≡ recordOf (now line)) ⌝ }
     ensures { λ d. ⌜ bytesOf (now d) ≡ listedOn (now (line .entry)) ⌝ }
@@ -20,7 +20,11 @@ pub fn listed(line: &[u8], r: Record) -> &[u8]
     if !line::has_bytes(r.letter) {
         return &line[0..0];
     }
-    line::digits(line)
+    let n = r.count;
+    if n == 0 {
+        return &line[0..0];
+    }
+    &line[line::DIGITS..line::DIGITS + n * 2]
 }
 
 // Whether the bytes of these digits, from p on, contradict nothing listed before.

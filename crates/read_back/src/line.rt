@@ -1,11 +1,11 @@
 // One line, without its byte 10.
 ghost use mathlib.Core.Path.{_≡_};
-ghost use Prim.Native.Nat.{_≤_};
-ghost use lib.ListN.{length};
+ghost use mathlib.Core.Bool.{true};
 ghost use Rattle.read_back.specs.Line.{hasBytes, isCode, isLine, recordOf};
-ghost use Rattle.read_back.specs.Offsets.{arePlaces, isFoundRest, isDataRest, positionAt, digitsAt, bytesAt, Spaced};
+ghost use Rattle.read_back.specs.Offsets.{arePlaces, isFoundRest, isDataRest, positionAt, positionIn, digitsAt, bytesAt, isStartAt, Spaced};
 use crate::place::Record;
 use instruction::Mode;
+use targets::Image;
 use text::bytes;
 use text::cut;
 use text::four;
@@ -14,6 +14,9 @@ use text::same;
 
 // A line's letter, tab and position.
 const START: usize = 6;
+
+// Where the digits of its bytes begin, after a tab.
+pub const DIGITS: usize = 7;
 
 // The bytes that an `I` line has at most, without its byte 10.
 const WIDEST: usize = 30;
@@ -70,20 +73,19 @@ pub fn has_bytes(letter: u8) -> bool
 }
 
 // The digits of the bytes on a line: its third field.
-pub fn digits(line: &[u8]) -> &[u8]
+fn digits(line: &[u8]) -> &[u8]
     ensures { λ r. ⌜ now r ≡ digitsAt (now (line .entry)) ⌝ }
 {
     if line.len() <= START {
         return &line[0..0];
     }
-    let e = cut::end(line, START + 1, cut::TAB);
-    &line[START + 1..e]
+    let e = cut::end(line, DIGITS, cut::TAB);
+    &line[DIGITS..e]
 }
 
 // `I`: the line is written again, from its bytes and its position, and compared.
-fn is_code(mode: Mode, line: &[u8]) -> bool
-    requires { ⌜ 6 ≤ length (now line) ⌝ }
-    ensures { λ r. ⌜ r ≡ isCode mode (positionAt (now (line .entry))) (bytesAt (now (line .entry))) (now (line .entry)) ⌝ }
+fn is_code(mode: Mode, line: &[u8], p: u32) -> bool
+    ensures { λ r. ⌜ r ≡ isCode mode p (bytesAt (now (line .entry))) (now (line .entry)) ⌝ }
 {
     let n = line.len();
     if WIDEST < n {
@@ -93,12 +95,7 @@ fn is_code(mode: Mode, line: &[u8]) -> bool
     let mut code = [0u8; 16];
     bytes::put(d, &mut code, 0);
     let mut room = [0u8; 32];
-    let k = listing::code_line(
-        mode,
-        four::four_of(&line[2..]),
-        &code[..d.len() / 2],
-        &mut room,
-    );
+    let k = listing::code_line(mode, p, &code[..d.len() / 2], &mut room);
     if k != n + 1 {
         return false;
     }
@@ -108,37 +105,45 @@ fn is_code(mode: Mode, line: &[u8]) -> bool
     same::same(line, &room[..n])
 }
 
-pub fn is_line(mode: Mode, line: &[u8]) -> bool
-    ensures { λ r. ⌜ r ≡ isLine mode (now (line .entry)) ⌝ }
+// The position of a line that begins with a byte, a tab and four digits; 65,536 of any other.
+pub fn position(line: &[u8]) -> u32
+    ensures { λ r. ⌜ r ≡ positionIn (now (line .entry)) ⌝ }
 {
     if line.len() < START {
-        return false;
+        return Image::NOWHERE;
     }
     if line[1] != cut::TAB {
-        return false;
+        return Image::NOWHERE;
     }
-    if !hex::is_hex(&line[2..START]) {
-        return false;
-    }
+    four::read_four(&line[2..START])
+}
+
+// Whether it is good, where it begins so.
+pub fn is_line(mode: Mode, line: &[u8], p: u32) -> bool
+    requires { ⌜ (isStartAt (now line) ≡ true) × (p ≡ positionAt (now line)) ⌝ }
+    ensures { λ r. ⌜ r ≡ isLine mode (now (line .entry)) ⌝ }
+{
     match line[0] {
         b'L' => line.len() == START,
         b'O' => is_found(&line[START..]),
         b'A' => is_found(&line[START..]),
-        b'I' => is_code(mode, line),
+        b'I' => is_code(mode, line, p),
         b'D' => is_data(&line[START..]),
         _ => false,
     }
 }
 
-// What a line says.
-pub fn record(line: &[u8]) -> Record
-    requires { ⌜ Spaced (now line) ⌝ }
+// What a good line says. A `D` line ends with its bytes.
+pub fn record(line: &[u8], p: u32) -> Record
+    requires { ⌜ Spaced (now line) × (p ≡ positionAt (now line)) ⌝ }
     ensures { λ r. ⌜ r ≡ recordOf (now (line .entry)) ⌝ }
 {
     let letter = line[0];
-    let position = four::four_of(&line[2..]);
-    if has_bytes(letter) {
-        return Record::new(letter, position, digits(line).len() / 2);
+    if letter == b'D' {
+        return Record::new(letter, p, (line.len() - START) / 2);
     }
-    Record::new(letter, position, (line.len() - START) / 5)
+    if letter == b'I' {
+        return Record::new(letter, p, digits(line).len() / 2);
+    }
+    Record::new(letter, p, (line.len() - START) / 5)
 }

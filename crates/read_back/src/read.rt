@@ -6,6 +6,7 @@ use crate::order;
 use crate::place::Place;
 use crate::place::Record;
 use instruction::Mode;
+use targets::Image;
 use text::cut;
 
 pub enum Read {
@@ -27,10 +28,14 @@ pub fn read_line(mode: Mode, text: &[u8], place: Place) -> Read
     let at = place.at;
     let e = cut::end(text, at, cut::LINE_END);
     let l = &text[at..e];
-    if !line::is_line(mode, l) {
+    let p = line::position(l);
+    if p == Image::NOWHERE {
         return Read::Malformed(place.line);
     }
-    let record = line::record(l);
+    if !line::is_line(mode, l, p) {
+        return Read::Malformed(place.line);
+    }
+    let record = line::record(l, p);
     if !order::follows(place, record) {
         return Read::Malformed(place.line);
     }

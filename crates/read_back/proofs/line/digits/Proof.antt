@@ -30,4 +30,4 @@ returns-2 c = let e = c .before in the-piece 9 (e .before .before .before .args 
 pub digits-spec : {M : Type 1} → statement M
 digits-spec =
     tie.close
-    (tie.spec (λ c. search needs) (λ c. search needs) (λ c. search needs) returns (λ c. search needs) (λ c κs. search needs) (λ c. search needs) left starts inside returns-2)
+    (tie.spec (λ c. search needs) (λ c. search needs) (λ c. search needs) returns (λ c κs. search needs) left starts inside returns-2)

@@ -9,16 +9,14 @@ use lib.ListN.{length, take, replicate, length-take}
 use lib.Seq.{sets, length-sets}
 use Rattle.instruction.specs.declared.mode.Mode.{Mode}
 use Rattle.text.specs.Bytes.{bytesOf}
-use Rattle.text.specs.Four.{fourOf}
-use Rattle.targets.proofs.HereIs.{to-end}
 use Rattle.text.proofs.Putting.{puts-length}
-use Rattle.read_back.specs.Offsets.{positionAt, bytesAt}
+use Rattle.read_back.specs.Offsets.{bytesAt}
 use Rattle.read_back.proofs.Codes.{digits-short, too-wide, read-bytes, other-width, other-end, compared}
 use Rattle.read_back.proofs.line.is_code.Statement.{statement}
 use Rattle.read_back.proofs.line.is_code.Tie as tie
 
 returns : tie.Need-returns
-returns c = too-wide (c .before .before .args .mode) (c .before .before .args .line .now) (c .if1 .taken)
+returns c = let a = c .before .before .args in too-wide (a .mode) (a .line .now) (a .p) (c .if1 .taken)
 
 abbrev start : tie.Else1 → tie.Start
 start c = c .before .before
@@ -28,6 +26,9 @@ mode c = start c .args .mode
 
 abbrev line : tie.Else1 → List ℕ
 line c = start c .args .line .now
+
+abbrev at : tie.Else1 → ℕ
+at c = start c .args .p
 
 abbrev got : tie.After-digits → List ℕ
 got d = d .digits .result .now
@@ -45,52 +46,43 @@ long u = ap length (wrote u) ∙ length-sets (replicate 16 0) 0 (bytesOf (got (u
 
 prefix : tie.Need-array-share-prefix-code
 prefix c =
-    let u = c .before .before .before in
+    let u = c .before in
     omega (arith, few (u .before .before), long u)
-
-left : tie.Need-sub-four-of
-left c = let s = start (c .before .before .before .before) in omega (arith, s .pre)
-
-starts : tie.Need-part-four-of-start
-starts c = let s = start (c .before .before .before .before) in omega (arith, s .pre)
 
 part : tie.Need-slice-aggregate-code-line
 part c =
-    let u = c .before .before .before .before in
+    let u = c .before .before in
     omega (arith, few (u .before .before), long u, length-take (length (got (u .before .before)) / 2) (u .put .last .1 .0))
 
 abbrev put : tie.After-code-line → tie.After-put
-put k = k .before .before .before .before .before .before
+put k = k .before .before .before .before
 
 abbrev from : tie.After-code-line → tie.Else1
 from k = put k .before .before .before
-
-position : (k : tie.After-code-line) → k .before .before .before .four-of .result ≡ positionAt (line (from k))
-position k = k .before .before .before .four-of .ensures ∙ ap fourOf (to-end (line (from k)) 2)
 
 bytes : (k : tie.After-code-line) → take (length (got (put k .before .before)) / 2) (put k .put .last .1 .0) ≡ bytesAt (line (from k))
 bytes k =
     let u = put k in
     let d = u .before .before in
-    ap (take (length (got d) / 2)) (wrote u) ∙ read-bytes (mode (from k)) (line (from k)) (got d) (d .digits .ensures) (replicate 16 0) refl (few d)
+    ap (take (length (got d) / 2)) (wrote u) ∙ read-bytes (mode (from k)) (line (from k)) (at (from k)) (got d) (d .digits .ensures) (replicate 16 0) refl (few d)
 
 returns-2 : tie.Need-returns-2
 returns-2 c =
     let k = c .before .before in
-    other-width (mode (from k)) (line (from k)) _ _ _ _ _ (position k) (bytes k) refl (k .code-line .ensures) (c .if2 .taken)
+    other-width (mode (from k)) (line (from k)) (at (from k)) _ _ _ _ (bytes k) refl (k .code-line .ensures) (c .if2 .taken)
 
 returns-3 : tie.Need-returns-3
 returns-3 c =
     let e = c .before in
     let k = e .before .before in
-    other-end (mode (from k)) (line (from k)) _ _ _ _ _ (position k) (bytes k) refl (k .code-line .ensures) (e .if2 .left) (c .if3 .taken)
+    other-end (mode (from k)) (line (from k)) (at (from k)) _ _ _ _ (bytes k) refl (k .code-line .ensures) (e .if2 .left) (c .if3 .taken)
 
 returns-4 : tie.Need-returns-4
 returns-4 c =
     let f = c .before .before in
     let e = f .before in
     let k = e .before .before in
-    c .same .ensures ∙ compared (mode (from k)) (line (from k)) _ _ _ _ _ (position k) (bytes k) refl (k .code-line .ensures) (e .if2 .left) (f .if3 .left)
+    c .same .ensures ∙ compared (mode (from k)) (line (from k)) (at (from k)) _ _ _ _ (bytes k) refl (k .code-line .ensures) (e .if2 .left) (f .if3 .left)
 
 narrow : (k : tie.After-code-line) → length (line (from k)) ≤ 30
 narrow k = from k .if1 .left
@@ -112,4 +104,4 @@ shown c =
 pub is-code-spec : {M : Type 1} → statement M
 is-code-spec =
     tie.close
-    (tie.spec returns (λ c κs. search needs) (λ c. refl) (λ c κs. search needs) left starts (λ c. search needs) (λ c κs. search needs) prefix part (λ c. refl) (λ c κs. search needs) add returns-2 read returns-3 shared shown (λ c κs. search needs) returns-4)
+    (tie.spec returns (λ c κs. search needs) (λ c. refl) (λ c κs. search needs) prefix part (λ c. refl) (λ c κs. search needs) add returns-2 read returns-3 shared shown (λ c κs. search needs) returns-4)
