@@ -8,10 +8,6 @@ use Rattle.instruction.specs.Tables.{tableWord}
 use Rattle.instruction.proofs.Digits.{digit}
 use Rattle.instruction.proofs.Every.{upTo, holds}
 
--- a word's arm in a match on its number
-pub arm : {n : ℕ} (f : ℕ → ℕ) (w x : ℕ) → x ≡ w → n ≡ tableWord f w → n ≡ tableWord f x
-arm f w x e g = rw e g
-
 -- of a table of n words, each byte of which antt has tested
 module _ (f : ℕ → ℕ) (n : ℕ) (t : T (upTo (λ j. ltb (f j) 256) (8 * n))) (k : ℕ) (h : k < 8 * n) where
   at-place : tableWord f (k / 8) / 2 ^ (8 * (k % 8)) % 256 ≡ f k

@@ -13,7 +13,7 @@ use Rattle.instruction.specs.declared.flow.Flow.{Flow}
 use Rattle.instruction.specs.declared.flow.Flow.the-variants.{Stop, Next, Jump, Branch}
 use Rattle.instruction.proofs.Digits.{digit}
 use Rattle.instruction.proofs.Every.{holds}
-use Rattle.instruction.specs.FirstBits.{bitsOf, flowAt, saidBy, wordAt}
+use Rattle.instruction.specs.FirstBits.{bitsOf, flowAt, saidBy, columnWord}
 
 flow-at : (f : Flow) → flowAt (bitsOf f) ≡ f
 unfolding flowAt
@@ -29,7 +29,7 @@ flow-bits Jump = omega arith
 flow-bits Branch = omega arith
 
 module _ (x : ℕ) (h : x < 256) where
-  short : sizeOf (formAt (formOf x)) < 4
+  pub short : sizeOf (formAt (formOf x)) < 4
   unfolding formOf formAt forms pattern patternBytes onto bitsGiven nextBracket
   short = ltb→lt _ 4 (holds (λ k. ltb (sizeOf (formAt (formOf k))) 4) 256 tt x h)
 
@@ -48,14 +48,14 @@ module _ (x : ℕ) (h : x < 256) where
   said-small = omega (arith, short, flow-bits (flowOf (formOf x)))
 
 -- the four bits r of the word w
-pub read : (x w r : ℕ) → x < 256 → w ≡ wordAt (x % 16) → r ≡ w / 2 ^ (4 * (x / 16)) % 16 → r ≡ saidBy x
-unfolding wordAt
-read x w r h e g =
-    let row : ℕ → ℕ = λ (k : ℕ). saidBy (16 * k + x % 16) in
+pub read : (f : ℕ → ℕ) → ((x : ℕ) → x < 256 → f x < 16) → (x w r : ℕ) → x < 256 → w ≡ columnWord f (x % 16) → r ≡ w / 2 ^ (4 * (x / 16)) % 16 → r ≡ f x
+unfolding columnWord
+read f small x w r h e g =
+    let row : ℕ → ℕ = λ (k : ℕ). f (16 * k + x % 16) in
     let same : 16 * (0 + x / 16) + x % 16 ≡ x = omega arith in
     g ∙ ap (λ (n : ℕ). n / 2 ^ (4 * (x / 16)) % 16) e
-    ∙ digit 4 row 16 0 (x / 16) (λ j l. said-small (16 * j + x % 16) (omega arith)) (omega arith)
-    ∙ ap saidBy same
+    ∙ digit 4 row 16 0 (x / 16) (λ j l. small (16 * j + x % 16) (omega arith)) (omega arith)
+    ∙ ap f same
 
 -- the two together
 pub both : (x : ℕ) → x < 256 → (s : ℕ) → s ≡ saidBy x → (f : Flow) → f ≡ flowAt (s / 4) → _≡_ {A = FirstByte} (record { size = s % 4; flow = f }) (firstSays x)

@@ -16,6 +16,7 @@ pub mod Every
 pub mod Rest
 pub mod Digits
 pub mod Bytes
+pub mod ShapeNumber
 pub mod Known
 pub mod Shapes
 pub mod Reading

@@ -5,10 +5,10 @@ ghost use mathlib.Core.Path.{_≡_};
 ghost use Rattle.instruction.specs.Decode.{decodedOf, decodeAnswer, decodedPartsOf, partsAnswer};
 use crate::answer::CutOff;
 use crate::build;
+use crate::first;
 use crate::form;
 use crate::instr::Instr;
 use crate::instr::Parts;
-use crate::layout;
 use crate::read;
 
 pub enum Decoded {
@@ -34,13 +34,12 @@ impl Parts {
             return DecodedParts::Nothing;
         }
         let first = bytes[0];
-        let form = form::lookup(first);
-        let shape = form::shape_of(form);
-        let size = layout::size(shape);
+        let size = first::size_by(first) as usize;
         if bytes.len() < size {
             return DecodedParts::Cut(CutOff::new(0, first, (size - bytes.len()) as u8));
         }
-        let f = read::read(shape, bytes);
+        let form = form::lookup(first);
+        let f = read::read(form::shape_by(first), bytes);
         DecodedParts::Found(Parts::new(form, f.a, f.b, f.c))
     }
 }

@@ -6,13 +6,13 @@ ghost use mathlib.Core.Path.{_≡_};
 ghost use Prim.Native.Nat.{_<_};
 ghost use Rattle.instruction.specs.Forms.{formAt, formOf, sizeOf};
 ghost use Rattle.instruction.specs.First.{firstSays};
-ghost use Rattle.instruction.specs.FirstBits.{wordAt, saidBy, flowAt};
+ghost use Rattle.instruction.specs.FirstBits.{columnWord, saidBy, flowAt};
 use crate::flow::Flow;
 
 // The word of the column of a byte's low four bits. All sixteen are written out, so that the compiler makes a load of it.
 fn word(low: u8) -> u64
     requires { ⌜ low < 16 ⌝ }
-    ensures { λ r. ⌜ r ≡ wordAt low ⌝ }
+    ensures { λ r. ⌜ r ≡ columnWord saidBy low ⌝ }
 {
     match low {
         0 => 0x5555_11EE_6655_5FF5,

@@ -1,11 +1,12 @@
--- `tables::forms` meets its contract, word by word.
+-- `tables::forms` meets its contract, word by word. An arm past the table is never taken.
 -- Assumes nothing.
 use mathlib.Core.Path.{refl}
+use Prim.Native.Nat.{_%_}
+use native.Mathlib.Omega.{arith}
 use Rattle.instruction.specs.Tables.{tableWord, byColumn}
 use Rattle.instruction.specs.Forms.{forms, formNamed}
 use Rattle.instruction.specs.Grid.{grid}
-use Rattle.instruction.proofs.Bytes.{arm}
-use Rattle.instruction.proofs.Rest.{only}
+use Rattle.instruction.proofs.Rest.{arm, only}
 use Rattle.instruction.proofs.tables.forms.Statement.{statement}
 use Rattle.instruction.proofs.tables.forms.Tie as tie
 
@@ -14,13 +15,21 @@ unfolding tableWord byColumn grid formNamed forms
 forms-spec =
     tie.close
     (tie.spec
-    (λ c. arm byColumn 0 _ (c .match .keys1) refl)
-    (λ c. arm byColumn 1 _ (c .match .keys2) refl)
-    (λ c. arm byColumn 2 _ (c .match .keys3) refl)
-    (λ c. arm byColumn 3 _ (c .match .keys4) refl)
-    (λ c. arm byColumn 4 _ (c .match .keys5) refl)
-    (λ c. arm byColumn 5 _ (c .match .keys6) refl)
-    (λ c. arm byColumn 6 _ (c .match .keys7) refl)
-    (λ c. arm byColumn 7 _ (c .match .keys8) refl)
-    (λ c. arm byColumn 8 _ (c .match .keys9) refl)
-    (λ c. arm byColumn 9 _ (only 9 (c .before .args .w) (c .match .rest) (c .before .pre)) refl))
+    (λ c. arm (tableWord byColumn) 0 (c .before .args .w) (omega (arith, c .before .pre, c .match .keys1)) refl)
+    (λ c. arm (tableWord byColumn) 1 (c .before .args .w) (omega (arith, c .before .pre, c .match .keys2)) refl)
+    (λ c. arm (tableWord byColumn) 2 (c .before .args .w) (omega (arith, c .before .pre, c .match .keys3)) refl)
+    (λ c. arm (tableWord byColumn) 3 (c .before .args .w) (omega (arith, c .before .pre, c .match .keys4)) refl)
+    (λ c. arm (tableWord byColumn) 4 (c .before .args .w) (omega (arith, c .before .pre, c .match .keys5)) refl)
+    (λ c. arm (tableWord byColumn) 5 (c .before .args .w) (omega (arith, c .before .pre, c .match .keys6)) refl)
+    (λ c. arm (tableWord byColumn) 6 (c .before .args .w) (omega (arith, c .before .pre, c .match .keys7)) refl)
+    (λ c. arm (tableWord byColumn) 7 (c .before .args .w) (omega (arith, c .before .pre, c .match .keys8)) refl)
+    (λ c. arm (tableWord byColumn) 8 (c .before .args .w) (omega (arith, c .before .pre, c .match .keys9)) refl)
+    (λ c. arm (tableWord byColumn) 9 (c .before .args .w) (omega (arith, c .before .pre, c .match .keys10)) refl)
+    (λ c. arm (tableWord byColumn) 9 (c .before .args .w) (omega (arith, c .before .pre, c .match .keys11)) refl)
+    (λ c. arm (tableWord byColumn) 9 (c .before .args .w) (omega (arith, c .before .pre, c .match .keys12)) refl)
+    (λ c. arm (tableWord byColumn) 9 (c .before .args .w) (omega (arith, c .before .pre, c .match .keys13)) refl)
+    (λ c. arm (tableWord byColumn) 9 (c .before .args .w) (omega (arith, c .before .pre, c .match .keys14)) refl)
+    (λ c. arm (tableWord byColumn) 9 (c .before .args .w) (omega (arith, c .before .pre, c .match .keys15)) refl)
+    (λ c.
+    let l = only 15 (c .before .args .w % 16) (c .match .rest) (omega arith) in
+    arm (tableWord byColumn) 9 (c .before .args .w) (omega (arith, c .before .pre, l)) refl))
