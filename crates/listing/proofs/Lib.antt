@@ -5,6 +5,7 @@ pub mod Showing
 pub mod Lining
 pub mod Alone
 pub mod Opened
+pub mod Resting
 pub mod Walking
 pub mod Chaining
 pub mod Answering

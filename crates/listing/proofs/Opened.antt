@@ -19,13 +19,12 @@ use Rattle.instruction.proofs.Decoding.{nothing, Made, found-whole}
 use Rattle.targets.specs.At.{sizeHere, fitsHere, instrHere}
 use Rattle.targets.specs.Here.{hereOf}
 use Rattle.targets.specs.Targets.{nextOf}
-use Rattle.targets.specs.declared.here.Here.{Here}
 use Rattle.targets.specs.declared.here.Here.the-variants.{Whole, Cut}
 use Rattle.targets.proofs.HereIs.{answer, outside-here, whole-here}
 use Rattle.targets.proofs.WaysAre.{here-whole}
 use Rattle.targets.proofs.Within.{Small, Within, within, size-here, size-short}
 use Rattle.listing.specs.Alone.{textOf}
-use Rattle.listing.specs.Lines.{instrText, hereLine, codeBy, codeLine}
+use Rattle.listing.specs.Lines.{hereLine, codeBy, codeLine}
 
 -- parts that the bytes begin with: those of an instruction that fits its fields and ends within the bytes
 pub record Opened (s : List ℕ) (v : Parts) : Type 0 where
@@ -80,7 +79,7 @@ module _ (mode : Mode) (p : ℕ) (s : List ℕ) (b : Small s) where
   -- by how many bytes there are, and whether the instruction is whole
   module _ {A : List ℕ} (none : length s ≡ 0 → A ≡ codeBy mode p s (hereOf s 0))
       (some : (h : 0 < length s) (t : Bool) → fitsHere s 0 ≡ t → A ≡ codeBy mode p s (cond t (Whole (instrHere s 0)) (Cut (cutAt s 0)))) where
-    either : A ≡ codeLine mode p s
+    pub either : A ≡ codeLine mode p s
     unfolding codeLine
     either = by (length s) refl
       where
@@ -88,7 +87,7 @@ module _ (mode : Mode) (p : ℕ) (s : List ℕ) (b : Small s) where
         by zero f = none f
         by (suc n) f = let h : 0 < length s = omega arith in some h (fitsHere s 0) refl ∙ ap (codeBy mode p s) (sym (there s 0 h (fitsHere s 0) refl))
 
-  outside : length s ≡ 0 → [] ≡ codeBy mode p s (hereOf s 0)
+  pub outside : length s ≡ 0 → [] ≡ codeBy mode p s (hereOf s 0)
   outside f = ap (codeBy mode p s) (outside-here s 0 (omega arith))
 
   end : nextOf p (instrHere s 0) ≡ p + sizeHere s 0

@@ -7,11 +7,13 @@ use lib.IntN.{ℤ, natAbs}
 use Rattle.instruction.specs.Answer.{Answer, accepted, refused}
 use Rattle.instruction.specs.Forms.{formAt}
 use Rattle.instruction.specs.Kinds.{kindAt}
+use Rattle.instruction.specs.Mnemonic.{mnemonicOf, packedLetters}
 use Rattle.instruction.specs.declared.instr.Instr.{Instr}
 use Rattle.instruction.specs.declared.instr.Parts.{Parts}
 use Rattle.instruction.specs.declared.kind.Kind.{Kind}
 use Rattle.instruction.specs.declared.mode.Mode.{Mode}
 use Rattle.targets.specs.Asked.{operandPlace}
+use Rattle.text.specs.Puts.{letters}
 use Rattle.listing.specs.Lines.{instrText}
 use Rattle.listing.specs.Operand.{shown, shownField}
 
@@ -28,6 +30,10 @@ unfoldable pub operandsAlone : Mode → ℕ → Parts → List ℕ
 operandsAlone mode next v =
     let k : ℕ → Kind = kindAt (formAt (v .form) .shape) in
     fieldAlone mode next (k 0) (v .a) ++ (fieldAlone mode next (k 1) (v .b) ++ (fieldAlone mode next (k 2) (v .c) ++ (10 ∷ [])))
+
+-- the mnemonic before them
+unfoldable pub restAlone : Mode → ℕ → Parts → List ℕ
+restAlone mode next v = 9 ∷ letters 8 (packedLetters (mnemonicOf (v .form))) ++ operandsAlone mode next v
 
 -- the line at p of the instruction that these bytes begin with, none where decode refuses
 abbrev pub textOf : Mode → ℕ → List ℕ → Answer Instr → List ℕ

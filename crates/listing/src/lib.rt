@@ -10,6 +10,7 @@ pub mod tabbed;
 mod walk;
 
 pub use code::code_line;
+pub use code::code_rest;
 pub use hex::hex1;
 pub use tabbed::Arrivals;
 pub use tabbed::listing;

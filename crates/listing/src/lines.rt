@@ -13,7 +13,7 @@ ghost use Rattle.targets.specs.Here.{hereOf};
 ghost use Rattle.arrivals.specs.Arrivals.{arrivalsOf};
 ghost use Rattle.views.specs.Overlaps.{overlapsIn, overlapsOf};
 ghost use Rattle.arrivals.specs.Index.{indexOf, nextHeld, nextFall};
-ghost use Rattle.listing.specs.Alone.{textOf};
+ghost use Rattle.listing.specs.Alone.{textOf, restAlone};
 ghost use Rattle.listing.specs.Hex.{hex4};
 ghost use Rattle.listing.specs.Lent.{isLent, Indexed};
 ghost use Rattle.listing.specs.Line.{fieldsText};
@@ -165,6 +165,14 @@ fn put_parts(mode: Mode, bytes: &[u8], out: &mut [u8], at: usize, p: u32, v: Par
     let a2 = put::put_bytes(out, a1, &bytes[..n]);
     let a3 = put::put_word(out, a2, word);
     operands::put_operands(out, a3, mode, next, v)
+}
+
+// What follows the bytes of an `I` line, of the parts of an instruction that ends at next.
+pub fn put_rest(mode: Mode, out: &mut [u8], next: u64, v: Parts) -> usize
+    ensures { λ r. ⌜ Puts (restAlone mode next v) 0 (now (out .entry)) (now (out .exit)) r ⌝ }
+{
+    let a = put::put_word(out, 0, v.mnemonic());
+    operands::put_operands(out, a, mode, next, v)
 }
 
 // `I`, of the instruction with which these bytes begin, where decode answers one.

@@ -5,8 +5,8 @@ use mathlib.Core.Bool.{false}
 use mathlib.Core.List.{List, [], _∷_, _++_}
 use Prim.Native.Nat.{ℕ, suc, _+_, _/_, _≤_, _<_}
 use native.Mathlib.Omega.{arith}
-use lib.ListN.{length, getD, set, take, drop, length-append, length-drop, length-take}
-use lib.Seq.{sets, getD-take, take-take}
+use lib.ListN.{length, getD, set, take, drop, length-append, length-drop, length-take, List·getD-append}
+use lib.Seq.{sets, getD-take, getD-append-seam, take-take}
 use Rattle.instruction.specs.declared.mode.Mode.{Mode}
 use Rattle.listing.specs.Lines.{codeLine}
 use Rattle.text.specs.Puts.{Puts}
@@ -18,6 +18,7 @@ use Rattle.text.specs.Same.{same}
 use Rattle.read_back.specs.Line.{isCode}
 use Rattle.read_back.specs.Offsets.{digitsAt, bytesAt}
 use Rattle.text.proofs.Sames.{other-length, same-false, same-but-last}
+use Rattle.read_back.proofs.Rests.{seventh}
 
 -- what is written from the start on stands at the start
 sets-cons : (room : List ℕ) (x : ℕ) (i : ℕ) (s : List ℕ) → sets (x ∷ room) (suc i) s ≡ x ∷ sets room i s
@@ -36,55 +37,60 @@ digits-inside line = omega (arith, ap length (take-first 9 (drop 7 line)), lengt
 pub digits-short : (line : List ℕ) → length (digitsAt line) ≤ length line
 digits-short line = omega (arith, digits-inside line, length-drop 7 line)
 
+-- the bytes of digits, as they were read into a room of 16
+pub read-bytes : (d room : List ℕ) → length room ≡ 16 → length d ≤ 30 → take (length d / 2) (sets room 0 (bytesOf d)) ≡ bytesOf d
+read-bytes d room l h =
+    let q : length (bytesOf d) ≡ length d / 2 = pairs d (length d / 2) refl in
+    ap (λ (k : ℕ). take k (sets room 0 (bytesOf d))) (sym q) ∙ take-sets (bytesOf d) room (omega (arith, q))
+
 module _ (mode : Mode) (line : List ℕ) (p : ℕ) where
-  abbrev written : List ℕ
-  written = codeLine mode p (bytesAt line)
-
-  width : length written ≤ 31
-  width = alone-width mode (bytesAt line) [] (bytes-small (digitsAt line)) p
-
-  longer : length (line ++ 10 ∷ []) ≡ length line + 1
-  longer = length-append line (10 ∷ [])
-
   pub too-wide : 30 < length line → false ≡ isCode mode p (bytesAt line) line
   unfolding isCode
-  too-wide h = sym (other-length (line ++ 10 ∷ []) written (λ e. absurd (omega (arith, e, longer, width))))
+  too-wide h =
+      sym (other-length (line ++ 10 ∷ []) (codeLine mode p (bytesAt line))
+      (λ e. absurd (omega (arith, e, length-append line (10 ∷ []), alone-width mode (bytesAt line) [] (bytes-small (digitsAt line)) p))))
 
-  -- its bytes, as they were read into a room of 16
-  pub read-bytes : (d : List ℕ) → d ≡ digitsAt line → (room : List ℕ) → length room ≡ 16 → length d ≤ 30 → take (length d / 2) (sets room 0 (bytesOf d)) ≡ bytesAt line
-  read-bytes d e room l h =
-      let q : length (bytesOf d) ≡ length d / 2 = pairs d (length d / 2) refl in
-      ap (λ (k : ℕ). take k (sets room 0 (bytesOf d))) (sym q) ∙ take-sets (bytesOf d) room (omega (arith, q)) ∙ ap bytesOf e
+  -- no tab after the position
+  no-seventh : (getD (line ++ 10 ∷ []) 6 0 ≡ 9 → ⊥) → false ≡ isCode mode p (bytesAt line) line
+  unfolding isCode
+  no-seventh n =
+      sym (same-false (line ++ 10 ∷ []) (codeLine mode p (bytesAt line))
+      (λ e. n (ap (λ (l : List ℕ). getD l 6 0) e ∙ seventh mode p (bytesAt line) (omega (arith, ap length e, length-append line (10 ∷ []))))))
 
-  -- the line as it was written again
-  module _ (bytes room new : List ℕ) (k : ℕ) (f : bytes ≡ bytesAt line) (l : length room ≡ 32) (w : Puts (codeLine mode p bytes) 0 room new k) where
-    is-written : codeLine mode p bytes ≡ written
-    is-written = rw f
+  pub too-short : length line ≡ 6 → false ≡ isCode mode p (bytesAt line) line
+  too-short h =
+      let z : getD (line ++ 10 ∷ []) 6 0 ≡ 10 = sym (ap (λ (i : ℕ). getD (line ++ 10 ∷ []) i 0) h) ∙ getD-append-seam line 10 [] 0 in
+      no-seventh (λ e. omega arith)
 
-    size : k ≡ length written
-    size = omega (arith, w .next, ap length is-written)
+  pub no-tab-after : 7 ≤ length line → (getD line 6 0 ≡ 9 → ⊥) → false ≡ isCode mode p (bytesAt line) line
+  no-tab-after h n = no-seventh (λ e. n (sym (List·getD-append line (10 ∷ []) 0 6 h) ∙ e))
 
-    pub other-width : (k ≡ length line + 1 → ⊥) → false ≡ isCode mode p (bytesAt line) line
-    unfolding isCode
-    other-width n = sym (other-length (line ++ 10 ∷ []) written (λ e. n (omega (arith, e, longer, size))))
+-- a text and byte 10, compared with one that was written
+module _ (u written room new : List ℕ) (k : ℕ) (w : Puts written 0 room new k) where
+  longer : length (u ++ 10 ∷ []) ≡ length u + 1
+  longer = length-append u (10 ∷ [])
 
-    module _ (g : k ≡ length line + 1) where
-      shown : take (length written) new ≡ written
-      shown = ap (take (length written)) (w .wrote ∙ ap (sets room 0) is-written) ∙ take-sets written room (omega (arith, width))
+  size : k ≡ length written
+  size = omega (arith, w .next)
 
-      last : getD written (length line) 0 ≡ getD new (length line) 0
-      last = ap (λ (t : List ℕ). getD t (length line) 0) (sym shown) ∙ getD-take (length written) new (length line) 0 (omega (arith, size, g))
+  pub other-width : (k ≡ length u + 1 → ⊥) → false ≡ same (u ++ 10 ∷ []) written
+  other-width n = sym (other-length (u ++ 10 ∷ []) written (λ e. n (omega (arith, e, longer, size))))
 
-      pub other-end : (getD new (length line) 0 ≡ 10 → ⊥) → false ≡ isCode mode p (bytesAt line) line
-      unfolding isCode
-      other-end n = sym (same-false (line ++ 10 ∷ []) written (λ e. n (sym last ∙ sym (ap (λ (t : List ℕ). getD t (length line) 0) e) ∙ at-end line)))
-        where
-          at-end : (s : List ℕ) → getD (s ++ 10 ∷ []) (length s) 0 ≡ 10
-          at-end [] = refl
-          at-end (a ∷ s) = at-end s
+  module _ (g : k ≡ length u + 1) (l : k ≤ length room) where
+    shown : take (length written) new ≡ written
+    shown = ap (take (length written)) (w .wrote) ∙ take-sets written room (omega (arith, size))
 
-      pub compared : getD new (length line) 0 ≡ 10 → same line (take (length line) new) ≡ isCode mode p (bytesAt line) line
-      unfolding isCode
-      compared e =
-          ap (same line) (sym (take-take (length line) (length written) new (omega (arith, size, g))) ∙ ap (take (length line)) shown)
-          ∙ sym (same-but-last line written 10 (omega (arith, size, g)) (last ∙ e))
+    last : getD written (length u) 0 ≡ getD new (length u) 0
+    last = ap (λ (t : List ℕ). getD t (length u) 0) (sym shown) ∙ getD-take (length written) new (length u) 0 (omega (arith, size, g))
+
+    pub other-end : (getD new (length u) 0 ≡ 10 → ⊥) → false ≡ same (u ++ 10 ∷ []) written
+    other-end n = sym (same-false (u ++ 10 ∷ []) written (λ e. n (sym last ∙ sym (ap (λ (t : List ℕ). getD t (length u) 0) e) ∙ at-end u)))
+      where
+        at-end : (s : List ℕ) → getD (s ++ 10 ∷ []) (length s) 0 ≡ 10
+        at-end [] = refl
+        at-end (a ∷ s) = at-end s
+
+    pub compared : getD new (length u) 0 ≡ 10 → same u (take (length u) new) ≡ same (u ++ 10 ∷ []) written
+    compared e =
+        ap (same u) (sym (take-take (length u) (length written) new (omega (arith, size, g))) ∙ ap (take (length u)) shown)
+        ∙ sym (same-but-last u written 10 (omega (arith, size, g)) (last ∙ e))

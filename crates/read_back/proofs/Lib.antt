@@ -5,7 +5,9 @@ pub mod Pieces
 pub mod Rests
 pub mod Shapes
 pub mod ByFields
+pub mod HexBack
 pub mod Codes
+pub mod CodeRests
 pub mod Records
 pub mod Reading
 pub mod Notes

@@ -3,7 +3,7 @@
 use mathlib.Core.Path.{_≡_, refl, sym, ap, _∙_}
 use mathlib.Core.Bool.{Bool, true, false, cond, _&&_}
 use mathlib.Core.List.{List, [], _∷_, _++_, append-nil}
-use Prim.Native.Nat.{ℕ, zero, suc, _*_, _<_, _≤_}
+use Prim.Native.Nat.{ℕ, zero, suc, _*_, _<_}
 use native.Mathlib.Omega.{arith}
 use borrow.Author.Tests.{eqb-false, ne-eqb, le-leb, ltb-true, ltb-false}
 use lib.Dec.{eqb, leb, ltb}
@@ -115,7 +115,7 @@ digits-are [] n = refl
 digits-are (g ∷ gs) n = up-to g gs (n .0)
 
 -- a tab stands after the position of a printed `I` line
-seventh : (mode : Mode) (p : ℕ) (bytes : List ℕ) → 0 < length (codeLine mode p bytes) → getD (codeLine mode p bytes) 6 0 ≡ 9
+pub seventh : (mode : Mode) (p : ℕ) (bytes : List ℕ) → 0 < length (codeLine mode p bytes) → getD (codeLine mode p bytes) 6 0 ≡ 9
 unfolding codeLine instrText fieldsText hex4 hex3 hex2
 seventh mode p bytes h = by (hereOf bytes 0) h
   where

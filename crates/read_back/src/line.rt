@@ -1,7 +1,13 @@
 // One line, without its byte 10.
 ghost use mathlib.Core.Path.{_≡_};
 ghost use mathlib.Core.Bool.{true};
-ghost use Rattle.read_back.specs.Line.{hasBytes, isCode, isLine, recordOf};
+ghost use mathlib.Core.List.{[], _∷_, _++_};
+ghost use Prim.Native.Nat.{_≤_};
+ghost use lib.ListN.{length};
+ghost use Rattle.listing.specs.Rest.{codeRest};
+ghost use Rattle.text.specs.Bytes.{bytesOf};
+ghost use Rattle.text.specs.Same.{same};
+ghost use Rattle.read_back.specs.Line.{letterOn, hasBytes, isCode, isLine, recordOf};
 ghost use Rattle.read_back.specs.Offsets.{arePlaces, isFoundRest, isDataRest, positionAt, positionIn, digitsAt, bytesAt, isStartAt, Spaced};
 use crate::place::Record;
 use instruction::Mode;
@@ -83,26 +89,49 @@ fn digits(line: &[u8]) -> &[u8]
     &line[DIGITS..e]
 }
 
-// `I`: the line is written again, from its bytes and its position, and compared.
+// `I`: its position's digits are digits, and where those of its bytes are too, what follows them is written again and compared.
 fn is_code(mode: Mode, line: &[u8], p: u32) -> bool
+    requires { ⌜ (isStartAt (now line) ≡ true) × (p ≡ positionAt (now line)) × (letterOn (now line) ≡ 73) ⌝ }
     ensures { λ r. ⌜ r ≡ isCode mode p (bytesAt (now (line .entry))) (now (line .entry)) ⌝ }
 {
     let n = line.len();
     if WIDEST < n {
         return false;
     }
+    if n == START {
+        return false;
+    }
+    if line[START] != cut::TAB {
+        return false;
+    }
     let d = digits(line);
+    let k = d.len() / 2;
+    if k * 2 != d.len() {
+        return false;
+    }
+    if !hex::is_hex(d) {
+        return false;
+    }
+    is_rest(mode, p, d, &line[DIGITS + d.len()..])
+}
+
+// Whether this follows these digits on the `I` line of their bytes.
+fn is_rest(mode: Mode, p: u32, d: &[u8], rest: &[u8]) -> bool
+    requires { ⌜ (length (now d) ≤ 30) × (length (now rest) ≤ 30) ⌝ }
+    ensures { λ r. ⌜ r ≡ same (now (rest .entry) ++ 10 ∷ []) (codeRest mode p (bytesOf (now (d .entry)))) ⌝ }
+{
     let mut code = [0u8; 16];
     bytes::put(d, &mut code, 0);
     let mut room = [0u8; 32];
-    let k = listing::code_line(mode, p, &code[..d.len() / 2], &mut room);
+    let k = listing::code_rest(mode, p, &code[..d.len() / 2], &mut room);
+    let n = rest.len();
     if k != n + 1 {
         return false;
     }
     if room[n] != cut::LINE_END {
         return false;
     }
-    same::same(line, &room[..n])
+    same::same(rest, &room[..n])
 }
 
 // The position of a line that begins with a byte, a tab and four digits; 65,536 of any other.

@@ -10,8 +10,9 @@ use lib.Dec.{T, ltb, eqb, eqb→eq, lit<}
 use Rattle.instruction.proofs.Every.{holds}
 use Rattle.text.specs.Bytes.{bytesOf}
 use Rattle.text.specs.Four.{fourOf}
-use Rattle.text.specs.Hex.{isDigit, digitOf, allHex}
+use Rattle.text.specs.Hex.{digitOf, allHex}
 use Rattle.listing.specs.Hex.{letterOf, hex1, hex2, hex3, hex4, hexes}
+pub use Rattle.read_back.proofs.HexBack.{digit-is, bytes-hex}
 
 is : (b : Bool) → T b → b ≡ true
 is true t = refl
@@ -19,10 +20,6 @@ is false t = absurd t
 
 sixteenth : (n : ℕ) → n % 16 < 16
 sixteenth n = mod-lt n (lit< tt)
-
-pub digit-is : (n : ℕ) → isDigit (hex1 n) ≡ true
-unfolding hex1
-digit-is n = is _ (holds (λ k. isDigit (letterOf k)) 16 tt (n % 16) (sixteenth n))
 
 pub digit-back : (n : ℕ) → digitOf (hex1 n) ≡ n % 16
 unfolding hex1 digitOf
@@ -65,8 +62,3 @@ bytes-back (b ∷ bs) s =
     let h : b < 256 = s .0 in
     let e : b / 16 % 16 * 16 + b % 16 ≡ b = omega arith in
     rw (digit-back (b / 16), digit-back b, e) (ap (λ (l : List ℕ). b ∷ l) (bytes-back bs (s .1)))
-
-pub bytes-hex : (bs : List ℕ) → allHex (hexes bs) ≡ true
-unfolding allHex hexes hex2
-bytes-hex [] = refl
-bytes-hex (b ∷ bs) = rw (digit-is (b / 16), digit-is b) (bytes-hex bs)

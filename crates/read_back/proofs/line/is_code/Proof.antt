@@ -1,17 +1,23 @@
 -- `line::is_code` meets its contract.
 -- Assumes nothing.
-use mathlib.Core.Path.{_≡_, refl, ap, _∙_}
-use mathlib.Core.List.{List}
-use Prim.Native.Nat.{ℕ, _/_, _≤_}
+use mathlib.Core.Path.{_≡_, sym, ap, _∙_}
+use mathlib.Core.List.{List, [], _∷_, _++_}
+use Prim.Native.Nat.{ℕ, _+_, _≤_}
 use native.Mathlib.Omega.{arith}
 use borrow.Author.Needs.{needs}
-use lib.ListN.{length, take, replicate, length-take}
-use lib.Seq.{sets, length-sets}
+use borrow.Author.Tests.{not-true, not-false}
+use lib.ListN.{length, drop, length-drop}
 use Rattle.instruction.specs.declared.mode.Mode.{Mode}
+use Rattle.instruction.proofs.Sign.{never}
+use Rattle.targets.proofs.HereIs.{to-end}
 use Rattle.text.specs.Bytes.{bytesOf}
-use Rattle.text.proofs.Putting.{puts-length}
-use Rattle.read_back.specs.Offsets.{bytesAt}
-use Rattle.read_back.proofs.Codes.{digits-short, too-wide, read-bytes, other-width, other-end, compared}
+use Rattle.text.specs.Hex.{allHex}
+use Rattle.text.specs.Same.{same}
+use Rattle.listing.specs.Rest.{codeRest}
+use Rattle.read_back.specs.Offsets.{digitsAt}
+use Rattle.read_back.proofs.CodeRests.{Digits, unprinted, by-rest}
+use Rattle.read_back.proofs.Codes.{digits-inside, too-wide, too-short, no-tab-after}
+use Rattle.read_back.proofs.Lines.{start-long}
 use Rattle.read_back.proofs.line.is_code.Statement.{statement}
 use Rattle.read_back.proofs.line.is_code.Tie as tie
 
@@ -19,89 +25,92 @@ returns : tie.Need-returns
 returns c = let a = c .before .before .args in too-wide (a .mode) (a .line .now) (a .p) (c .if1 .taken)
 
 abbrev start : tie.Else1 → tie.Start
-start c = c .before .before
+start e = e .before .before
 
 abbrev mode : tie.Else1 → Mode
-mode c = start c .args .mode
+mode e = start e .args .mode
 
 abbrev line : tie.Else1 → List ℕ
-line c = start c .args .line .now
+line e = start e .args .line .now
 
 abbrev at : tie.Else1 → ℕ
-at c = start c .args .p
+at e = start e .args .p
+
+returns-2 : tie.Need-returns-2
+returns-2 c = let e = c .before in too-short (mode e) (line e) (at e) (c .if2 .taken)
+
+long : (f : tie.Else2) → 7 ≤ length (line (f .before))
+long f = let e = f .before in omega (arith, start-long (line e) (start e .pre .0), f .if2 .left)
+
+returns-3 : tie.Need-returns-3
+returns-3 c =
+    let f = c .before .before in
+    let e = f .before in
+    no-tab-after (mode e) (line e) (at e) (long f) (c .if3 .taken)
+
+abbrev back : tie.After-digits → tie.Else2
+back d = d .before .before .before
+
+abbrev from : tie.After-digits → tie.Else1
+from d = back d .before
 
 abbrev got : tie.After-digits → List ℕ
 got d = d .digits .result .now
 
--- the digits are no more than the line has bytes
-few : (d : tie.After-digits) → length (got d) ≤ 30
-few d = let e = d .before in omega (arith, ap length (d .digits .ensures), digits-short (line e), e .if1 .left)
-
--- the room of 16 holds their bytes
-wrote : (u : tie.After-put) → u .put .last .1 .0 ≡ sets (replicate 16 0) 0 (bytesOf (got (u .before .before)))
-wrote u = u .put .ensures
-
-long : (u : tie.After-put) → length (u .put .last .1 .0) ≡ 16
-long u = ap length (wrote u) ∙ length-sets (replicate 16 0) 0 (bytesOf (got (u .before .before)))
-
-prefix : tie.Need-array-share-prefix-code
-prefix c =
-    let u = c .before in
-    omega (arith, few (u .before .before), long u)
-
-part : tie.Need-slice-aggregate-code-line
-part c =
-    let u = c .before .before in
-    omega (arith, few (u .before .before), long u, length-take (length (got (u .before .before)) / 2) (u .put .last .1 .0))
-
-abbrev put : tie.After-code-line → tie.After-put
-put k = k .before .before .before .before
-
-abbrev from : tie.After-code-line → tie.Else1
-from k = put k .before .before .before
-
-bytes : (k : tie.After-code-line) → take (length (got (put k .before .before)) / 2) (put k .put .last .1 .0) ≡ bytesAt (line (from k))
-bytes k =
-    let u = put k in
-    let d = u .before .before in
-    ap (take (length (got d) / 2)) (wrote u) ∙ read-bytes (mode (from k)) (line (from k)) (at (from k)) (got d) (d .digits .ensures) (replicate 16 0) refl (few d)
-
-returns-2 : tie.Need-returns-2
-returns-2 c =
-    let k = c .before .before in
-    other-width (mode (from k)) (line (from k)) (at (from k)) _ _ _ _ (bytes k) refl (k .code-line .ensures) (c .if2 .taken)
-
-returns-3 : tie.Need-returns-3
-returns-3 c =
-    let e = c .before in
-    let k = e .before .before in
-    other-end (mode (from k)) (line (from k)) (at (from k)) _ _ _ _ (bytes k) refl (k .code-line .ensures) (e .if2 .left) (c .if3 .taken)
+are : (d : tie.After-digits) → got d ≡ digitsAt (line (from d))
+are d = d .digits .ensures
 
 returns-4 : tie.Need-returns-4
 returns-4 c =
-    let f = c .before .before in
-    let e = f .before in
-    let k = e .before .before in
-    c .same .ensures ∙ compared (mode (from k)) (line (from k)) (at (from k)) _ _ _ _ (bytes k) refl (k .code-line .ensures) (e .if2 .left) (f .if3 .left)
+    let d = c .before in
+    let e = from d in
+    unprinted (line e) (long (back d)) (mode e) (at e) (λ p. c .if4 .taken (rw (are d) (p .1)))
 
-narrow : (k : tie.After-code-line) → length (line (from k)) ≤ 30
-narrow k = from k .if1 .left
+hex : (h : tie.After-is-hex) → let d = h .before .before in h .is-hex .result ≡ allHex (digitsAt (line (from d)))
+hex h = h .is-hex .ensures ∙ ap allHex (are (h .before .before))
 
-add : tie.Need-add-if2
-add c = record { fits = omega (arith, narrow (c .before)) }
+returns-5 : tie.Need-returns-5
+returns-5 c =
+    let h = c .before in
+    let d = h .before .before in
+    let e = from d in
+    unprinted (line e) (long (back d)) (mode e) (at e) (λ p. never (sym (hex h ∙ p .0) ∙ not-true _ (c .if5 .taken)))
 
-read : tie.Need-array-read-if3
-read c = omega (arith, narrow (c .before .before))
+abbrev digit : tie.Else5 → tie.After-digits
+digit g = g .before .before .before
 
-shared : tie.Need-array-share-prefix-room
-shared c = let k = c .before .before .before in omega (arith, narrow k, puts-length (k .code-line .ensures))
+inside : (g : tie.Else5) → let d = digit g in 7 + length (got d) ≤ length (line (from d))
+inside g =
+    let d = digit g in
+    let l = line (from d) in
+    omega (arith, ap length (are d), digits-inside l, length-drop 7 l, long (back d))
 
-shown : tie.Need-slice-aggregate-same
-shown c =
-    let k = c .before .before .before .before in
-    omega (arith, narrow k, puts-length (k .code-line .ensures), length-take (length (line (from k))) (k .code-line .last .1 .1 .1 .0))
+is : (g : tie.Else5) → Digits (line (from (digit g)))
+is g =
+    let h = g .before in
+    let k = h .before in
+    (sym (hex h) ∙ not-false _ (g .if5 .left), rw (are (digit g)) at (k .if4 .left))
+
+requires : tie.Need-is-rest-requires
+requires c κs =
+    let g = c .before in
+    let d = digit g in
+    let l = line (from d) in
+    (omega (arith, inside g, from d .if1 .left), omega (arith, ap length (to-end l (7 + length (got d))), length-drop (7 + length (got d)) l, from d .if1 .left))
+
+returns-6 : tie.Need-returns-6
+returns-6 c =
+    let g = c .before .before in
+    let d = digit g in
+    let e = from d in
+    let s = start e in
+    c .is-rest .ensures
+    ∙ ap (λ (l : List ℕ). same (l ++ 10 ∷ []) (codeRest (mode e) (at e) (bytesOf (got d)))) (to-end (line e) (7 + length (got d)))
+    ∙ ap (λ (l : List ℕ). same (drop (7 + length l) (line e) ++ 10 ∷ []) (codeRest (mode e) (at e) (bytesOf l))) (are d)
+    ∙ by-rest (mode e) (line e) (at e) (s .pre .0) (s .pre .1) (s .pre .2) (long (back d)) (d .before .if3 .left) (is g)
 
 pub is-code-spec : {M : Type 1} → statement M
 is-code-spec =
     tie.close
-    (tie.spec returns (λ c κs. search needs) (λ c. refl) (λ c κs. search needs) prefix part (λ c. refl) (λ c κs. search needs) add returns-2 read returns-3 shared shown (λ c κs. search needs) returns-4)
+    (tie.spec returns returns-2 (λ c. long (c .before)) returns-3 (λ c κs. search needs) (λ c. search needs) returns-4 (λ c κs. search needs) returns-5
+    (λ c. search needs) inside inside (λ c. search needs) requires returns-6)

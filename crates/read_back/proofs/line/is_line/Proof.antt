@@ -76,6 +76,6 @@ is-line-spec =
     (tie.spec (λ c. first c)
     (λ c. long (c .before)) (λ c. long (c .before)) (λ c. search needs) (λ c κs. search needs)
     (λ c. long (c .before)) (λ c. long (c .before)) (λ c. search needs) (λ c κs. search needs)
-    (λ c κs. search needs)
+    (λ c κs. let s = start (c .before) in (s .pre .0, s .pre .1, c .match .keys4))
     (λ c. long (c .before)) (λ c. long (c .before)) (λ c. search needs) (λ c κs. search needs)
     returns returns-2 returns-3 returns-4 returns-5 returns-6)
