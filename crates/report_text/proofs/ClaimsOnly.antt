@@ -52,7 +52,7 @@ image-13 k n (l ∷ ls) = (refl, image-13 (suc k) (n + length (bytesOf l)) ls)
 
 module _ (ls : List (List ℕ)) where
   -- good lines hold no more than an image may have
-  few : (a : ℕ) → judge {A = ℕ} (refusalsIn ls) 0 ≡ accepted a → length (bytesInLines (others ls)) ≤ 16384
+  pub few : (a : ℕ) → judge {A = ℕ} (refusalsIn ls) 0 ≡ accepted a → length (bytesInLines (others ls)) ≤ 16384
   few a e =
       let c : Input = counts 0 0 in
       let z : judge {A = ℕ} (refusalsIn ls) 0 ≡ accepted 0 = e ∙ ap accepted (sym (accepts (refusalsIn ls) 0 a e)) in

@@ -22,6 +22,7 @@ pub mod ReportFed
 pub mod ReportLengths
 pub mod ReportedApart
 pub mod Runs
+pub mod ShortLines
 pub mod Starts
 pub mod Terms
 pub mod Writes

@@ -3,9 +3,9 @@
 use Prim.Native.Nat.{ℕ, _+_, _≤_}
 use native.Mathlib.Omega.{arith}
 use mathlib.Core.Bool.{Bool, true, false, cond}
-use mathlib.Core.List.{List, [], _∷_, _++_}
+use mathlib.Core.List.{List, [], _++_}
 use mathlib.Core.Logic.{_⊎_, inl, inr}
-use mathlib.Core.Path.{_≡_, refl, sym, ap, _∙_}
+use mathlib.Core.Path.{_≡_, refl, ap, _∙_}
 use lib.Dec.{eqb}
 use lib.ListN.{length, length-append}
 use Rattle.instruction.specs.Answer.{Answer, accepted, refused}
@@ -17,8 +17,8 @@ use Rattle.report_text.specs.ClaimsTerm.{PrintedFits}
 use Rattle.report_text.specs.Name.{nameOf}
 use Rattle.report_text.specs.Image.{imageAnswer}
 use Rattle.report_text.specs.Sums.{adding, allFit, fitting}
-use Rattle.report_text.specs.Report.{imageLine, totalLine}
-use Rattle.report_text.specs.Term.{State, state, mostPrinted, heldIn, textIn, imageOut, imageTerm, completes, stepOut, lastOut, closeOut}
+use Rattle.report_text.specs.Report.{totalLine}
+use Rattle.report_text.specs.Term.{mostPrinted, heldIn, textIn, imageOut, imageTerm, completes, lastOut, closeOut}
 use Rattle.report_text.specs.declared.figures.Figures.{Figures}
 use Rattle.report_text.specs.declared.sums.Sums.{Sums}
 use Rattle.report_text.specs.declared.term.Term.{Term}
@@ -27,7 +27,7 @@ use Rattle.report_text.proofs.Finishes.{out-on, out-over}
 use Rattle.report_text.proofs.Lines.{ToldFits, figures-told, image-length, total-length}
 use Rattle.report_text.proofs.Names.{name-most}
 
-short : length (numberLine 22) ≡ 5
+pub short : length (numberLine 22) ≡ 5
 unfolding numberLine lowest width
 short = refl
 
@@ -42,7 +42,7 @@ module _ (s : Sums) (i : List (List ℕ)) where
       by (inr p) = rw p refl
 
   -- an image's line, or 22; and what may follow it at the end
-  pub image-out : (length (imageOut s i) ≤ 159) × (length (lastOut (imageTerm s i)) ≤ 170)
+  image-out : (length (imageOut s i) ≤ 159) × (length (lastOut (imageTerm s i)) ≤ 170)
   image-out = by (fitting (adding s (imageAnswer i))) refl
     where
       by : (x : Bool) → fitting (adding s (imageAnswer i)) ≡ x → (length (imageOut s i) ≤ 159) × (length (lastOut (imageTerm s i)) ≤ 170)

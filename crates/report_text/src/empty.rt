@@ -6,7 +6,7 @@ ghost use lib.ListN.{length};
 ghost use Rattle.report_text.specs.Empty.{endsEmpty, emptyLines, isQuiet};
 use text::cut;
 
-// As many bytes are looked at at a time: so few that a byte counts their empty lines, and three times 64 that have one before them.
+// As many bytes are looked at at a time: so few that a byte counts their empty lines, and those after the first are a multiple of 64.
 pub const PART: usize = 193;
 
 fn ends_empty(before: u8, b: u8) -> bool

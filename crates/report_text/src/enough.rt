@@ -9,9 +9,10 @@ use crate::empty;
 // A report that is longer is not written: an answer holds no number over it.
 pub const HIGHEST: usize = 0x7FFF_FFFF_FFFF_FFFF;
 
-// The bytes that the line of an image has at most, and the last line.
-const MOST: usize = 159;
+// The bytes that the line of an image has at most: a name of 32, six figures of 5 with a tab each, and byte 10.
+const MOST: usize = 69;
 
+// And the last line: eight numbers of 20.
 const MOST_LAST: usize = 170;
 
 // There is at most one image more than there are empty lines.

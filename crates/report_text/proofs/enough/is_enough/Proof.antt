@@ -19,7 +19,7 @@ returns-2 c = λ e. absurd (never (sym e))
 returns-3 : tie.Need-returns-3
 returns-3 c = λ e.
     let s = c .before .before .before .before in
-    let l = leb-true (c .empty-lines .result) ((s .args .room - 159 - 170) / 159) e in
+    let l = leb-true (c .empty-lines .result) ((s .args .room - 69 - 170) / 69) e in
     omega (arith, l, report-most (s .args .text .now), c .empty-lines .ensures, c .before .if2 .left, c .before .before .if1 .left)
 
 pub is-enough-spec : {M : Type 1} → statement M
