@@ -1,7 +1,7 @@
 -- The whole report of a term's text. Document 02, W14: a line for each image, tab-parted, and a last line `T` with the sums; 22, printed alone
 -- and ending the report, if a sum would not fit.
 -- Assumes nothing.
-use Prim.Native.Nat.{ℕ, suc, min, _≤_}
+use Prim.Native.Nat.{ℕ, suc, min, _≤_, _<_}
 use Prim.Native.Char.{code}
 use mathlib.Core.Bool.{cond}
 use mathlib.Core.List.{List, [], _∷_, _++_}
@@ -76,3 +76,8 @@ writtenIn (NoRoom n) = 0
 pub record Filling (text room room′ : List ℕ) (r : ℕ) : Type 0 where
   pub counted : r ≡ min (length (reportOf text)) (suc highest)
   pub wrote : length (reportOf text) ≤ highest → room′ ≡ sets room 0 (reportOf text)
+
+-- of an inner function: how long the report is, or less where it surely fits
+pub record Measured (text : List ℕ) (room r : ℕ) : Type 0 where
+  pub enough : r ≤ min room highest → length (reportOf text) ≤ min room highest
+  pub exact : min room highest < r → r ≡ min (length (reportOf text)) (suc highest)

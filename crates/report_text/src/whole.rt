@@ -4,7 +4,7 @@ ghost use Prim.Native.Nat.{min, _+_, _≤_};
 ghost use lib.ListN.{length, replicate};
 ghost use lib.Seq.{sets};
 ghost use Rattle.views.specs.View.{viewedOf};
-ghost use Rattle.report_text.specs.Report.{reportAnswer, reportRoom, writtenIn, Filling};
+ghost use Rattle.report_text.specs.Report.{reportAnswer, reportRoom, writtenIn, Filling, Measured};
 ghost use Rattle.report_text.specs.Term.{state, most, mostPrinted, closeOut, firstOut, Writing};
 use crate::copy;
 use crate::enough;
@@ -123,16 +123,23 @@ fn fill(text: &[u8], room: &mut [u8]) -> usize
     write_all(text, &mut held, &mut line, room)
 }
 
-// The whole report of a text: how many bytes were written, or 11 with how many are needed. A refusal writes nothing, so it is counted first,
-// unless the room is long enough for any.
+// How long the report is; 0 where the room is long enough for any: then nothing is to be counted.
+fn needed(text: &[u8], room: usize) -> usize
+    ensures { λ r. ⌜ Measured (now (text .entry)) room r ⌝ }
+{
+    if enough::is_enough(text, room) {
+        return 0;
+    }
+    let mut none = [0u8; 1];
+    fill(text, &mut none)
+}
+
+// The whole report of a text: how many bytes were written, or 11 with how many are needed. A refusal writes nothing.
 pub fn report_text(text: &[u8], room: &mut [u8]) -> Viewed
     ensures { λ r. ⌜ viewedOf r ≡ reportAnswer (now (text .entry)) (now (room .entry)) ⌝ }
     ensures { λ _. ⌜ now (room .exit) ≡ reportRoom (now (text .entry)) (now (room .entry)) ⌝ }
 {
-    if enough::is_enough(text, room.len()) {
-        return Viewed::Written(fill(text, room));
-    }
-    let n = fill(text, &mut room[..0]);
+    let n = needed(text, room.len());
     if HIGHEST < n {
         return Viewed::NoRoom(HIGHEST);
     }
