@@ -7,7 +7,7 @@ use native.Mathlib.Omega.{arith}
 use Rattle.map.specs.Packed.{withCode, covered}
 
 -- what is left to cover from q on, before e
-pub Covers : List ℕ → ℕ → ℕ → List ℕ → Type 0
+unfoldable pub Covers : List ℕ → ℕ → ℕ → List ℕ → Type 0
 Covers ws e q t = covered ws (e - q) q ≡ t
 
 module _ (ws : List ℕ) where
@@ -16,13 +16,6 @@ module _ (ws : List ℕ) where
   covers-start p k = ap (λ (i : ℕ). covered ws i p) (let e : p + k - p ≡ k = omega arith in e)
 
   module _ (e q : ℕ) (t : List ℕ) where
-    pub covers-next : q < e → Covers ws e q t → Covers (withCode ws q) e (q + 1) t
-    unfolding Covers covered
-    covers-next h c =
-        ap (covered (withCode ws q) (e - (q + 1))) (let g : q + 1 ≡ suc q = omega arith in g)
-        ∙ sym (ap (λ (i : ℕ). covered ws i q) (let g : e - q ≡ suc (e - (q + 1)) = omega arith in g))
-        ∙ c
-
     pub covers-end : e ≤ q → Covers ws e q t → ws ≡ t
     unfolding Covers covered
     covers-end h c = sym (ap (λ (i : ℕ). covered ws i q) (let g : e - q ≡ 0 = omega arith in g)) ∙ c

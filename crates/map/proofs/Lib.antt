@@ -7,6 +7,7 @@ pub mod Finding
 pub mod Asking
 pub mod Packing
 pub mod Covering
+pub mod InOneWord
 pub mod Sounding
 pub mod Marking
 pub mod Updating

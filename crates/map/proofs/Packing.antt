@@ -25,7 +25,7 @@ or-and : (a b : Bool) → ((a && b) || false) ≡ (a && (b || false))
 or-and true b = refl
 or-and false b = refl
 
-or-assoc : (a b c : Bool) → ((a || b) || c) ≡ (a || (b || c))
+pub or-assoc : (a b c : Bool) → ((a || b) || c) ≡ (a || (b || c))
 or-assoc true b c = refl
 or-assoc false b c = refl
 

@@ -22,7 +22,18 @@ pub fn clear(words: &mut [u64], need: usize)
     }
 }
 
-// The bits of the positions from p on, so many, set.
+// How many of n bits, from this one on, stand in its word.
+fn in_word(from: u32, n: u32) -> u32
+    requires { ⌜ from < 64 ⌝ }
+    ensures { λ r. ⌜ (r ≤ n) × (from + r ≤ 64) × (0 < n → 0 < r) ⌝ }
+{
+    if 64 - from < n {
+        return 64 - from;
+    }
+    n
+}
+
+// The bits of the positions from p on, so many, set: those of one word at once.
 pub fn cover(words: &mut [u64], p: u32, size: u32)
     requires { ⌜ (p + size ≤ 64 * length (now words)) × (p + size ≤ 65536) ⌝ }
     ensures { λ _. ⌜ now (words .exit) ≡ covered (now (words .entry)) size p ⌝ }
@@ -31,8 +42,10 @@ pub fn cover(words: &mut [u64], p: u32, size: u32)
     let mut q = p;
     while q < end {
         let j = (q / 64) as usize;
-        words[j] = bits::with_ones(words[j], q % 64, q % 64 + 1);
-        q += 1;
+        let from = q % 64;
+        let n = in_word(from, end - q);
+        words[j] = bits::with_ones(words[j], from, from + n);
+        q += n;
     }
 }
 

@@ -1,13 +1,13 @@
 -- `cover::cover` meets its contract: what is covered and what is left to cover make the whole.
 -- Assumes nothing.
-use mathlib.Core.Path.{_≡_, refl, sym, ap, subst, _∙_}
-use mathlib.Core.List.{List}
-use Prim.Native.Nat.{ℕ, _+_, _*_, _/_, _-_, _<_, _≤_}
+use mathlib.Core.Path.{_≡_, refl, _∙_}
+use Prim.Native.Nat.{_+_, _*_, _/_, _-_, _<_, _≤_}
 use native.Mathlib.Omega.{arith}
 use borrow.Author.Needs.{needs}
-use lib.ListN.{length, set, length-set}
-use Rattle.map.specs.Packed.{withCode, covered}
-use Rattle.map.proofs.Covering.{Covers, covers-start, covers-next, covers-end}
+use lib.ListN.{length, length-set}
+use Rattle.map.specs.Packed.{covered}
+use Rattle.map.proofs.Covering.{Covers, covers-start, covers-end}
+use Rattle.map.proofs.InOneWord.{covers-word}
 use Rattle.map.proofs.cover.cover.Statement.{statement}
 use Rattle.map.proofs.cover.cover.Tie as tie
 
@@ -27,17 +27,30 @@ within c =
     let k : c .before .loop .q < s .args .p + s .args .size = c .loop-test .taken in
     omega (arith, c .before .loop .inv .1)
 
+-- some are set, and no more than are left
+some : (w : tie.After-in-word Inv-loop μ-loop) → 0 < w .in-word .result
+some w =
+    let i = w .before in
+    let s = i .before .before .before in
+    w .in-word .ensures .2 (let h : i .before .loop .q < s .args .p + s .args .size = i .loop-test .taken in omega arith)
+
+few : (w : tie.After-in-word Inv-loop μ-loop) → let s = w .before .before .before .before in w .before .before .loop .q + w .in-word .result ≤ s .args .p + s .args .size
+few w =
+    let i = w .before in
+    let s = i .before .before .before in
+    let h : i .before .loop .q < s .args .p + s .args .size = i .loop-test .taken in
+    omega (arith, h, w .in-word .ensures .0)
+
 loop-again : tie.Need-loop-again Inv-loop μ-loop
-unfolding withCode
 loop-again c =
-    let i = c .before .before in
+    let w = c .before .before in
+    let i = w .before in
     let l = i .before .loop in
     let a = i .before .before .before .args in (
-      (let h = i .loop-test .taken in omega arith),
+      few w,
       length-set (l .words) (l .q / 64) _ ∙ l .inv .1,
-      subst (λ (v : List ℕ). Covers v (a .p + a .size) (l .q + 1) (covered (a .words .now) (a .size) (a .p)))
-          (ap (set (l .words) (l .q / 64)) (sym (c .with-ones .ensures)))
-          (covers-next (l .words) (a .p + a .size) (l .q) (covered (a .words .now) (a .size) (a .p)) (i .loop-test .taken) (l .inv .2)),
+      covers-word (l .words) (a .p + a .size) (l .q) (covered (a .words .now) (a .size) (a .p)) (w .in-word .result) (some w) (few w) (w .in-word .ensures .1) (within i)
+          (c .with-ones .result) (c .with-ones .ensures) (l .inv .2),
     )
 
 returns : tie.Need-returns Inv-loop μ-loop
@@ -53,14 +66,16 @@ cover-spec =
     (λ c. search needs)
     loop-holds
     (λ c. search needs)
-    (λ c. search needs)
-    (λ c. within (c .before))
-    (λ c. search needs)
-    (λ c κs. search needs)
+    (λ c. let h = c .loop-test .taken in omega (arith, h))
+    (λ c κs. omega arith)
     (λ c. search needs)
     (λ c. within (c .before .before))
+    (λ c. record { fits = omega (arith, c .before .in-word .ensures .1) })
+    (λ c κs. search needs)
     (λ c. search needs)
-    (λ c. omega arith)
+    (λ c. within (c .before .before .before))
+    (λ c. let w = c .before .before in record { fits = omega (arith, few w, w .before .before .before .before .pre .1) })
+    (λ c. let w = c .before .before in omega (arith, some w, few w))
     loop-again
     (λ c. c .before .loop .inv .1)
     returns)

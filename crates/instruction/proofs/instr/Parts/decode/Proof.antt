@@ -47,6 +47,9 @@ returns c =
 few : (c : tie.After-size-by) → c .size-by .result < 4
 few c = omega (arith, c .size-by .ensures, short (getD (bytes c) 0 0) (byte c))
 
+sub-new : tie.Need-sub-new
+sub-new c = omega (arith, few (c .before), c .if2 .taken)
+
 cast-new : tie.Need-cast-new
 cast-new c = record { fits = omega (arith, few (c .before), c .if2 .taken) }
 
@@ -82,5 +85,5 @@ returns-3 c =
 pub decode-spec : {M : Type 1} → statement M
 decode-spec =
     tie.close
-    (tie.spec returns (λ c. search needs) (λ c κs. search needs) (λ c. search needs) (λ c. search needs) cast-new (λ c κs. search needs) returns-2
+    (tie.spec returns (λ c. search needs) (λ c κs. search needs) (λ c. search needs) sub-new cast-new (λ c κs. search needs) returns-2
     (λ c κs. search needs) (λ c κs. search needs) (λ c κs. search needs) (λ c κs. search needs) returns-3)
