@@ -80,12 +80,12 @@
  *
  * Stack: pw_listing, pw_list_text, pw_report_text, pw_read_back and
  * pw_unlist_text hold tables for the longest image on the stack, however short
- * the image. A thread that calls pw_list_text or pw_unlist_text needs a stack
- * of 384 KiB, one that calls pw_listing, with arrivals or without, 320 KiB, one
- * that calls pw_read_back or pw_report_text 256 KiB. pw_replay and
- * pw_replay_block hold a table of the entries, and need 16 KiB. With too small
- * a stack the program is ended by a fault, and there is no refusal. All other
- * calls need less than 1 KiB. No call allocates memory.
+ * the image. A thread that calls pw_listing with arrivals needs a stack of 320
+ * KiB, one that calls pw_unlist_text 256 KiB, pw_list_text or pw_report_text
+ * 200 KiB, pw_read_back 96 KiB, and pw_listing without arrivals 80 KiB.
+ * pw_replay and pw_replay_block hold a table of the entries, and need 16 KiB.
+ * With too small a stack the program is ended by a fault, and there is no
+ * refusal. All other calls need less than 1 KiB. No call allocates memory.
  *
  * Rooms: where a call refuses with 11 its rooms stay as they were, and
  * answer[0] is how much is needed. So a room of 0 asks how much that is; where

@@ -16,7 +16,7 @@ static const struct {
     {"pw_read_back", 96 * 1024},
     {"pw_list_text", 200 * 1024},
     {"pw_report_text", 200 * 1024},
-    {"pw_unlist_text", 200 * 1024},
+    {"pw_unlist_text", 208 * 1024},
     {"pw_replay", 10 * 1024},
     {"pw_replay_block", 10 * 1024},
 };
