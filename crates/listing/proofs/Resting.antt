@@ -58,17 +58,20 @@ module _ (mode : Mode) (p : ℕ) (s : List ℕ) where
     sized : sizeOf (formAt (v .form)) ≡ sizeOf (formIn i)
     sized = ap (λ (u : Parts). sizeOf (formAt (u .form))) (sym (is .apart))
 
+    abbrev by-size : Bool → List ℕ
+    by-size t = cond t (cond (ltb 65536 (nextOf p i)) [] (instrRest mode p i)) []
+
     found : restBy mode p (length s) (accepted i) ≡ codeRest mode p s
     unfolding codeRest
     found = ap (restBy mode p (length s)) (found-whole s v e .whole)
 
     module _ (n : ℕ) (z : n ≡ sizeOf (formAt (v .form))) where
       pub rest-other : (n ≡ length s → ⊥) → [] ≡ codeRest mode p s
-      rest-other g = sym (ap (λ (t : Bool). cond t (cond (ltb 65536 (nextOf p i)) [] (instrRest mode p i)) []) (ne-eqb (sizeOf (formIn i)) (length s) (λ h. g (z ∙ sized ∙ h)))) ∙ found
+      rest-other g = sym (ap by-size (ne-eqb (sizeOf (formIn i)) (length s) (λ h. g (z ∙ sized ∙ h)))) ∙ found
 
       module _ (f : n ≡ length s) where
         same-size : cond (ltb 65536 (nextOf p i)) [] (instrRest mode p i) ≡ codeRest mode p s
-        same-size = sym (ap (λ (t : Bool). cond t (cond (ltb 65536 (nextOf p i)) [] (instrRest mode p i)) []) (eq-eqb (sizeOf (formIn i)) (length s) (sym sized ∙ sym z ∙ f))) ∙ found
+        same-size = sym (ap by-size (eq-eqb (sizeOf (formIn i)) (length s) (sym sized ∙ sym z ∙ f))) ∙ found
 
         ends : nextOf p i ≡ p + n
         ends = ap (λ (k : ℕ). p + k) (sym (z ∙ sized))
@@ -101,7 +104,8 @@ module _ (s : List ℕ) (b : Small s) where
   pub by-decode : (mode : Mode) (p : ℕ) → lineBy mode p s (decodeAnswer s) ≡ codeLine mode p s
   by-decode mode p = either mode p s b (λ f. ap (lineBy mode p s) (sym (nothing s f)) ∙ outside mode p s b f) by
     where
-      by : (h : 0 < length s) (t : Bool) → fitsHere s 0 ≡ t → lineBy mode p s (decodeAnswer s) ≡ codeBy mode p s (cond t (Whole (instrHere s 0)) (Cut (cutAt s 0)))
+      by : (h : 0 < length s) (t : Bool) → fitsHere s 0 ≡ t
+          → lineBy mode p s (decodeAnswer s) ≡ codeBy mode p s (cond t (Whole (instrHere s 0)) (Cut (cutAt s 0)))
       by h true f = ap (lineBy mode p s) (answer s 0 h true f)
       by h false f = ap (lineBy mode p s) (answer s 0 h false f)
 

@@ -124,7 +124,8 @@ up-to-digits [] h (y ∷ r) v e = rw (eq-eqb y 9 (ap (λ (l : List ℕ). getD l 
 up-to-digits (x ∷ xs) h [] v e = absurd (never (sym (first-part (isDigit x) (allHex xs) h) ∙ ap isDigit (sym (ap (λ (l : List ℕ). getD l 0 0) e))))
 up-to-digits (x ∷ xs) h (y ∷ r) v e =
     let z : y ≡ x = ap (λ (l : List ℕ). getD l 0 0) e in
-    rw (z, no-tab x (first-part (isDigit x) (allHex xs) h)) (ap (λ (l : List ℕ). x ∷ l) (up-to-digits xs (second-part (isDigit x) (allHex xs) h) r v (ap (drop 1) e)))
+    rw (z, no-tab x (first-part (isDigit x) (allHex xs) h))
+    (ap (λ (l : List ℕ). x ∷ l) (up-to-digits xs (second-part (isDigit x) (allHex xs) h) r v (ap (drop 1) e)))
 
 -- digits, two for each byte
 abbrev pub Digits : List ℕ → Type 0
@@ -173,7 +174,8 @@ split (b ∷ t) = by (split t) (eqb b 9)
     by e false = ap (λ (l : List ℕ). b ∷ l) e
 
 -- what follows the digits decides
-pub by-rest : (mode : Mode) (line : List ℕ) (p : ℕ) → isStartAt line ≡ true → p ≡ positionAt line → letterOn line ≡ code "I" → 7 ≤ length line → getD line 6 0 ≡ 9 → Digits line
+pub by-rest : (mode : Mode) (line : List ℕ) (p : ℕ) → isStartAt line ≡ true → p ≡ positionAt line → letterOn line ≡ code "I" → 7 ≤ length line
+    → getD line 6 0 ≡ 9 → Digits line
     → same (drop (7 + length (digitsAt line)) line ++ 10 ∷ []) (codeRest mode p (bytesAt line)) ≡ isCode mode p (bytesAt line) line
 unfolding isCode isStartAt fourOf
 by-rest mode (c0 ∷ t ∷ a ∷ b ∷ c ∷ e ∷ x ∷ r) p s q i h y d =
@@ -182,7 +184,8 @@ by-rest mode (c0 ∷ t ∷ a ∷ b ∷ c ∷ e ∷ x ∷ r) p s q i h y d =
     let z : c0 ∷ t ∷ a ∷ b ∷ c ∷ e ∷ x ∷ r ++ 10 ∷ [] ≡ 73 ∷ 9 ∷ a ∷ b ∷ c ∷ e ∷ 9 ∷ upTo 9 r ++ (u ++ 10 ∷ [])
     = rw (i, eqb-true t 9 (first-part (eqb t 9) (allHex (a ∷ b ∷ c ∷ e ∷ [])) f), y)
     (ap (λ (l : List ℕ). 73 ∷ 9 ∷ a ∷ b ∷ c ∷ e ∷ 9 ∷ l) (ap (λ (l : List ℕ). l ++ 10 ∷ []) (sym (split r)) ∙ append-assoc (upTo 9 r) u (10 ∷ []))) in
-    ap₂ (λ (l : List ℕ) (k : ℕ). same (l ++ 10 ∷ []) (codeRest mode k (bytesOf (upTo 9 r)))) (sym (drop-drop (length (upTo 9 r)) 7 (c0 ∷ t ∷ a ∷ b ∷ c ∷ e ∷ x ∷ r))) q
+    ap₂ (λ (l : List ℕ) (k : ℕ). same (l ++ 10 ∷ []) (codeRest mode k (bytesOf (upTo 9 r))))
+    (sym (drop-drop (length (upTo 9 r)) 7 (c0 ∷ t ∷ a ∷ b ∷ c ∷ e ∷ x ∷ r))) q
     ∙ sym (rest-decides mode a b c e (upTo 9 r) u (length (upTo 9 r) / 2) (second-part (eqb t 9) (allHex (a ∷ b ∷ c ∷ e ∷ [])) f) (sym (d .1)) (d .0))
     ∙ ap₂ (λ (l : List ℕ) (k : ℕ). same l (codeLine mode k (bytesOf (upTo 9 r)))) (sym z) (sym q)
 by-rest mode [] p s q i h y d = absurd (omega arith)

@@ -52,13 +52,15 @@ module _ (mode : Mode) (n : ℕ) (place : Place) (cells marks l : List ℕ) (ls 
   unfolding lineRefusals turnAnswer judge
   step = by (isGood mode place l && agrees) (reach n (positionOn l) (listedOn l))
     where
-      by : (b c : Bool) → judge (refuse (not b) 15 (pos (place .line) ∷ []) ∷ refuse c 16 (pos (place .line) ∷ []) ∷ lineRefusals mode n (placeAfter place (length l) (recordOf l)) (sheetWith (sheet cells marks) l) ls) x ≡ onto (judge (refuse (not b) 15 (pos (place .line) ∷ []) ∷ refuse c 16 (pos (place .line) ∷ []) ∷ []) (placeAfter place (length l) (recordOf l))) (λ (p : Place). judge (lineRefusals mode n p (sheetWith (sheet cells marks) l) ls) x)
+      by : (b c : Bool)
+          → judge (refuse (not b) 15 (pos (place .line) ∷ []) ∷ refuse c 16 (pos (place .line) ∷ []) ∷ lineRefusals mode n (placeAfter place (length l) (recordOf l)) (sheetWith (sheet cells marks) l) ls) x ≡ onto (judge (refuse (not b) 15 (pos (place .line) ∷ []) ∷ refuse c 16 (pos (place .line) ∷ []) ∷ []) (placeAfter place (length l) (recordOf l))) (λ (p : Place). judge (lineRefusals mode n p (sheetWith (sheet cells marks) l) ls) x)
       by true true = refl
       by true false = refl
       by false c = refl
 
 -- whether a bad line contradicts an earlier one does not matter
-turn-same : (mode : Mode) (place : Place) (x y : Bool) (n : ℕ) (l : List ℕ) → (isGood mode place l ≡ true → x ≡ y) → turnAnswer mode place x n l ≡ turnAnswer mode place y n l
+turn-same : (mode : Mode) (place : Place) (x y : Bool) (n : ℕ) (l : List ℕ) → (isGood mode place l ≡ true → x ≡ y)
+    → turnAnswer mode place x n l ≡ turnAnswer mode place y n l
 unfolding turnAnswer
 turn-same mode place x y n l e = by (isGood mode place l) refl
   where
@@ -91,13 +93,15 @@ module _ (mode : Mode) (text : List ℕ) (n : ℕ) where
     pub kept : Kept place cells image end
     pub long : length image ≡ n
     pub wide : length table ≡ 1024
-    pub answer : (x : ℕ) → judge (lineRefusals mode n start (emptySheet n) (lines text)) x ≡ judge (lineRefusals mode n place (sheet cells (marksIn table n)) (lines (drop (place .at) text))) x
+    pub answer : (x : ℕ)
+        → judge (lineRefusals mode n start (emptySheet n) (lines text)) x ≡ judge (lineRefusals mode n place (sheet cells (marksIn table n)) (lines (drop (place .at) text))) x
     pub rest : sheetOf text n ≡ sheetAfter (sheet cells (marksIn table n)) (lines (drop (place .at) text))
     pub count : place .line + length (lines (drop (place .at) text)) ≡ 1 + length (lines text)
     pub number : place .line ≤ place .at + 1
     pub inside : place .at ≤ length text + 1
 
-  pub going-start : (p : Place) → p ≡ start → (image table : List ℕ) → image ≡ replicate n 0 → table ≡ replicate 1024 0xFFFFFFFFFFFFFFFF → n ≤ 65536 → Going p image table 0
+  pub going-start : (p : Place) → p ≡ start → (image table : List ℕ) → image ≡ replicate n 0 → table ≡ replicate 1024 0xFFFFFFFFFFFFFFFF → n ≤ 65536
+      → Going p image table 0
   going-start p e image table f g h =
       let m : marksIn table n ≡ replicate n 0 = ap (λ (t : List ℕ). marksIn t n) g ∙ marks-none n h in
       let s : sheet (replicate n 0) (marksIn table n) ≡ emptySheet n = ap (sheet (replicate n 0)) m in
@@ -118,7 +122,8 @@ module _ (mode : Mode) (text : List ℕ) (n : ℕ) where
     before = sheet (g .cells) (marksIn table n)
 
     -- the answer, by what the rest of the lines is
-    so-far : (ls : List (List ℕ)) → lines (drop (place .at) text) ≡ ls → (x : ℕ) → judge (lineRefusals mode n start (emptySheet n) (lines text)) x ≡ judge (lineRefusals mode n place before ls) x
+    so-far : (ls : List (List ℕ)) → lines (drop (place .at) text) ≡ ls → (x : ℕ)
+        → judge (lineRefusals mode n start (emptySheet n) (lines text)) x ≡ judge (lineRefusals mode n place before ls) x
     so-far ls e x = g .answer x ∙ ap (λ (m : List (List ℕ)). judge (lineRefusals mode n place before m) x) e
 
     pub going-some : length text ≤ place .at → 1 ≤ place .line
@@ -156,7 +161,8 @@ module _ (mode : Mode) (text : List ℕ) (n : ℕ) where
             ∙ turn-same mode place _ _ n line (λ o. agrees-is (g .kept) (positionOn line) (listedOn line) (from (g .kept) mode line o))
 
         -- the answer, by this line's
-        then : (x : ℕ) → judge (lineRefusals mode n start (emptySheet n) (lines text)) x ≡ onto (turnedOf place r) (λ (p : Place). judge (lineRefusals mode n p (sheetWith before line) (lines (drop (suc (place .at + length line)) text))) x)
+        then : (x : ℕ)
+            → judge (lineRefusals mode n start (emptySheet n) (lines text)) x ≡ onto (turnedOf place r) (λ (p : Place). judge (lineRefusals mode n p (sheetWith before line) (lines (drop (suc (place .at + length line)) text))) x)
         then x =
             let ls : List (List ℕ) = lines (drop (suc (place .at + length line)) text) in
             so-far (line ∷ ls) next-lines x

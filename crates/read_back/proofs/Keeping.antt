@@ -55,9 +55,11 @@ sets-some (b ∷ bs) l p i h = sets-some bs (set l p (suc b)) (suc p) i (set-som
 
 sets-new : (bs l : List ℕ) (p i : ℕ) → p ≤ i → i < p + length bs → i < length l → 1 ≤ getD (sets l p (map suc bs)) i 0
 sets-new [] l p i h k m = absurd (omega arith)
-sets-new (b ∷ bs) l p i h k m = by (eqb i p) refl (λ n. sets-new bs (set l p (suc b)) (suc p) i n (omega arith) (omega (arith, m, length-sets l p (suc b ∷ []))))
+sets-new (b ∷ bs) l p i h k m =
+    by (eqb i p) refl (λ n. sets-new bs (set l p (suc b)) (suc p) i n (omega arith) (omega (arith, m, length-sets l p (suc b ∷ []))))
   where
-    by : (t : Bool) → eqb i p ≡ t → (suc p ≤ i → 1 ≤ getD (sets (set l p (suc b)) (suc p) (map suc bs)) i 0) → 1 ≤ getD (sets (set l p (suc b)) (suc p) (map suc bs)) i 0
+    by : (t : Bool) → eqb i p ≡ t → (suc p ≤ i → 1 ≤ getD (sets (set l p (suc b)) (suc p) (map suc bs)) i 0)
+        → 1 ≤ getD (sets (set l p (suc b)) (suc p) (map suc bs)) i 0
     by true e rest =
         let d : i ≡ p = eqb-true i p e in
         sets-some bs (set l p (suc b)) (suc p) i (omega (arith, ap (λ (j : ℕ). getD (set l p (suc b)) j 0) d, getD-set-same l p (suc b) 0 (omega arith)))
@@ -173,10 +175,13 @@ module _ {place : Place} {cells image : List ℕ} {end : ℕ} (k : Kept place ce
     -- it has a letter of lines
     ranked : rankOf (letterOn l) ≡ 0 → ⊥
     unfolding isLine
-    ranked z = by (eqb (letterOn l) (code "L")) (eqb (letterOn l) (code "O")) (eqb (letterOn l) (code "A")) (eqb (letterOn l) (code "I")) (eqb (letterOn l) (code "D")) _ _ _ _ _ z
+    ranked z =
+        by (eqb (letterOn l) (code "L")) (eqb (letterOn l) (code "O")) (eqb (letterOn l) (code "A")) (eqb (letterOn l) (code "I"))
+        (eqb (letterOn l) (code "D")) _ _ _ _ _ z
         (second-part (isStart l) (byLetter mode (letterOn l) l) (first-part (isLine mode l) (follows place (recordOf l)) g))
       where
-        by : (a b c d e : Bool) (u v w x y : Bool) → _≡_ {A = ℕ} (cond a 1 (cond b 2 (cond c 3 (cond d 4 (cond e 5 0))))) 0 → cond a u (cond b v (cond c w (cond d x (cond e y false)))) ≡ true → ⊥
+        by : (a b c d e : Bool) (u v w x y : Bool) → _≡_ {A = ℕ} (cond a 1 (cond b 2 (cond c 3 (cond d 4 (cond e 5 0))))) 0
+            → cond a u (cond b v (cond c w (cond d x (cond e y false)))) ≡ true → ⊥
         by true b c d e u v w x y z q = omega arith
         by false true c d e u v w x y z q = omega arith
         by false false true d e u v w x y z q = omega arith
@@ -196,7 +201,9 @@ module _ {place : Place} {cells image : List ℕ} {end : ℕ} (k : Kept place ce
         record {
           is = q ∙ ap (λ (x : List ℕ). sets x p bs) (k .is) ∙ sym (bytes-sets bs cells p);
           some = λ i h g. some-on i h (subst (λ (x : ℕ). i < x) f g) (ltb i (farOf p bs)) refl far long;
-          none = λ i h g. let t = later-is end (farOf p bs) i .0 (subst (λ (x : ℕ). x ≤ i) f g) in sets-past (map suc bs) cells p i (omega (arith, length-map bs suc, far-past p bs i h (t .1))) ∙ k .none i (omega (arith, from)) (t .0);
+          none = λ i h g.
+              let t = later-is end (farOf p bs) i .0 (subst (λ (x : ℕ). x ≤ i) f g) in
+              sets-past (map suc bs) cells p i (omega (arith, length-map bs suc, far-past p bs i h (t .1))) ∙ k .none i (omega (arith, from)) (t .0);
           inside = omega (arith, f, later-most end (farOf p bs) n (omega (arith, k .inside)) far, ap length q, length-sets image p bs);
           first = λ z. absurd (ranked z);
         }

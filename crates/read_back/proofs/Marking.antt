@@ -148,7 +148,8 @@ module _ (ws : List ℕ) (n : ℕ) (m : List ℕ) where
 
     pub marking-end : n ≤ i → n ≤ length m → marks ≡ wanted
     marking-end k h =
-        ext-getD 0 marks wanted (g .same ∙ omega (arith, length-append (marksIn ws n) (drop n m), marks-length ws n, length-drop n m)) (λ q l. by q (ltb q i) refl)
+        ext-getD 0 marks wanted (g .same ∙ omega (arith, length-append (marksIn ws n) (drop n m), marks-length ws n, length-drop n m))
+        (λ q l. by q (ltb q i) refl)
       where
         by : (q : ℕ) (t : Bool) → ltb q i ≡ t → getD marks q 0 ≡ getD wanted q 0
         by q true f = g .done q (ltb-true q i f)

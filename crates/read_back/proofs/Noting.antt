@@ -136,7 +136,8 @@ module _ (r : Record) (ws : List ℕ) where
       by false = refl
 
   -- as it is written
-  pub noted : r .letter ≡ code "I" → (x : ℕ) → getD ws (r .position / 64) 0 < 2 ^ 64 → x ≡ withOnes (2 ^ 64 - 1 - getD ws (r .position / 64) 0) (r .position % 64) (r .position % 64 + 1)
+  pub noted : r .letter ≡ code "I" → (x : ℕ) → getD ws (r .position / 64) 0 < 2 ^ 64
+      → x ≡ withOnes (2 ^ 64 - 1 - getD ws (r .position / 64) 0) (r .position % 64) (r .position % 64 + 1)
       → set ws (r .position / 64) (2 ^ 64 - 1 - x) ≡ notedBy r ws
   unfolding withNoted
   noted e x h f = rw (eq-eqb (r .letter) (code "I") e, f, zeros-by (getD ws (r .position / 64) 0) (r .position % 64) (r .position % 64 + 1) h)

@@ -88,7 +88,8 @@ module _ (mode : Mode) (text : List ℕ) (place : Place) (h : place .at < length
   unfolding judge answerBy
   untaken x e f = by (isGood mode place line) refl x (e ∙ here) f
     where
-      by : (b : Bool) → isGood mode place line ≡ b → (x : Read) → readOf x ≡ answerBy (isGood mode place line) → ((r : Record) (n : Place) → x ≡ Line r n → ⊥) → isGood mode place line ≡ false
+      by : (b : Bool) → isGood mode place line ≡ b → (x : Read) → readOf x ≡ answerBy (isGood mode place line)
+          → ((r : Record) (n : Place) → x ≡ Line r n → ⊥) → isGood mode place line ≡ false
       by true g (Line r n) q f = absurd (f r n refl)
       by true g End q f = let p : accepted ended ≡ answerBy true = q ∙ ap answerBy g in absurd (never (sym (ap isListed p)))
       by true g (read.Malformed k) q f = let p : refused 15 (pos k ∷ []) ≡ answerBy true = q ∙ ap answerBy g in absurd (never (sym (ap isListed p)))
@@ -128,12 +129,14 @@ module _ (mode : Mode) (place : Place) (end : ℕ) (image table l : List ℕ) wh
   unfoldable answer : Bool → Bool → Answer Place
   answer b c = judge (refuse (not b) 15 (pos (place .line) ∷ []) ∷ refuse c 16 (pos (place .line) ∷ []) ∷ []) (placeAfter place (length l) (recordOf l))
 
-  answered : (b c : Bool) → isGood mode place l && agrees ≡ b → reach (length image) (positionOn l) (listedOn l) ≡ c → answer b c ≡ turnAnswer mode place agrees (length image) l
+  answered : (b c : Bool) → isGood mode place l && agrees ≡ b → reach (length image) (positionOn l) (listedOn l) ≡ c
+      → answer b c ≡ turnAnswer mode place agrees (length image) l
   unfolding turnAnswer answer
   answered b c f g = rw (f, g)
 
   -- a bad line leaves nothing
-  stopped : (r : Turn) → isOn r ≡ false → turnedOf place r ≡ turnAnswer mode place agrees (length image) l → (new told : List ℕ) → Turned mode place end image table l r new told
+  stopped : (r : Turn) → isOn r ≡ false → turnedOf place r ≡ turnAnswer mode place agrees (length image) l → (new told : List ℕ)
+      → Turned mode place end image table l r new told
   stopped r n e new told = record { answer = e; leaves = λ next k f. absurd (never (sym (ap isOn f) ∙ n)) }
 
   pub left-bad : isGood mode place l && agrees ≡ false → (new told : List ℕ) → Turned mode place end image table l Malformed new told
@@ -146,7 +149,8 @@ module _ (mode : Mode) (place : Place) (end : ℕ) (image table l : List ℕ) wh
     left-past g = stopped PastEnd refl (answered true true f g)
 
     pub left-on : reach (length image) (positionOn l) (listedOn l) ≡ false → (n : Place) → n ≡ placeAfter place (length l) (recordOf l)
-        → (new told : List ℕ) (e : ℕ) → new ≡ sets image (positionOn l) (listedOn l) → told ≡ notedBy (recordOf l) table → e ≡ laterOf end (farOf (positionOn l) (listedOn l))
+        → (new told : List ℕ) (e : ℕ) → new ≡ sets image (positionOn l) (listedOn l) → told ≡ notedBy (recordOf l) table
+        → e ≡ laterOf end (farOf (positionOn l) (listedOn l))
         → Turned mode place end image table l (On n e) new told
     unfolding judge answer
     left-on g n q new told e a b c = record { answer = ap accepted q ∙ answered true false f g; leaves = λ next k h. (a, b, sym (ap (endIn e) h) ∙ c) }

@@ -89,7 +89,7 @@ fn digits(line: &[u8]) -> &[u8]
     &line[DIGITS..e]
 }
 
-// `I`: its position's digits are digits, and where those of its bytes are too, what follows them is written again and compared.
+// `I`: where its bytes are digits, two for each, it begins as it is printed; what follows them is written again and compared.
 fn is_code(mode: Mode, line: &[u8], p: u32) -> bool
     requires { ⌜ (isStartAt (now line) ≡ true) × (p ≡ positionAt (now line)) × (letterOn (now line) ≡ 73) ⌝ }
     ensures { λ r. ⌜ r ≡ isCode mode p (bytesAt (now (line .entry))) (now (line .entry)) ⌝ }
@@ -147,7 +147,7 @@ pub fn position(line: &[u8]) -> u32
     four::read_four(&line[2..START])
 }
 
-// Whether it is good, where it begins so.
+// Whether a line that begins so, with this position, is good.
 pub fn is_line(mode: Mode, line: &[u8], p: u32) -> bool
     requires { ⌜ (isStartAt (now line) ≡ true) × (p ≡ positionAt (now line)) ⌝ }
     ensures { λ r. ⌜ r ≡ isLine mode (now (line .entry)) ⌝ }

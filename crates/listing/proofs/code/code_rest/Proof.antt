@@ -62,7 +62,8 @@ returns-3 c =
     let z = e .before in
     let d = from z in
     let a = start d .args in
-    puts-as (rest-over (a .mode) (a .p) (bytes d) (parts z) (answered z) (all d) (z .size .result) (z .size .ensures) (e .if1 .left) (c .if2 .taken)) (puts-none _ _)
+    puts-as (rest-over (a .mode) (a .p) (bytes d) (parts z) (answered z) (all d) (z .size .result) (z .size .ensures) (e .if1 .left) (c .if2 .taken))
+    (puts-none _ _)
 
 returns-4 : tie.Need-returns-4
 returns-4 c =
@@ -72,9 +73,11 @@ returns-4 c =
     let z = e .before in
     let d = from z in
     let a = start d .args in
-    puts-as (rest-whole (a .mode) (a .p) (bytes d) (parts z) (answered z) (all d) (z .size .result) (z .size .ensures) (e .if1 .left) (f .if2 .left)) (k .put-rest .ensures)
+    puts-as (rest-whole (a .mode) (a .p) (bytes d) (parts z) (answered z) (all d) (z .size .result) (z .size .ensures) (e .if1 .left) (f .if2 .left))
+    (k .put-rest .ensures)
 
 pub code-rest-spec : {M : Type 1} → statement M
 code-rest-spec =
     tie.close
-    (tie.spec (λ c κs. search needs) (λ c. search needs) returns (λ c κs. search needs) returns-2 add-next (λ c. search needs) returns-3 (λ c κs. search needs) (λ c. search needs) returns-4)
+    (tie.spec (λ c κs. search needs) (λ c. search needs) returns (λ c κs. search needs) returns-2 add-next (λ c. search needs)
+    returns-3 (λ c κs. search needs) (λ c. search needs) returns-4)

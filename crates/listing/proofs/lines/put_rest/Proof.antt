@@ -24,7 +24,8 @@ returns c =
     let w = n .before .before .before .before in
     let m = w .before in
     let a = m .before .before .before .args in
-    puts-as (ap (λ (k : ℕ). 9 ∷ letters 8 k ++ operandsAlone (a .mode) (a .next) (a .v)) (m .mnemonic .ensures)) (puts-then (w .put-word .ensures) (n .put-operands .ensures))
+    puts-as (ap (λ (k : ℕ). 9 ∷ letters 8 k ++ operandsAlone (a .mode) (a .next) (a .v)) (m .mnemonic .ensures))
+    (puts-then (w .put-word .ensures) (n .put-operands .ensures))
 
 pub put-rest-spec : {M : Type 1} → statement M
 put-rest-spec =

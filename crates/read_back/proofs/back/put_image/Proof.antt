@@ -38,9 +38,11 @@ returns : tie.Need-returns Inv-loop μ-loop
 returns c =
     let l = c .before in
     let s = l .before in
-    l .loop .inv .2 ∙ front-end (s .args .bytes .now) (s .args .image .now) (l .loop .i) (length (s .args .bytes .now)) (l .loop .inv .0) (c .loop-test .left) refl
+    l .loop .inv .2 ∙ front-end (s .args .bytes .now) (s .args .image .now) (l .loop .i) (length (s .args .bytes .now)) (l .loop .inv .0)
+    (c .loop-test .left) refl
 
 pub put-image-spec : {M : Type 1} → statement M
 put-image-spec =
     tie.close
-    (tie.spec Inv-loop μ-loop (λ c. (omega arith, refl, refl)) (λ c. search needs) write (λ c. search needs) (λ c. search needs) loop-again (λ c. c .before .loop .inv .1) returns)
+    (tie.spec Inv-loop μ-loop (λ c. (omega arith, refl, refl)) (λ c. search needs) write (λ c. search needs) (λ c. search needs)
+    loop-again (λ c. c .before .loop .inv .1) returns)

@@ -70,7 +70,8 @@ new-long : (l : tie.After-read-lines) → length (new l) ≡ n (made l)
 new-long l = l .read-lines .kept .1 .1 .0 ∙ sym (part (made l))
 
 -- what the lines leave of an image of so many bytes
-left : (l : tie.After-read-lines) → let a = start (from (made l)) .args in LinesLeave (a .mode) (a .text .now) (a .length) (new l) (told l) (restoredOf (l .read-lines .result))
+left : (l : tie.After-read-lines)
+    → let a = start (from (made l)) .args in LinesLeave (a .mode) (a .text .now) (a .length) (new l) (told l) (restoredOf (l .read-lines .result))
 left l = let a = start (from (made l)) .args in subst (λ (k : ℕ). LinesLeave (a .mode) (a .text .now) k (new l) (told l) (restoredOf (l .read-lines .result))) (sym (part (made l))) (l .read-lines .ensures)
 
 -- the part that is lent again is what was left
@@ -83,7 +84,8 @@ returns-4 c =
     let m = made l in
     let a = start (from m) .args in
     parted
-    (is-bad (a .mode) (a .text .now) (a .length) (a .image .now) (a .marks .now) (from m .if1 .left) (else3 m .before .if2 .left) (else3 m .if3 .left) (new l) (told l) (l .read-lines .result) (left l)
+    (is-bad (a .mode) (a .text .now) (a .length) (a .image .now) (a .marks .now) (from m .if1 .left) (else3 m .before .if2 .left)
+    (else3 m .if3 .left) (new l) (told l) (l .read-lines .result) (left l)
     (λ j e. none-other (rw e at (c .match .keys2))))
 
 abbrev lined : tie.After-enum-told → tie.After-read-lines
@@ -115,12 +117,15 @@ returns-5 c =
     let m = made l in
     let a = start (from m) .args in
     parted
-    (is-done (a .mode) (a .text .now) (a .length) (a .image .now) (a .marks .now) (from m .if1 .left) (else3 m .before .if2 .left) (else3 m .if3 .left) (new l) (told l) (l .read-lines .result) (left l) _ (e .enum-told .given .1) _ _
+    (is-done (a .mode) (a .text .now) (a .length) (a .image .now) (a .marks .now) (from m .if1 .left) (else3 m .before .if2 .left)
+    (else3 m .if3 .left) (new l) (told l) (l .read-lines .result) (left l) _ (e .enum-told .given .1) _ _
     (i .put-image .ensures ∙ ap (λ (x : List ℕ). laid x (a .image .now)) (again l))
     (p .put-marks .ensures))
 
 pub read-back-spec : {M : Type 1} → statement M
 read-back-spec =
     tie.close
-    (tie.spec returns returns-2 returns-3 (λ c κs. search needs) (λ c κs. search needs) (λ c. search needs) (λ c. part (c .before)) (λ c. search needs) read-lines-requires
-    (λ c. search needs) returns-4 (λ c. prefix (lined c)) (λ c. sized (lined (c .before))) put-image-requires (λ c. search needs) put-marks-requires (λ c. search needs) (λ c. search needs) returns-5)
+    (tie.spec returns returns-2 returns-3 (λ c κs. search needs) (λ c κs. search needs) (λ c. search needs) (λ c. part (c .before))
+    (λ c. search needs) read-lines-requires
+    (λ c. search needs) returns-4 (λ c. prefix (lined c)) (λ c. sized (lined (c .before))) put-image-requires (λ c. search needs) put-marks-requires
+    (λ c. search needs) (λ c. search needs) returns-5)

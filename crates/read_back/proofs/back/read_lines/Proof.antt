@@ -47,11 +47,13 @@ loop-holds : tie.Need-loop-holds Inv-loop μ-loop
 loop-holds c =
     let s = c .before .before .before .before in
     let a = s .args in
-    going-start (a .mode) (a .text .now) (length (a .image .now)) (c .start .result) (c .start .ensures) (a .image .now) (a .table .now) (s .pre .0) (s .pre .1) (s .pre .2)
+    going-start (a .mode) (a .text .now) (length (a .image .now)) (c .start .result) (c .start .ensures) (a .image .now) (a .table .now) (s .pre .0)
+    (s .pre .1) (s .pre .2)
 
 -- the line that was read
 turned : (k : tie.After-read-on Inv-loop μ-loop) → let l = loop k in
-    Turned (mode l) (l .loop .place) (l .loop .end) (l .loop .image) (l .loop .table) (upTo 10 (drop (l .loop .place .at) (text l))) (k .read-on .result) (k .read-on .last .1 .1 .1 .0) (k .read-on .last .1 .1 .1 .1 .0)
+    Turned (mode l) (l .loop .place) (l .loop .end) (l .loop .image) (l .loop .table) (upTo 10 (drop (l .loop .place .at) (text l)))
+    (k .read-on .result) (k .read-on .last .1 .1 .1 .0) (k .read-on .last .1 .1 .1 .1 .0)
 turned k = k .read-on .ensures
 
 loop-less : tie.Need-loop-less Inv-loop μ-loop
@@ -59,14 +61,16 @@ loop-less c =
     let n = c .before in
     let k = read (n .before .before) in
     let l = loop k in
-    going-less (mode l) (text l) (many l) (l .loop .place) (l .loop .image) (l .loop .table) (l .loop .end) (l .loop .inv) (taken k .if1 .taken) _ _ _ (turned k) _ _ (n .next .given .1)
+    going-less (mode l) (text l) (many l) (l .loop .place) (l .loop .image) (l .loop .table) (l .loop .end) (l .loop .inv) (taken k .if1 .taken) _ _
+    _ (turned k) _ _ (n .next .given .1)
 
 loop-again : tie.Need-loop-again Inv-loop μ-loop
 loop-again c =
     let n = c .before in
     let k = read (n .before .before) in
     let l = loop k in
-    going-on (mode l) (text l) (many l) (l .loop .place) (l .loop .image) (l .loop .table) (l .loop .end) (l .loop .inv) (taken k .if1 .taken) _ _ _ (turned k) _ _ (n .next .given .1) (omega (arith, start l .good .1 .0 .1))
+    going-on (mode l) (text l) (many l) (l .loop .place) (l .loop .image) (l .loop .table) (l .loop .end) (l .loop .inv) (taken k .if1 .taken) _ _ _
+    (turned k) _ _ (n .next .given .1) (omega (arith, start l .good .1 .0 .1))
 
 wide : (l : tie.At-loop Inv-loop μ-loop) → length (l .loop .table) ≡ length (start l .args .table .now)
 wide l = l .loop .inv .wide ∙ sym (ap length (start l .pre .1) ∙ length-replicate {A = ℕ} 1024 0xFFFFFFFFFFFFFFFF)
@@ -82,7 +86,8 @@ stop : (k : tie.After-read-on Inv-loop μ-loop) (j : ℕ) (vs : List ℤ) → tu
     → let l = loop k in LinesLeave (mode l) (text l) (many l) (k .read-on .last .1 .1 .1 .0) (k .read-on .last .1 .1 .1 .1 .0) (refused j vs)
 stop k j vs e =
     let l = loop k in
-    going-stop (mode l) (text l) (many l) (l .loop .place) (l .loop .image) (l .loop .table) (l .loop .end) (l .loop .inv) (taken k .if1 .taken) _ _ _ (turned k) j vs e (k .read-on .kept .1 .1 .1 .1 .0)
+    going-stop (mode l) (text l) (many l) (l .loop .place) (l .loop .image) (l .loop .table) (l .loop .end) (l .loop .inv) (taken k .if1 .taken) _ _
+    _ (turned k) j vs e (k .read-on .kept .1 .1 .1 .1 .0)
 
 returns : tie.Need-returns Inv-loop μ-loop
 returns c = let k = read (c .before .before) in stop k _ _ (ap (turnedOf (loop k .loop .place)) (c .enum-told .given .1))

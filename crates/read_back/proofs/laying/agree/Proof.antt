@@ -33,7 +33,8 @@ returns-2 c =
     let i = e .before in
     let l = i .before in
     let a = start l .args in
-    compare-off (a .digits .now) (a .image .now) (a .p) (a .end) (l .loop .i) (l .loop .n) (l .loop .inv) (i .loop-test .taken) (e .if1 .left) (f .pair .result) (f .pair .ensures) (c .if2 .taken)
+    compare-off (a .digits .now) (a .image .now) (a .p) (a .end) (l .loop .i) (l .loop .n) (l .loop .inv) (i .loop-test .taken) (e .if1 .left)
+    (f .pair .result) (f .pair .ensures) (c .if2 .taken)
 
 loop-again : tie.Need-loop-again Inv-loop μ-loop
 loop-again c =
@@ -42,7 +43,8 @@ loop-again c =
     let i = e .before in
     let l = i .before in
     let a = start l .args in
-    compare-on (a .digits .now) (a .image .now) (a .p) (a .end) (l .loop .i) (l .loop .n) (l .loop .inv) (i .loop-test .taken) (e .if1 .left) (f .pair .result) (f .pair .ensures) (c .if2 .left)
+    compare-on (a .digits .now) (a .image .now) (a .p) (a .end) (l .loop .i) (l .loop .n) (l .loop .inv) (i .loop-test .taken) (e .if1 .left)
+    (f .pair .result) (f .pair .ensures) (c .if2 .left)
 
 returns-3 : tie.Need-returns-3 Inv-loop μ-loop
 returns-3 c =
@@ -53,5 +55,6 @@ returns-3 c =
 pub agree-spec : {M : Type 1} → statement M
 agree-spec =
     tie.close
-    (tie.spec Inv-loop μ-loop (λ c. let a = c .before .before .args in compare-start (a .digits .now) (a .image .now) (a .p) (a .end)) returns (λ c. search needs) (λ c. search needs) (λ c. search needs)
+    (tie.spec Inv-loop μ-loop (λ c. let a = c .before .before .args in compare-start (a .digits .now) (a .image .now) (a .p) (a .end)) returns
+    (λ c. search needs) (λ c. search needs) (λ c. search needs)
     (λ c. search needs) (λ c κs. search needs) returns-2 (λ c. search needs) (λ c. search needs) (λ c. omega arith) loop-again returns-3)

@@ -48,4 +48,5 @@ listed-spec =
     tie.close
     (tie.spec (λ c κs. search needs) (λ c. search needs) (λ c. search needs) (λ c. search needs) returns
     (λ c. search needs) (λ c. search needs) (λ c. search needs) returns-2
-    (λ c. record { fits = omega (arith, inside c, start (c .before .before) .good .0 .1) }) (λ c. record { fits = omega (arith, inside c, start (c .before .before) .good .0 .1) }) (λ c. search needs) (λ c. search needs) inside returns-3)
+    (λ c. record { fits = omega (arith, inside c, start (c .before .before) .good .0 .1) })
+    (λ c. record { fits = omega (arith, inside c, start (c .before .before) .good .0 .1) }) (λ c. search needs) (λ c. search needs) inside returns-3)

@@ -47,7 +47,8 @@ abbrev new : tie.After-code-rest → List ℕ
 new k = k .code-rest .last .1 .1 .1 .0
 
 -- what was written
-written : (k : tie.After-code-rest) → let a = start (put k) .args in Puts (codeRest (a .mode) (a .p) (bytesOf (a .d .now))) 0 (replicate 32 0) (new k) (k .code-rest .result)
+written : (k : tie.After-code-rest)
+    → let a = start (put k) .args in Puts (codeRest (a .mode) (a .p) (bytesOf (a .d .now))) 0 (replicate 32 0) (new k) (k .code-rest .result)
 written k =
     let u = put k in
     let a = start u .args in
@@ -81,4 +82,5 @@ shown c =
 pub is-rest-spec : {M : Type 1} → statement M
 is-rest-spec =
     tie.close
-    (tie.spec (λ c. refl) (λ c κs. search needs) prefix part (λ c. refl) (λ c κs. search needs) (λ c. search needs) returns (λ c. omega (arith, few (c .before .before))) returns-2 shared shown (λ c κs. search needs) returns-3)
+    (tie.spec (λ c. refl) (λ c κs. search needs) prefix part (λ c. refl) (λ c κs. search needs) (λ c. search needs) returns
+    (λ c. omega (arith, few (c .before .before))) returns-2 shared shown (λ c κs. search needs) returns-3)

@@ -25,7 +25,8 @@ returns-2 c =
     let t = d .before in
     let s = start (t .before .before) in
     let a = s .args in
-    made (c .new2 .result) _ _ _ (c .new2 .ensures) ∙ with-code (a .line .now) (s .pre .0) (a .p) (s .pre .1) (t .if2 .taken) (d .digits .result .now) (d .digits .ensures)
+    made (c .new2 .result) _ _ _ (c .new2 .ensures) ∙ with-code (a .line .now) (s .pre .0) (a .p) (s .pre .1) (t .if2 .taken)
+    (d .digits .result .now) (d .digits .ensures)
 
 returns-3 : tie.Need-returns-3
 returns-3 c =
@@ -42,5 +43,6 @@ long k = start k .pre .0 .long
 pub record-spec : {M : Type 1} → statement M
 record-spec =
     tie.close
-    (tie.spec (λ c. let h = long c in omega arith) (λ c. long (c .before)) (λ c κs. search needs) returns (λ c κs. search needs) (λ c κs. search needs) returns-2
+    (tie.spec (λ c. let h = long c in omega arith) (λ c. long (c .before)) (λ c κs. search needs) returns (λ c κs. search needs)
+    (λ c κs. search needs) returns-2
     (λ c. long (c .before .before)) (λ c κs. search needs) returns-3)

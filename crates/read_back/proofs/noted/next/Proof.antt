@@ -12,7 +12,8 @@ returns c =
     let k = c .before in
     let s = k .before .before in
     let a = s .args in
-    next-none (a .table .now) (a .n) (a .q) (s .pre .0) (s .pre .1) (s .pre .2) (k .first-data .result) (k .first-data .ensures) (λ r e. no-other (rw e at (c .match .keys2)))
+    next-none (a .table .now) (a .n) (a .q) (s .pre .0) (s .pre .1) (s .pre .2) (k .first-data .result) (k .first-data .ensures)
+    (λ r e. no-other (rw e at (c .match .keys2)))
 
 returns-2 : tie.Need-returns-2
 returns-2 c =

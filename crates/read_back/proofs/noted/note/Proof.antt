@@ -11,7 +11,8 @@ returns c =
     let k = c .before in
     let t = k .before .before in
     let a = t .before .before .args in
-    noted (a .r) (a .table .now) (c .before .before .if1 .taken) (c .with-ones .result) (k .slice-known2 .given (a .r .position / 64) .fits) (c .with-ones .ensures)
+    noted (a .r) (a .table .now) (c .before .before .if1 .taken) (c .with-ones .result) (k .slice-known2 .given (a .r .position / 64) .fits)
+    (c .with-ones .ensures)
 
 returns-2 : tie.Need-returns-2
 returns-2 c = let a = c .before .before .before .args in unnoted (a .r) (a .table .now) (c .if1 .left)
@@ -19,4 +20,5 @@ returns-2 c = let a = c .before .before .before .args in unnoted (a .r) (a .tabl
 pub note-spec : {M : Type 1} → statement M
 note-spec =
     tie.close
-    (tie.spec (λ c. search needs) (λ c. search needs) (λ c. search needs) (λ c. search needs) (λ c κs. search needs) (λ c. search needs) (λ c. search needs) (λ c. search needs) returns returns-2)
+    (tie.spec (λ c. search needs) (λ c. search needs) (λ c. search needs) (λ c. search needs) (λ c κs. search needs) (λ c. search needs)
+    (λ c. search needs) (λ c. search needs) returns returns-2)

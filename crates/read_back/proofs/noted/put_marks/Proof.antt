@@ -32,7 +32,8 @@ loop-holds c =
     let k = c .before .before .before in
     let s = k .before .before .before .before in
     let a = s .args in
-    marking-start (a .table .now) (a .n) (k .clear .last .0) (clear-blank (a .n) (a .marks .now) _ (s .pre .2) (k .clear .ensures .1)) (c .next .result) (c .next .ensures)
+    marking-start (a .table .now) (a .n) (k .clear .last .0) (clear-blank (a .n) (a .marks .now) _ (s .pre .2) (k .clear .ensures .1))
+    (c .next .result) (c .next .ensures)
 
 write : tie.Need-slice-write-marks Inv-loop μ-loop
 write c = let l = c .before in omega (arith, c .loop-test .taken, l .loop .inv .same, room (from l))
@@ -66,5 +67,7 @@ returns c =
 pub put-marks-spec : {M : Type 1} → statement M
 put-marks-spec =
     tie.close
-    (tie.spec Inv-loop μ-loop (λ c κs. search needs) (λ c κs. let s = c .before .before .before .before .before .before in (s .pre .0, s .pre .1, omega arith)) loop-holds write (λ c. omega (arith, c .loop-test .taken, start (c .before) .pre .1))
+    (tie.spec Inv-loop μ-loop (λ c κs. search needs)
+    (λ c κs. let s = c .before .before .before .before .before .before in (s .pre .0, s .pre .1, omega arith)) loop-holds write
+    (λ c. omega (arith, c .loop-test .taken, start (c .before) .pre .1))
     (λ c κs. let s = start (c .before) in (s .pre .0, s .pre .1, omega (arith, c .loop-test .taken))) loop-less loop-again same-length returns)

@@ -69,10 +69,14 @@ got s = let k = before s in taken (mode k) (text k) (place k) (inside k) (k .rea
 is : (s : tie.After-struct-known) → let k = before s in take (next s .at - 1 - place k .at) (drop (place k .at) (text k)) ≡ it k
 is s = let k = before s in its-line (mode k) (text k) (place k) (inside k) (rec s) (next s) (got s)
 
-given : (s : tie.After-struct-known) → let k = before s in let l = take (next s .at - 1 - place k .at) (drop (place k .at) (text k)) in Spaced l × (rec s ≡ recordOf l)
+given : (s : tie.After-struct-known)
+    → let k = before s in let l = take (next s .at - 1 - place k .at) (drop (place k .at) (text k)) in Spaced l × (rec s ≡ recordOf l)
 given s =
-    let k = before s in
-    (good-line (mode k) _ (its-good (mode k) (text k) (place k) (inside k) (rec s) (next s) (got s)), its-record (mode k) (text k) (place k) (inside k) (rec s) (next s) (got s))
+    let k = before s in (
+      good-line (mode k) _ (its-good (mode k) (text k) (place k) (inside k) (rec s) (next s) (got s)),
+      its-record (mode k) (text k) (place k)
+          (inside k) (rec s) (next s) (got s),
+    )
 
 begins : (s : tie.After-struct-known) → place (before s) .at ≤ next s .at - 1
 begins s = let k = before s in starts (mode k) (text k) (place k) (inside k) (rec s) (next s) (got s)
@@ -125,7 +129,8 @@ returns-3 c =
     let h = c .before in
     let k = before (known (listing (agreeing h))) in
     let a = start k .args in
-    left-past (mode k) (place k) (a .end) (a .image .now) (a .table .now) (it k) (fits-on h) (reach-far _ _ (listedOn (it k)) ∙ lt-ltb _ _ (subst (λ (x : ℕ). length (a .image .now) < x) (far h) (c .if2 .taken))) _ _
+    left-past (mode k) (place k) (a .end) (a .image .now) (a .table .now) (it k) (fits-on h)
+    (reach-far _ _ (listedOn (it k)) ∙ lt-ltb _ _ (subst (λ (x : ℕ). length (a .image .now) < x) (far h) (c .if2 .taken))) _ _
 
 abbrev reached : tie.After-put → tie.After-far
 reached u = u .before .before .before
@@ -146,7 +151,8 @@ returns-4 c =
     let k = before s in
     let a = start k .args in
     left-on (mode k) (place k) (a .end) (a .image .now) (a .table .now) (it k) (fits-on h)
-    (reach-far _ _ (listedOn (it k)) ∙ le-ltb _ _ (subst (λ (x : ℕ). x ≤ length (a .image .now)) (far h) (u .before .before .if2 .left))) (next s) (got s .goes) _ _ _
+    (reach-far _ _ (listedOn (it k)) ∙ le-ltb _ _ (subst (λ (x : ℕ). x ≤ length (a .image .now)) (far h) (u .before .before .if2 .left))) (next s)
+    (got s .goes) _ _ _
     (u .put .ensures ∙ ap₂ (sets (a .image .now)) (at d) (bytes d))
     (m .note .ensures ∙ ap (λ (r : Record). notedBy r (a .table .now)) (got s .is))
     (c .later .ensures ∙ ap (laterOf (a .end)) (far h))
