@@ -72,10 +72,11 @@ pub fn compare(tally: &mut Tally, random: &mut Random) {
 }
 
 impl Reports<'_> {
-    /// By the archive, in a room that is one byte too short, one that is as long, and one with some to spare.
+    /// By the archive, in a room that is one byte too short, one that is as long, and one with some to spare, often so much that the
+    /// report is made once.
     fn one(&mut self, text: &[u8], printed: &str) {
         let needed = printed.len();
-        let spare = 1 + self.random.below(40) as usize;
+        let spare = (1 + self.random.below(40) as usize) * 50;
         let shorter = self.random.below(needed as u64) as usize;
         let mut ours = vec![];
         for length in [shorter, needed - 1, needed + spare, needed] {
