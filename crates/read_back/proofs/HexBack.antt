@@ -1,20 +1,21 @@
 -- Hex digits and what they stand for: each upper-case hex text is the only one of its number.
 -- Assumes nothing.
-use mathlib.Core.Path.{_≡_, refl, ap, ap₂, _∙_}
-use mathlib.Core.Bool.{Bool, true, false, cond, _&&_}
+use mathlib.Core.Path.{_≡_, refl, sym, ap, ap₂, _∙_}
+use mathlib.Core.Bool.{Bool, true, false, cond, _&&_, _||_}
 use mathlib.Core.List.{List, [], _∷_, _++_}
 use Prim.Native.Nat.{ℕ, zero, suc, _+_, _-_, _*_, _/_, _%_, _<_}
 use native.Mathlib.Nat.{mod-lt}
 use native.Mathlib.Omega.{arith}
-use borrow.Author.Tests.{leb-true, leb-false, lt-ltb, le-ltb}
+use borrow.Author.Tests.{leb-true, lt-ltb, le-ltb}
 use lib.Dec.{T, leb, lit<}
 use lib.ListN.{length}
 use Rattle.instruction.proofs.Ands.{first-part, second-part}
 use Rattle.instruction.proofs.Every.{holds}
+use Rattle.instruction.proofs.Sign.{never}
 use Rattle.text.specs.Bytes.{bytesOf}
 use Rattle.text.specs.Four.{fourOf}
-use Rattle.text.specs.Hex.{isDigit, digitOf, allHex}
-use Rattle.text.proofs.Digits.{from-a, low-value, high-value, from-0, digit-small}
+use Rattle.text.specs.Hex.{within, isDigit, digitOf, allHex}
+use Rattle.text.proofs.Digits.{digit-small}
 use Rattle.listing.specs.Hex.{letterOf, hex1, hex2, hex3, hex4, hexes}
 
 is : (b : Bool) → T b → b ≡ true
@@ -33,19 +34,18 @@ bytes-hex (b ∷ bs) = rw (digit-is (b / 16), digit-is b) (bytes-hex bs)
 
 -- a digit is the one of its value
 letter-of : (b : ℕ) → isDigit b ≡ true → letterOf (digitOf b) ≡ b
-letter-of b e = by (leb b 57) refl
+unfolding digitOf
+letter-of b e = by (within 48 57 b) refl (within 65 70 b) refl e
   where
-    by : (t : Bool) → leb b 57 ≡ t → letterOf (digitOf b) ≡ b
-    by true f =
-        let h = leb-true b 57 f in
-        let v = low-value b e h in
-        let g = from-0 b e h in
-        ap (λ (c : Bool). cond c (48 + digitOf b) (55 + digitOf b)) (lt-ltb (digitOf b) 10 (omega (arith, v .0))) ∙ omega (arith, v .0)
-    by false f =
-        let h = leb-false b 57 f in
-        let v = high-value b e h in
-        let g = from-a b e h in
-        ap (λ (c : Bool). cond c (48 + digitOf b) (55 + digitOf b)) (le-ltb (digitOf b) 10 (omega (arith, v .0))) ∙ omega (arith, v .0)
+    by : (t : Bool) → within 48 57 b ≡ t → (u : Bool) → within 65 70 b ≡ u → (t || u) ≡ true → letterOf (cond t (b - 48) (cond u (b - 55) 0)) ≡ b
+    by true f u g k =
+        let l = leb-true 48 b (first-part (leb 48 b) (leb b 57) f) in
+        let h = leb-true b 57 (second-part (leb 48 b) (leb b 57) f) in
+        ap (λ (c : Bool). cond c (48 + (b - 48)) (55 + (b - 48))) (lt-ltb (b - 48) 10 (omega arith)) ∙ omega arith
+    by false f true g k =
+        let l = leb-true 65 b (first-part (leb 65 b) (leb b 70) g) in
+        ap (λ (c : Bool). cond c (48 + (b - 55)) (55 + (b - 55))) (le-ltb (b - 55) 10 (omega arith)) ∙ omega arith
+    by false f false g k = absurd (never (sym k))
 
 digit-of : (n b : ℕ) → isDigit b ≡ true → n % 16 ≡ digitOf b → hex1 n ≡ b
 unfolding hex1
