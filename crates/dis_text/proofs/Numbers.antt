@@ -11,10 +11,19 @@ use borrow.Author.Tests.{ltb-true, lt-ltb, le-ltb, le-leb, lt-leb, leb-true, leb
 use lib.Dec.{leb, ltb}
 use lib.ListN.{length, getD, drop, drop-of-length-le}
 use lib.Seq.{drop-cons}
-use Rattle.instruction.proofs.Ands.{first-part, second-part}
-use Rattle.text.specs.Hex.{valueOf}
-use Rattle.text.proofs.Digits.{inside, under, over}
+use Rattle.instruction.proofs.Ands.{first-part, second-part, not-second}
+use Rattle.text.specs.Hex.{within, valueOf}
 use Rattle.dis_text.specs.Word.{valueIn, allDigits, numberFrom, isNumber, numberIn}
+
+-- a byte from low to high, below, and above
+inside : (low high b : ℕ) → low ≤ b → b ≤ high → within low high b ≡ true
+inside low high b h k = rw (le-leb low b h, le-leb b high k)
+
+under : (low high b : ℕ) → b < low → within low high b ≡ false
+under low high b h = rw (lt-leb low b h)
+
+over : (low high b : ℕ) → high < b → within low high b ≡ false
+over low high b h = rw (lt-leb b high h) (not-second (leb low b) false refl)
 
 -- the value of a byte that is a lower-case digit, and of one that is none
 module _ (b : ℕ) where
