@@ -1,4 +1,5 @@
-// The answers of the reader as replies: one function for each enum. A number that does not fit a value cannot come from the reader, but the enum alone does not say so.
+// The answers of the reader as replies: one function for each enum. A number that does not fit a value cannot come from the reader, but the
+// enum alone does not say so.
 ghost use mathlib.Core.Path.{_≡_};
 ghost use Prim.Native.Nat.{_<_, _^_};
 ghost use Rattle.read_back.specs.Back.{restoredOf};
