@@ -1,15 +1,22 @@
 //! Text: the listing, one line of it, what the programs print and take, and a listing read back.
 
-use crate::{Answer, Arrivals, MOST_BYTES, MOST_ENTRIES, Mode, Refusal, numbers};
+use crate::{
+    ARRIVALS_ROOM, Answer, Arrivals, CODE_LINE_MOST, IMAGE_LIMIT, LISTING_ROOM, MOST_BYTES,
+    MOST_ENTRIES, Mode, PRINTED_ROOM, Refusal, UNLISTED_ROOM, numbers,
+};
 
-/// All that a call writes: an empty room asks how much that is.
-fn whole(call: impl Fn(&mut [u8]) -> Answer) -> Result<Vec<u8>, Refusal> {
-    let mut room = vec![];
-    match call(&mut room).count() {
-        Err(Refusal::NoRoom { needed }) => room.resize(needed, 0),
-        answer => return answer.map(|_| room),
+/// All that a call writes, into a room of its own. The room that it begins with should be enough, so that the call works once; where it is
+/// not, the answer tells how much is.
+fn whole(begin: usize, call: impl Fn(&mut [u8]) -> Answer) -> Result<Vec<u8>, Refusal> {
+    let mut room = vec![0; begin];
+    let mut answer = call(&mut room).count();
+    if let Err(Refusal::NoRoom { needed }) = answer {
+        room.resize(needed, 0);
+        answer = call(&mut room).count();
     }
-    call(&mut room).count().map(|_| room)
+    room.truncate(answer?);
+    room.shrink_to_fit();
+    Ok(room)
 }
 
 /// How many bytes were written. A room of [`LISTING_ROOM`](crate::LISTING_ROOM) bytes for each of the image is enough without arrivals, one of
@@ -32,7 +39,13 @@ pub fn listing(
     marks: &[u8],
     arrivals: Arrivals,
 ) -> Result<Vec<u8>, Refusal> {
-    whole(|room| numbers::listing(mode as u32, image, marks, arrivals as u32, room))
+    let each = match arrivals {
+        Arrivals::Chosen => ARRIVALS_ROOM,
+        Arrivals::Declined => LISTING_ROOM,
+    };
+    whole(each * image.len().min(IMAGE_LIMIT), |room| {
+        numbers::listing(mode as u32, image, marks, arrivals as u32, room)
+    })
 }
 
 /// How many bytes were written. [`CODE_LINE_MOST`](crate::CODE_LINE_MOST) bytes are always enough.
@@ -48,7 +61,9 @@ pub fn code_line_into(
 
 /// The `I` line of the instruction with which the bytes begin, at a position.
 pub fn code_line(mode: Mode, position: u32, bytes: &[u8]) -> Result<Vec<u8>, Refusal> {
-    whole(|room| numbers::code_line(mode as u32, position, bytes, room))
+    whole(CODE_LINE_MOST, |room| {
+        numbers::code_line(mode as u32, position, bytes, room)
+    })
 }
 
 /// How many bytes were written. [`PRINTED_ROOM`](crate::PRINTED_ROOM) bytes are always enough.
@@ -59,7 +74,8 @@ pub fn list_text_into(text: &[u8], room: &mut [u8]) -> Result<usize, Refusal> {
 
 /// All that the listing program prints of a text.
 pub fn list_text(text: &[u8]) -> Vec<u8> {
-    whole(|room| numbers::list_text(text, room)).expect("refused for want of room alone")
+    whole(PRINTED_ROOM, |room| numbers::list_text(text, room))
+        .expect("refused for want of room alone")
 }
 
 /// What an input of the listing program holds: how many entries, and how many bytes.
@@ -102,7 +118,9 @@ pub fn report_text_into(text: &[u8], room: &mut [u8]) -> Result<usize, Refusal> 
 
 /// All that the term report prints of a text.
 pub fn report_text(text: &[u8]) -> Vec<u8> {
-    whole(|room| numbers::report_text(text, room)).expect("refused for want of room alone")
+    // an image's line is hardly ever longer than its text
+    whole(text.len() + 256, |room| numbers::report_text(text, room))
+        .expect("refused for want of room alone")
 }
 
 /// How many lines were read. The image's bytes and marks, `length` of each, stand at the beginning of the two rooms.
@@ -125,5 +143,8 @@ pub fn unlist_text_into(text: &[u8], length: u32, room: &mut [u8]) -> Result<usi
 
 /// All that `unlist` prints of a listing of an image of so many bytes.
 pub fn unlist_text(text: &[u8], length: u32) -> Vec<u8> {
-    whole(|room| numbers::unlist_text(text, length, room)).expect("refused for want of room alone")
+    whole(UNLISTED_ROOM, |room| {
+        numbers::unlist_text(text, length, room)
+    })
+    .expect("refused for want of room alone")
 }
