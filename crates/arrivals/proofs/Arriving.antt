@@ -52,7 +52,8 @@ module _ (mode : Mode) (image m : List ℕ) (p : ℕ) where
   none-held : 65536 < length image → (q : ℕ) → heldAt mode image m q ≡ []
   unfolding heldAt
   none-held h q =
-      rw (not-second (tracedAt image m q) (isWhole image q) (not-first _ (fitsHere image q) (not-second (ltb q (length image)) _ (lt-leb (length image) 65536 h))))
+      rw (not-second (tracedAt image m q) (isWhole image q)
+      (not-first _ (fitsHere image q) (not-second (ltb q (length image)) _ (lt-leb (length image) 65536 h))))
 
   none-arrives : 65536 < length image → (q : ℕ) → arrives mode image m p q ≡ false
   unfolding arrives some
@@ -114,7 +115,8 @@ module _ (mode : Mode) (image m : List ℕ) (p : ℕ) (fits : length image ≤ 6
   lowest zero k e = at-end k (omega arith)
   lowest (suc j) k e = by (arrives mode image m p k) refl (lowest j (k + 1) (omega arith))
     where
-      by : (t : Bool) → arrives mode image m p k ≡ t → Next mode image m p (k + 1) (firstOr 65536 (leftFrom mode image m p (k + 1))) → Next mode image m p k (firstOr 65536 (leftFrom mode image m p k))
+      by : (t : Bool) → arrives mode image m p k ≡ t → Next mode image m p (k + 1) (firstOr 65536 (leftFrom mode image m p (k + 1)))
+          → Next mode image m p k (firstOr 65536 (leftFrom mode image m p k))
       by true a n = at-one k (omega arith) a
       by false a n = let s = skips mode image m p k (omega arith) a in rw s (further k _ s n)
 
@@ -122,7 +124,8 @@ module _ (mode : Mode) (image m : List ℕ) (p : ℕ) (fits : length image ≤ 6
   next-is k q e = rw (e, next-left mode image m p k) (lowest (length image - k) k refl)
 
   -- q passed, the next is the first that is left
-  pub passed : (q r : ℕ) → q < length image → (q < length image → leftFrom mode image m p q ≡ q ∷ leftFrom mode image m p (q + 1)) → Next mode image m p (q + 1) r → leftFrom mode image m p q ≡ q ∷ leftFrom mode image m p r
+  pub passed : (q r : ℕ) → q < length image → (q < length image → leftFrom mode image m p q ≡ q ∷ leftFrom mode image m p (q + 1))
+      → Next mode image m p (q + 1) r → leftFrom mode image m p q ≡ q ∷ leftFrom mode image m p r
   passed q r h g n = g h ∙ ap (λ (l : List ℕ). q ∷ l) (sym (n .same))
 
 -- from the arrival q on one is left and those behind it, and from past all of them none

@@ -66,7 +66,14 @@ each-once : (l : List ℕ) (k p : ℕ) → total (λ (x : ℕ). bit (some (eqb x
 unfolding some
 each-once [] k p = omega (arith, total-same 0 k p)
 each-once (a ∷ l) k p =
-    omega (arith, total-less (λ (x : ℕ). bit (eqb x a || some (eqb x) l)) (λ (x : ℕ). bit (eqb x a) + bit (some (eqb x) l)) (λ x. bit-or (eqb x a) (some (eqb x) l)) k p, total-add (is a) (λ (x : ℕ). bit (some (eqb x) l)) k p, once a k p, each-once l k p)
+    omega (
+      arith,
+      total-less (λ (x : ℕ). bit (eqb x a || some (eqb x) l)) (λ (x : ℕ). bit (eqb x a) + bit (some (eqb x) l))
+          (λ x. bit-or (eqb x a) (some (eqb x) l)) k p,
+      total-add (is a) (λ (x : ℕ). bit (some (eqb x) l)) k p,
+      once a k p,
+      each-once l k p,
+    )
 
 -- ---- all arrivals
 
@@ -75,7 +82,13 @@ module _ (mode : Mode) (image m : List ℕ) where
   from-one : (q k p : ℕ) → total (λ (x : ℕ). bit (arrives mode image m x q)) k p ≤ 2
   unfolding arrives
   from-one q k p =
-      omega (arith, total-less (λ (x : ℕ). bit (ltb x (length image) && some (eqb x) (heldAt mode image m q))) (λ (x : ℕ). bit (some (eqb x) (heldAt mode image m q))) (λ x. bit-and (ltb x (length image)) (some (eqb x) (heldAt mode image m q))) k p, each-once (heldAt mode image m q) k p, held-few mode image m q)
+      omega (
+        arith,
+        total-less (λ (x : ℕ). bit (ltb x (length image) && some (eqb x) (heldAt mode image m q)))
+            (λ (x : ℕ). bit (some (eqb x) (heldAt mode image m q))) (λ x. bit-and (ltb x (length image)) (some (eqb x) (heldAt mode image m q))) k p,
+        each-once (heldAt mode image m q) k p,
+        held-few mode image m q,
+      )
 
   kept-cons : (f : ℕ → Bool) (q : ℕ) (l : List ℕ) → length (kept f (q ∷ l)) ≡ bit (f q) + length (kept f l)
   unfolding kept
@@ -96,7 +109,14 @@ module _ (mode : Mode) (image m : List ℕ) where
   from-many (suc j) q k p =
       let rest : ℕ → ℕ = λ (x : ℕ). length (kept (arrives mode image m x) (upFrom j (suc q))) in
       let one : ℕ → ℕ = λ (x : ℕ). bit (arrives mode image m x q) in
-      omega (arith, total-less (λ (x : ℕ). length (kept (arrives mode image m x) (q ∷ upFrom j (suc q)))) (λ (x : ℕ). one x + rest x) (λ x. omega (arith, kept-cons (arrives mode image m x) q (upFrom j (suc q)))) k p, total-add one rest k p, from-one q k p, from-many j (suc q) k p)
+      omega (
+        arith,
+        total-less (λ (x : ℕ). length (kept (arrives mode image m x) (q ∷ upFrom j (suc q)))) (λ (x : ℕ). one x + rest x)
+            (λ x. omega (arith, kept-cons (arrives mode image m x) q (upFrom j (suc q)))) k p,
+        total-add one rest k p,
+        from-one q k p,
+        from-many j (suc q) k p,
+      )
 
   pub arrivals-few : (k p : ℕ) → total (λ (x : ℕ). length (arrivalsOf mode image m x)) k p ≤ 2 * length image
   unfolding arrivalsOf

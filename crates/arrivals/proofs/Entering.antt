@@ -40,7 +40,8 @@ module _ (at v : ℕ) (l : List ℕ) where
 pub none-outside : (mode : Mode) (image m : List ℕ) (t k : ℕ) → length image ≤ t → nextNamer mode image m t k ≡ 65536
 none-outside mode image m t k h = low-no (namesIt mode image m t) (length image) (λ q. outside-not mode image m t q h) k
 
-module _ (mode : Mode) (image m : List ℕ) (fits : length image ≤ 65536) (q : ℕ) (h : q + 1 < length image) (l : List ℕ) (e : Entered mode image m (q + 1) l) where
+module _ (mode : Mode) (image m : List ℕ) (fits : length image ≤ 65536) (q : ℕ) (h : q + 1 < length image) (l : List ℕ)
+    (e : Entered mode image m (q + 1) l) where
   abbrev n : ℕ
   n = length image
 
@@ -75,7 +76,8 @@ module _ (mode : Mode) (image m : List ℕ) (fits : length image ≤ 65536) (q :
 
       by : (b : Bool) → eqb r q ≡ b → getD l₁ (n + r) 0 ≡ cond (ltb r q) 65535 (cellOf (linkOf mode image m r))
       by true f =
-          subst (λ (x : ℕ). getD l₁ (n + x) 0 ≡ cond (ltb x q) 65535 (cellOf (linkOf mode image m x))) (sym (eqb-true r q f)) (own ∙ rw (le-ltb q q (omega arith)))
+          subst (λ (x : ℕ). getD l₁ (n + x) 0 ≡ cond (ltb x q) 65535 (cellOf (linkOf mode image m x))) (sym (eqb-true r q f))
+          (own ∙ rw (le-ltb q q (omega arith)))
       by false f =
           let d : r ≡ q → ⊥ = eqb-false r q f in
           other d ∙ ap (λ (b : Bool). cond b 65535 (cellOf (linkOf mode image m r))) (near d (ltb r q) refl)

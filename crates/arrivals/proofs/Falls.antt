@@ -47,7 +47,8 @@ module _ (mode : Mode) (image m : List ℕ) (p q : ℕ) where
   pub past-limit : 65536 < length image → fallsFrom mode image m p q ≡ false
   unfolding fallsFrom fallsTo
   past-limit h =
-      not-second (tracedAt image m q && isHeld m q) _ (not-first (isWhole image q) _ (not-first _ (fitsHere image q) (not-second (ltb q (length image)) _ (lt-leb (length image) 65536 h))))
+      not-second (tracedAt image m q && isHeld m q) _
+      (not-first (isWhole image q) _ (not-first _ (fitsHere image q) (not-second (ltb q (length image)) _ (lt-leb (length image) 65536 h))))
 
 -- ---- from where it can come
 
@@ -103,7 +104,8 @@ module _ (mode : Mode) (image m : List ℕ) (B : Small image) (fits : length ima
   F = fallsFrom mode image m p
 
   -- the window before e, and past it
-  pub window-start : (k q : ℕ) → e ≡ cond (eqb p 0) (length image) p → q ≡ cond (ltb k (e - 3)) (e - 3) k → nextFall mode image m p q ≡ nextFall mode image m p k
+  pub window-start : (k q : ℕ) → e ≡ cond (eqb p 0) (length image) p → q ≡ cond (ltb k (e - 3)) (e - 3) k
+      → nextFall mode image m p q ≡ nextFall mode image m p k
   window-start k q d f = by (ltb k (e - 3)) refl f
     where
       early : (r : ℕ) → r < e - 3 → (t : Bool) → F r ≡ t → F r ≡ false
@@ -125,7 +127,8 @@ module _ (mode : Mode) (image m : List ℕ) (B : Small image) (fits : length ima
 
 -- ---- who arrives: those that name p, and those that go on to it
 
-two-ways : (p : ℕ) → p < 65536 → (f : Flow) (t n : ℤ) → some (eqb p) (map placeOf (byFlow f t n)) ≡ (eqb p (namedBy f (placeOf t)) || (goesOn f && eqb p (placeOf n)))
+two-ways : (p : ℕ) → p < 65536 → (f : Flow) (t n : ℤ)
+    → some (eqb p) (map placeOf (byFlow f t n)) ≡ (eqb p (namedBy f (placeOf t)) || (goesOn f && eqb p (placeOf n)))
 unfolding some
 two-ways p h Stop t n = sym (ap (λ (b : Bool). b || false) (ne-eqb p 65536 (λ e. omega arith)))
 two-ways p h Next t n = or-start (eqb p (placeOf n)) false refl ∙ sym (or-rest (eqb p 65536) _ (ne-eqb p 65536 (λ e. omega arith)))
@@ -150,7 +153,8 @@ module _ (mode : Mode) (image m : List ℕ) (B : Small image) (fits : length ima
   unfolding arrives heldAt held namesHeld namesIt nameAt nameOf fallsFrom fallsTo some
   arrives-either = rw (lt-ltb p (length image) h) (by (tracedAt image m q) (isWhole image q) (eqb (getD m q 0) flash))
     where
-      by : (t w f : Bool) → some (eqb p) (cond (t && w) (cond f [] (waysHere mode image q)) []) ≡ ((eqb p (cond t (cond w (nameHere mode image q) 65536) 65536) && not f) || ((t && not f) && (w && goingOn)))
+      by : (t w f : Bool) → some (eqb p) (cond (t && w) (cond f [] (waysHere mode image q)) [])
+          ≡ ((eqb p (cond t (cond w (nameHere mode image q) 65536) 65536) && not f) || ((t && not f) && (w && goingOn)))
       by true true true = sym (ap (λ (b : Bool). b || false) (not-second (eqb p (nameHere mode image q)) false refl))
       by true true false = whole-ways ∙ ap (λ (b : Bool). b || goingOn) (sym (first-alone (eqb p (nameHere mode image q)) true refl))
       by true false true = rw outside

@@ -13,8 +13,7 @@ use Rattle.instruction.proofs.Sign.{never}
 use Rattle.instruction.specs.Flow.{flowOf}
 use Rattle.instruction.specs.declared.mode.Mode.{Mode}
 use Rattle.targets.specs.At.{formHere}
-use Rattle.targets.specs.Opening.{isNaming}
-use Rattle.targets.specs.Ways.{isWhole, nameOf}
+use Rattle.targets.specs.Ways.{isWhole, nameOf, isNaming}
 use Rattle.targets.proofs.Openings.{names}
 use Rattle.targets.proofs.Within.{Small}
 use Rattle.reach.specs.Mark.{traced, flash, tracedMark}

@@ -35,7 +35,8 @@ module _ (mode : Mode) (image : List ℕ) (q : ℕ) where
   unfolding waysOf
   gone-whole = by (ltb q (length image) && leb (length image) 65536) (fitsHere image q) _
     where
-      by : (b f : Bool) (c : CutOff) → gone (cond b (cond f (Goes (placesNamed (waysHere mode image q))) (Cut c)) Outside) ≡ cond (b && f) (waysHere mode image q) []
+      by : (b f : Bool) (c : CutOff) → gone (cond b (cond f (Goes (placesNamed (waysHere mode image q))) (Cut c)) Outside)
+          ≡ cond (b && f) (waysHere mode image q) []
       by true true c = two-at-most mode image q
       by true false c = refl
       by false f c = refl

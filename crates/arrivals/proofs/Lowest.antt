@@ -121,7 +121,8 @@ module _ (n : ℕ) (fits : n ≤ 65536) where
         h : k < n
         h = omega arith
 
-        by : (t : Bool) → f k ≡ t → some f (upFrom (n - (k + 1)) (k + 1)) ≡ ltb (lowestOf f n (k + 1)) n → (f k || some f (upFrom (n - (k + 1)) (k + 1))) ≡ ltb (lowestOf f n k) n
+        by : (t : Bool) → f k ≡ t → some f (upFrom (n - (k + 1)) (k + 1)) ≡ ltb (lowestOf f n (k + 1)) n
+            → (f k || some f (upFrom (n - (k + 1)) (k + 1))) ≡ ltb (lowestOf f n k) n
         by true g r = or-first (f k) _ g ∙ sym (ap (λ (i : ℕ). ltb i n) (low-here f n k h g) ∙ lt-ltb k n h)
         by false g r = or-rest (f k) _ g ∙ r ∙ ap (λ (i : ℕ). ltb i n) (sym (low-later f n k h g))
 
@@ -151,7 +152,8 @@ module _ (n : ℕ) (fits : n ≤ 65536) where
             low-past g n x h ∙ sym (low-none g k (λ r a c. fewer r c (l .none r a (omega arith) c)))
 
     -- of either test: the lower of the two
-    pub low-either : (a : ℕ → Bool) → ((r : ℕ) → r < n → a r ≡ (f r || g r)) → (k x y : ℕ) → x ≡ lowestOf f n k → y ≡ lowestOf g n k → cond (ltb x y) x y ≡ lowestOf a n k
+    pub low-either : (a : ℕ → Bool) → ((r : ℕ) → r < n → a r ≡ (f r || g r)) → (k x y : ℕ) → x ≡ lowestOf f n k → y ≡ lowestOf g n k
+        → cond (ltb x y) x y ≡ lowestOf a n k
     low-either a e k x y u v = by (ltb x y) refl
       where
         F : Lowest f n k x

@@ -62,7 +62,8 @@ naming-long : (k : ℕ) → k < 70 → leb 2 (ifNames (flowOf k) (sizeOf (formAt
 unfolding forms flowOf stops jumps branches ifNames pattern patternBytes onto bitsGiven nextBracket
 naming-long =
     at-each
-    (λ (w : Form). leb 2 (ifNames (cond (among stops (w .name)) Stop (cond (among jumps (w .name)) Jump (cond (among branches (w .name)) Branch Next))) (sizeOf w)))
+    (λ (w : Form). leb 2 (ifNames (cond (among stops (w .name)) Stop (cond (among jumps (w .name)) Jump (cond (among branches (w .name)) Branch Next)))
+    (sizeOf w)))
     (λ (w : Form). true) refl
 
 long-by : (f : Flow) (t p s : ℕ) → p < 65536 → p ≡ namedBy f t → leb 2 (ifNames f s) ≡ true → 2 ≤ s
@@ -74,7 +75,8 @@ long-by Branch t p s h e g = leb-true 2 s g
 
 module _ (mode : Mode) (image m : List ℕ) (B : Small image) (p q : ℕ) where
   -- what a name says of the position that has it
-  traced-by : p < 65536 → (t w : Bool) → tracedAt image m q ≡ t → isWhole image q ≡ w → p ≡ cond t (cond w (nameHere mode image q) 65536) 65536 → (t ≡ true) × (w ≡ true)
+  traced-by : p < 65536 → (t w : Bool) → tracedAt image m q ≡ t → isWhole image q ≡ w → p ≡ cond t (cond w (nameHere mode image q) 65536) 65536
+      → (t ≡ true) × (w ≡ true)
   traced-by h true true f g e = (refl, refl)
   traced-by h true false f g e = absurd (omega arith)
   traced-by h false w f g e = absurd (omega arith)
@@ -96,6 +98,8 @@ module _ (mode : Mode) (image m : List ℕ) (B : Small image) (p q : ℕ) where
       let y = named-from small (x .1) in
       let f : Flow = flowOf (formHere image q) in
       let t : ℕ = placeOf (addressIn mode (q + sizeHere image q) (instrHere image q)) in
-      let s : 2 ≤ sizeHere image q = long-by f t p (sizeHere image q) small (y .2 ∙ sym (names-by-flow mode image q B f refl)) (naming-long (formHere image q) (form-here image q B)) in
-      let w : q + sizeHere image q ≤ length image = leb-true (q + sizeHere image q) (length image) (second-part (ltb q (length image) && leb (length image) 65536) _ (y .1)) in
+      let s : 2 ≤ sizeHere image q =
+      long-by f t p (sizeHere image q) small (y .2 ∙ sym (names-by-flow mode image q B f refl)) (naming-long (formHere image q) (form-here image q B)) in
+      let w : q + sizeHere image q ≤ length image =
+      leb-true (q + sizeHere image q) (length image) (second-part (ltb q (length image) && leb (length image) 65536) _ (y .1)) in
       omega (arith, s, w)

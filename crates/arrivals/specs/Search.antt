@@ -7,7 +7,7 @@ use lib.Dec.{eqb}
 use lib.ListN.{getD}
 use Rattle.instruction.specs.Flow.{flowOf}
 use Rattle.targets.specs.At.{formHere}
-use Rattle.targets.specs.Opening.{isNaming}
+use Rattle.targets.specs.Ways.{isNaming}
 use Rattle.reach.specs.Mark.{traced}
 
 -- q had targets, and its first byte says that it names one

@@ -3,25 +3,11 @@
 ghost use mathlib.Core.Path.{_≡_};
 ghost use Prim.Native.Nat.{_≤_, _<_};
 ghost use lib.ListN.{length};
-ghost use Rattle.targets.specs.Opening.{isNaming};
 ghost use Rattle.arrivals.specs.Index.{lowestOf};
 ghost use Rattle.arrivals.specs.Search.{mayName};
 use instruction::FirstByte;
-use instruction::Flow;
 use marks::Mark;
 use targets::Image;
-
-// Whether an instruction from which control goes so names an address.
-fn is_naming(flow: Flow) -> bool
-    ensures { λ r. ⌜ r ≡ isNaming flow ⌝ }
-{
-    match flow {
-        Flow::Stop => false,
-        Flow::Next => false,
-        Flow::Jump => true,
-        Flow::Branch => true,
-    }
-}
 
 // Whether q had targets and names one of them: under the exception it had none.
 fn may_name(image: &[u8], marks: &[u8], q: u32) -> bool
@@ -33,7 +19,7 @@ fn may_name(image: &[u8], marks: &[u8], q: u32) -> bool
         return false;
     }
     let flow = FirstByte::read(image[at]).flow;
-    is_naming(flow)
+    targets::is_naming(flow)
 }
 
 // The lowest of them from this position on, of those before an end; where there is none, a position outside every image.

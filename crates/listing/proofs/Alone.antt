@@ -28,7 +28,7 @@ use Rattle.instruction.proofs.Shapes.{size-range}
 use Rattle.instruction.proofs.Sign.{never}
 use Rattle.targets.specs.Asked.{operandPlace}
 use Rattle.targets.specs.At.{placeOf}
-use Rattle.targets.specs.Opening.{isNaming}
+use Rattle.targets.specs.Ways.{isNaming}
 use Rattle.targets.specs.Targets.{inMode, addressOf, addressIn, byFlow, nextOf, targetsIn, targetsAnswer}
 use Rattle.targets.proofs.AskedAlone.{past-end, found}
 use Rattle.targets.proofs.AskedPlace.{past-memory, names}
@@ -130,7 +130,8 @@ module _ (mode : Mode) (p : ℕ) (i : Instr) where
 
   by-first : isAddress (k 0) ≡ true → There (k 0) (partsOf i .a)
   by-first e =
-      let t : T (missing (k 1) && (missing (k 2) && isNaming flow)) = when (isAddress (k 0)) _ (and-left (cond (isAddress (k 0)) (missing (k 1) && (missing (k 2) && isNaming flow)) true) _ each) e in
+      let t : T (missing (k 1) && (missing (k 2) && isNaming flow)) =
+      when (isAddress (k 0)) _ (and-left (cond (isAddress (k 0)) (missing (k 1) && (missing (k 2) && isNaming flow)) true) _ each) e in
       let u : T (missing (k 2) && isNaming flow) = and-right (missing (k 1)) _ t in
       record {
         address = first mode next i (not-given (k 2) (and-left (missing (k 2)) _ u)) (not-given (k 1) (and-left (missing (k 1)) _ t));
@@ -139,7 +140,8 @@ module _ (mode : Mode) (p : ℕ) (i : Instr) where
 
   by-second : isAddress (k 1) ≡ true → There (k 1) (partsOf i .b)
   by-second e =
-      let u : T (missing (k 2) && isNaming flow) = when (isAddress (k 1)) _ (and-left (cond (isAddress (k 1)) (missing (k 2) && isNaming flow) true) _ later) e in
+      let u : T (missing (k 2) && isNaming flow) =
+      when (isAddress (k 1)) _ (and-left (cond (isAddress (k 1)) (missing (k 2) && isNaming flow) true) _ later) e in
       record {
         address = second mode next i (not-given (k 2) (and-left (missing (k 2)) _ u)) (is-given (k 1) e);
         goes = is-true (isNaming flow) (and-right (missing (k 2)) _ u);
@@ -183,9 +185,12 @@ module _ (mode : Mode) (p : ℕ) (i : Instr) where
         let r : InRange i = fits-all i fit in
         let t : ℕ = firstOf (targetsAnswer mode p i) in
         let v = partsOf i in
-        let a : fieldAlone mode next (k 0) (v .a) ≡ shownField t (k 0) (natAbs (v .a)) = same-field _ t (k 0) _ (λ e. first-target (k 0) (v .a) (r .first) (by-first e)) in
-        let b : fieldAlone mode next (k 1) (v .b) ≡ shownField t (k 1) (natAbs (v .b)) = same-field _ t (k 1) _ (λ e. first-target (k 1) (v .b) (r .second) (by-second e)) in
-        let c : fieldAlone mode next (k 2) (v .c) ≡ shownField t (k 2) (natAbs (v .c)) = same-field _ t (k 2) _ (λ e. first-target (k 2) (v .c) (r .third) (by-third e)) in
+        let a : fieldAlone mode next (k 0) (v .a) ≡ shownField t (k 0) (natAbs (v .a)) =
+        same-field _ t (k 0) _ (λ e. first-target (k 0) (v .a) (r .first) (by-first e)) in
+        let b : fieldAlone mode next (k 1) (v .b) ≡ shownField t (k 1) (natAbs (v .b)) =
+        same-field _ t (k 1) _ (λ e. first-target (k 1) (v .b) (r .second) (by-second e)) in
+        let c : fieldAlone mode next (k 2) (v .c) ≡ shownField t (k 2) (natAbs (v .c)) =
+        same-field _ t (k 2) _ (λ e. first-target (k 2) (v .c) (r .third) (by-third e)) in
         join a b c ∙ is-operands t i v (threeOf (formIn i .shape)) refl refl (natAbs (v .a)) (natAbs (v .b)) (natAbs (v .c)) refl refl refl
       where
         join : {x x′ y y′ z z′ : List ℕ} → x ≡ x′ → y ≡ y′ → z ≡ z′ → x ++ (y ++ (z ++ (10 ∷ []))) ≡ x′ ++ (y′ ++ (z′ ++ (10 ∷ [])))

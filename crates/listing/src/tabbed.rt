@@ -4,7 +4,7 @@ ghost use mathlib.Core.Bool.{true, false};
 ghost use Rattle.text.specs.Puts.{Puts, Needed};
 ghost use Rattle.views.specs.View.{Sound, viewedOf};
 ghost use Rattle.listing.specs.Lent.{textOf, textAnswer, textRoom};
-ghost use Rattle.listing.specs.Walk.{isChosen, unchosen, listingAnswer, listingRoom};
+ghost use Rattle.listing.specs.Walk.{unchosen, listingAnswer, listingRoom};
 ghost use Rattle.listing.specs.declared.tabbed.Arrivals.the-variants.{Chosen, Declined};
 use crate::rooms;
 use crate::walk;
@@ -26,15 +26,6 @@ pub enum Arrivals {
 impl Arrivals {
     // Without a choice.
     pub const DEFAULT: Arrivals = Arrivals::Chosen;
-
-    pub fn is_chosen(self) -> bool
-        ensures { λ r. ⌜ r ≡ isChosen self ⌝ }
-    {
-        match self {
-            Self::Chosen => true,
-            Self::Declined => false,
-        }
-    }
 }
 
 // The listing without arrivals, by the target marks: as much of it as the room holds is written; how many bytes it has.

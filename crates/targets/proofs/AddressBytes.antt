@@ -32,7 +32,7 @@ use Rattle.instruction.proofs.Shapes.{sized}
 use Rattle.instruction_laws.specs.PartsMade.{usedIn}
 use Rattle.instruction_laws.proofs.PartsMade.{parted}
 use Rattle.targets.specs.At.{formHere, sizeHere, instrHere}
-use Rattle.targets.specs.Opening.{isNaming}
+use Rattle.targets.specs.Ways.{isNaming}
 use Rattle.targets.specs.Targets.{inMode, addressOf, addressIn, lastOf}
 use Rattle.targets.proofs.Within.{Small, form-here, size-short}
 

@@ -73,7 +73,8 @@ module _ (image : List ℕ) (p : ℕ) where
             let g : accepted i ≡ refused 5 (cutValues (cutAt s 0)) = e ∙ answer false f in
             let z : _≡_ {A = ℕ} 0 1 = cc in absurd (omega arith)
 
-    pub cut-here : (c d : CutOff) → refused 5 (cutValues c) ≡ decodeAnswer s → (d .position ≡ p) × (d .first ≡ c .first) × (d .missing ≡ c .missing) → Cut d ≡ hereOf image p
+    pub cut-here : (c d : CutOff) → refused 5 (cutValues c) ≡ decodeAnswer s → (d .position ≡ p) × (d .first ≡ c .first) × (d .missing ≡ c .missing)
+        → Cut d ≡ hereOf image p
     unfolding hereOf cutAt
     cut-here c d e q = rw (lt-ltb p (length image) inside) (by (fitsHere image p) refl)
       where

@@ -17,9 +17,9 @@ use Rattle.instruction.specs.Parts.{partsOf}
 use Rattle.instruction.specs.declared.flow.Flow.{Flow}
 use Rattle.instruction.specs.declared.flow.Flow.the-variants.{Stop, Next, Jump, Branch}
 use Rattle.targets.specs.At.{formHere, sizeHere, fitsHere, instrHere, waysHere, nameHere, namedBy, placeOf}
-use Rattle.targets.specs.Opening.{openingOf, isNaming}
+use Rattle.targets.specs.Opening.{openingOf}
 use Rattle.targets.specs.Targets.{inMode, byFlow, addressIn, targetsIn}
-use Rattle.targets.specs.Ways.{isWhole, waysOf, goesOn}
+use Rattle.targets.specs.Ways.{isWhole, waysOf, isNaming, goesOn}
 use Rattle.targets.specs.declared.opening.Opening.{Opening}
 use Rattle.targets.specs.declared.opening.Opening.the-variants.{Whole, Cut, Outside}
 use Rattle.targets.specs.declared.place.Ways.the-variants as way
@@ -63,9 +63,11 @@ module _ (image : List ℕ) (p : ℕ) where
     there : inMemory image p ≡ true
     there = both _ _ (lt-ltb p (length image) inside) (le-leb (length image) 65536 small)
 
-    pub is-cut : (n : ℕ) → n ≡ p + sizeHere image p → length image < n → (c : CutOff) → (c .position ≡ p) × (c .first ≡ getD image p 0) × (c .missing ≡ n - length image) → Cut c ≡ openingOf image p
+    pub is-cut : (n : ℕ) → n ≡ p + sizeHere image p → length image < n → (c : CutOff)
+        → (c .position ≡ p) × (c .first ≡ getD image p 0) × (c .missing ≡ n - length image) → Cut c ≡ openingOf image p
     unfolding openingOf fitsHere
-    is-cut n e h c q = rw (there, lt-leb (p + sizeHere image p) (length image) (rw (← e) h)) (ap Cut (cut-at image p c (q .0) (q .1) (q .2 ∙ (let g : n - length image ≡ sizeHere image p - (length image - p) = omega arith in g))))
+    is-cut n e h c q = rw (there, lt-leb (p + sizeHere image p) (length image) (rw (← e) h))
+        (ap Cut (cut-at image p c (q .0) (q .1) (q .2 ∙ (let g : n - length image ≡ sizeHere image p - (length image - p) = omega arith in g))))
 
     pub is-whole : (n : ℕ) → n ≡ p + sizeHere image p → n ≤ length image → (f : Flow) → f ≡ flowOf (formHere image p) → Whole n f ≡ openingOf image p
     unfolding openingOf fitsHere
@@ -80,7 +82,8 @@ module _ (image : List ℕ) (p : ℕ) where
     pub next : n ≡ p + sizeHere image p
     pub flow : f ≡ flowOf (formHere image p)
 
-  opens : (o : Opening) → o ≡ openingOf image p → (b t : Bool) → inMemory image p ≡ b → fitsHere image p ≡ t → o ≡ cond b (cond t (Whole (p + sizeHere image p) (flowOf (formHere image p))) (Cut (cutAt image p))) Outside
+  opens : (o : Opening) → o ≡ openingOf image p → (b t : Bool) → inMemory image p ≡ b → fitsHere image p ≡ t
+      → o ≡ cond b (cond t (Whole (p + sizeHere image p) (flowOf (formHere image p))) (Cut (cutAt image p))) Outside
   unfolding openingOf
   opens o e b t f g = e ∙ rw (f, g)
 

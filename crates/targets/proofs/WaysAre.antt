@@ -44,7 +44,8 @@ by-flow Branch t n = refl
 -- an instruction has at most two targets
 pub two-at-most : (mode : Mode) (image : List ℕ) (p : ℕ) → placesIn (placesNamed (waysHere mode image p)) ≡ waysHere mode image p
 unfolding waysHere targetsIn
-two-at-most mode image p = by-flow (flowOf (partsOf (instrHere image p) .form)) (addressIn mode (p + sizeHere image p) (instrHere image p)) (inMode mode (pos (p + sizeHere image p)))
+two-at-most mode image p = by-flow (flowOf (partsOf (instrHere image p) .form)) (addressIn mode (p + sizeHere image p) (instrHere image p))
+    (inMode mode (pos (p + sizeHere image p)))
 
 places-few : (ps : Places) → length (placesIn ps) ≤ 2
 places-few Nothing = omega arith
@@ -101,7 +102,8 @@ module _ (image : List ℕ) (p : ℕ) where
       by false f = f
 
 module _ (mode : Mode) (image : List ℕ) (p : ℕ) (inside : p < length image) (small : length image ≤ 65536) where
-  ways-is : (w : Ways) → w ≡ waysOf mode image p → (t : Bool) → fitsHere image p ≡ t → w ≡ cond t (way.Goes (placesNamed (waysHere mode image p))) (way.Cut (cutAt image p))
+  ways-is : (w : Ways) → w ≡ waysOf mode image p → (t : Bool) → fitsHere image p ≡ t
+      → w ≡ cond t (way.Goes (placesNamed (waysHere mode image p))) (way.Cut (cutAt image p))
   unfolding waysOf
   ways-is w e t f = e ∙ rw (lt-ltb p (length image) inside, le-leb (length image) 65536 small, f)
 

@@ -1,14 +1,12 @@
 -- Of inner functions: what the first byte at a position says. Document 01, 'Targets' and 'Marks and steps'.
 -- Assumes nothing.
 use Prim.Native.Nat.{ℕ, _+_}
-use mathlib.Core.Bool.{Bool, true, false, cond, _&&_}
+use mathlib.Core.Bool.{cond, _&&_}
 use mathlib.Core.List.{List}
 use lib.Dec.{ltb, leb}
 use lib.ListN.{length}
 use Rattle.instruction.specs.Decode.{cutAt}
 use Rattle.instruction.specs.Flow.{flowOf}
-use Rattle.instruction.specs.declared.flow.Flow.{Flow}
-use Rattle.instruction.specs.declared.flow.Flow.the-variants.{Stop, Next, Jump, Branch}
 use Rattle.targets.specs.At.{formHere, sizeHere, fitsHere}
 use Rattle.targets.specs.declared.opening.Opening.{Opening}
 use Rattle.targets.specs.declared.opening.Opening.the-variants.{Whole, Cut, Outside}
@@ -18,10 +16,3 @@ openingOf image p =
     cond (ltb p (length image) && leb (length image) 65536)
     (cond (fitsHere image p) (Whole (p + sizeHere image p) (flowOf (formHere image p))) (Cut (cutAt image p)))
     Outside
-
--- a jump, a branch or a call: it names an address
-abbrev pub isNaming : Flow → Bool
-isNaming Stop = false
-isNaming Next = false
-isNaming Jump = true
-isNaming Branch = true

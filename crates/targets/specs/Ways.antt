@@ -44,6 +44,13 @@ waysOf mode image p =
     cond (ltb p (length image) && leb (length image) 65536)
     (cond (fitsHere image p) (Goes (placesNamed (waysHere mode image p))) (Cut (cutAt image p))) Outside
 
+-- an instruction of this flow names an address: a jump, a branch or a call
+abbrev pub isNaming : Flow → Bool
+isNaming Stop = false
+isNaming Next = false
+isNaming Jump = true
+isNaming Branch = true
+
 -- control goes on behind an instruction of this flow
 abbrev pub goesOn : Flow → Bool
 goesOn Stop = false

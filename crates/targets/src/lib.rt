@@ -17,6 +17,7 @@ pub use here::instr_at;
 pub use here::size_at;
 pub use image::Image;
 pub use instr_targets::targets;
+pub use name::is_naming;
 pub use name::name_at;
 pub use place::Places;
 pub use place::Ways;

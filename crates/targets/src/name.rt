@@ -6,7 +6,7 @@ ghost use Prim.Native.Nat.{_+_, _≤_, _<_};
 ghost use Rattle.instruction.specs.Flow.{flowOf};
 ghost use lib.ListN.{length};
 ghost use Rattle.targets.specs.At.{formHere, sizeHere, fitsHere, nameHere};
-ghost use Rattle.targets.specs.Ways.{nameOf};
+ghost use Rattle.targets.specs.Ways.{isNaming, nameOf};
 use crate::image::Image;
 use crate::opening;
 use crate::opening::Opening;
@@ -14,13 +14,25 @@ use crate::operand;
 use instruction::Flow;
 use instruction::Mode;
 
+// Whether an instruction from which control goes so names an address.
+pub fn is_naming(flow: Flow) -> bool
+    ensures { λ r. ⌜ r ≡ isNaming flow ⌝ }
+{
+    match flow {
+        Flow::Stop => false,
+        Flow::Next => false,
+        Flow::Jump => true,
+        Flow::Branch => true,
+    }
+}
+
 // By where the instruction at p ends and where control goes.
 fn name_by(mode: Mode, image: &[u8], p: u32, next: u32, flow: Flow) -> u32
     requires { ⌜ (p < length (now image)) × (length (now image) ≤ 65536) ⌝ }
     requires { ⌜ (fitsHere (now image) p ≡ true) × (next ≡ p + sizeHere (now image) p) × (flow ≡ flowOf (formHere (now image) p)) ⌝ }
     ensures { λ r. ⌜ r ≡ nameHere mode (now (image .entry)) p ⌝ }
 {
-    if operand::is_naming(flow) {
+    if is_naming(flow) {
         return operand::place_at(mode, image, p, next);
     }
     Image::NOWHERE

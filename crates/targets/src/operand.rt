@@ -9,23 +9,10 @@ ghost use lib.ListN.{length};
 ghost use Rattle.instruction.specs.Code.{shortOf};
 ghost use Rattle.instruction.specs.Flow.{flowOf};
 ghost use Rattle.targets.specs.At.{formHere, sizeHere, fitsHere, instrHere, placeOf};
-ghost use Rattle.targets.specs.Opening.{isNaming};
 ghost use Rattle.targets.specs.Targets.{inMode, addressIn};
+ghost use Rattle.targets.specs.Ways.{isNaming};
 use crate::image::Image;
-use instruction::Flow;
 use instruction::Mode;
-
-// Whether an instruction from which control goes so names an address.
-pub fn is_naming(flow: Flow) -> bool
-    ensures { λ r. ⌜ r ≡ isNaming flow ⌝ }
-{
-    match flow {
-        Flow::Stop => false,
-        Flow::Next => false,
-        Flow::Jump => true,
-        Flow::Branch => true,
-    }
-}
 
 // Twelve bits of a first byte and the byte after it, on next's page.
 fn page(next: u32, first: u8, low: u8) -> u32

@@ -9,6 +9,7 @@ ghost use lib.IntN.{pos};
 ghost use Rattle.targets.specs.Targets.{inMode};
 ghost use Rattle.targets.specs.Ways.{placesIn, waysOf, goesOn, fallsTo};
 use crate::image::Image;
+use crate::name;
 use crate::opening;
 use crate::opening::Opening;
 use crate::operand;
@@ -70,7 +71,7 @@ fn places_by(mode: Mode, image: &[u8], p: u32, next: u32, flow: Flow) -> Places
     requires { ⌜ (fitsHere (now image) p ≡ true) × (next ≡ p + sizeHere (now image) p) × (flow ≡ flowOf (formHere (now image) p)) ⌝ }
     ensures { λ r. ⌜ placesIn r ≡ waysHere mode (now (image .entry)) p ⌝ }
 {
-    if operand::is_naming(flow) {
+    if name::is_naming(flow) {
         let to = operand::place_at(mode, image, p, next);
         if goes_on(flow) {
             return Places::Both(to, next_place(mode, next));

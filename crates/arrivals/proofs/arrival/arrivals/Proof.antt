@@ -39,7 +39,8 @@ out c = arrivalsOf (mode c) (image c) (marks c) (p c)
 returns : tie.Need-returns
 returns c =
     let w = c .before in
-    refused-all (image w) (marks w) (out w) (room w) (w .before .check .result) (w .before .check .ensures) (sym (w .is-written .ensures) ∙ not-true _ (c .if1 .taken))
+    refused-all (image w) (marks w) (out w) (room w) (w .before .check .result) (w .before .check .ensures)
+    (sym (w .is-written .ensures) ∙ not-true _ (c .if1 .taken))
 
 sound : (c : tie.Else1) → Sound (image (c .before)) (marks (c .before))
 sound c =

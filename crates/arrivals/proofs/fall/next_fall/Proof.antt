@@ -45,13 +45,15 @@ fits e = e .if1 .left
 returns : tie.Need-returns Inv-loop μ-loop
 returns c =
     let a = c .before .before .before .args in
-    sym (low-no (fallsFrom (a .mode) (a .image .now) (a .marks .now) (a .p)) (length (a .image .now)) (λ q. past-limit (a .mode) (a .image .now) (a .marks .now) (a .p) q (c .if1 .taken)) (a .from))
+    sym (low-no (fallsFrom (a .mode) (a .image .now) (a .marks .now) (a .p)) (length (a .image .now))
+    (λ q. past-limit (a .mode) (a .image .now) (a .marks .now) (a .p) q (c .if1 .taken)) (a .from))
 
 loop-holds : tie.Need-loop-holds Inv-loop μ-loop
 loop-holds c =
     let d = c .before in
     let e = d .before in
-    window-start (mode e) (image e) (marks e) (bytes e) (fits e) (p e) (d .end-before .result) (start e .args .from) (c .window .result) (d .end-before .ensures) (c .window .ensures)
+    window-start (mode e) (image e) (marks e) (bytes e) (fits e) (p e) (d .end-before .result) (start e .args .from) (c .window .result)
+    (d .end-before .ensures) (c .window .ensures)
 
 abbrev from : tie.At-loop Inv-loop μ-loop → tie.Else1 Inv-loop μ-loop
 from l = l .before .before .before
@@ -79,7 +81,8 @@ returns-3 c =
     let l = c .before in
     let e = from l in
     let d = l .before .before in
-    sym (window-end (mode e) (image e) (marks e) (bytes e) (fits e) (p e) (d .end-before .result) (l .loop .q) (d .end-before .ensures) (c .loop-test .left)) ∙ l .loop .inv
+    sym (window-end (mode e) (image e) (marks e) (bytes e) (fits e) (p e) (d .end-before .result) (l .loop .q) (d .end-before .ensures) (c .loop-test .left))
+    ∙ l .loop .inv
 
 pub next-fall-spec : {M : Type 1} → statement M
 next-fall-spec =

@@ -43,7 +43,9 @@ returns-2 : tie.Need-returns-2
 returns-2 c = let t = c .before .before .before in flash-held (mode t) (image t) (q t) (marks t) (c .if2 .taken)
 
 -- the answer names the targets that q had
-told : (c : tie.After-ways-at) (w : Ways) → c .ways-at .result ≡ w → gone w ≡ heldAt (mode (c .before .before .before .before)) (image (c .before .before .before .before)) (marks (c .before .before .before .before)) (q (c .before .before .before .before))
+told : (c : tie.After-ways-at) (w : Ways) → c .ways-at .result ≡ w
+    → gone w ≡ heldAt (mode (c .before .before .before .before)) (image (c .before .before .before .before)) (marks (c .before .before .before .before))
+    (q (c .before .before .before .before))
 told c w e =
     let k = c .before in
     let l = k .before .before in

@@ -68,7 +68,8 @@ returns c =
     let a : ℕ = nameAt (mode t) (image t) (marks t) (q t) in
     let e₁ = k .link .ensures ∙ ap (λ (x : ℕ). linked n x (n + q t) (old t)) (t .named-at .ensures) in
     let e₂ = j .head .ensures ∙ ap (λ (x : ℕ). headed n x (q t) (k .link .last .0)) (t .named-at .ensures) ∙ ap (headed n a (q t)) e₁ in
-    subst (λ (l : List ℕ). Entered (mode t) (image t) (marks t) (q t) l) (sym e₂) (entered (mode t) (image t) (marks t) (fits t) (q t) (early t) (old t) (start t .pre .2))
+    subst (λ (l : List ℕ). Entered (mode t) (image t) (marks t) (q t) l) (sym e₂)
+    (entered (mode t) (image t) (marks t) (fits t) (q t) (early t) (old t) (start t .pre .2))
 
 pub enter-spec : {M : Type 1} → statement M
 enter-spec =

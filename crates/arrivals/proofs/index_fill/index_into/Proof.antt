@@ -57,14 +57,18 @@ loop-holds : tie.Need-loop-holds Inv-loop μ-loop
 loop-holds c =
     let b = c .before .before in
     let o = b .before .before in
-    let e = o .before in
-    (omega arith, subst (λ (l : List ℕ). Entered (mode e) (image e) (marks e) (length (image e) - 1) l) (sym (b .blank .ensures)) (blank-entered (mode e) (image e) (marks e) (bytes e) (fits e) (length (room e)) (own o)))
+    let e = o .before in (
+      omega arith,
+      subst (λ (l : List ℕ). Entered (mode e) (image e) (marks e) (length (image e) - 1) l) (sym (b .blank .ensures))
+          (blank-entered (mode e) (image e) (marks e) (bytes e) (fits e) (length (room e)) (own o)),
+    )
 
 abbrev from : tie.At-loop Inv-loop μ-loop → tie.Else2 Inv-loop μ-loop
 from l = l .before .before .before .before .before
 
 -- the position before
-lower : (t : tie.In-loop Inv-loop μ-loop) → let l = t .before in (l .loop .q - 1 ≡ l .loop .q - 1 - 1 + 1) × (l .loop .q - 1 - 1 + 1 < length (image (from l .before)))
+lower : (t : tie.In-loop Inv-loop μ-loop) → let l = t .before in
+    (l .loop .q - 1 ≡ l .loop .q - 1 - 1 + 1) × (l .loop .q - 1 - 1 + 1 < length (image (from l .before)))
 lower t = let l = t .before in let h : 1 < l .loop .q = t .loop-test .taken in (omega arith, omega (arith, h, l .loop .inv .0))
 
 cast-enter : tie.Need-cast-enter Inv-loop μ-loop

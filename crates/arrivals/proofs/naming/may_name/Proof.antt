@@ -7,7 +7,7 @@ use borrow.Author.Tests.{eq-eqb, ne-eqb}
 use Rattle.instruction.proofs.Ands.{not-first}
 use Rattle.instruction.specs.First.{firstSays}
 use Rattle.instruction.specs.declared.first.FirstByte.{FirstByte}
-use Rattle.targets.specs.Opening.{isNaming}
+use Rattle.targets.specs.Ways.{isNaming}
 use Rattle.reach.specs.Mark.{traced}
 use Rattle.arrivals.specs.Search.{mayName}
 use Rattle.arrivals.proofs.naming.may_name.Statement.{statement}

@@ -19,11 +19,13 @@ fitting : (c : tie.Start) {k : Kind} → c .args .kind ≡ k → unfit k (toZ w3
 fitting c e = rw (back (c .fits .z), ← e) (c .pre .2)
 
 -- an address at the kind that the arm has is the address at the operand's kind
-at : (c : tie.Start) {k : Kind} → c .args .kind ≡ k → {r : ℤ} → r ≡ addressOf (c .args .mode) (c .args .next) k (toZ w32 (ofZ w32 (c .args .z))) → r ≡ addressOf (c .args .mode) (c .args .next) (c .args .kind) (c .args .z)
+at : (c : tie.Start) {k : Kind} → c .args .kind ≡ k → {r : ℤ} → r ≡ addressOf (c .args .mode) (c .args .next) k (toZ w32 (ofZ w32 (c .args .z)))
+    → r ≡ addressOf (c .args .mode) (c .args .next) (c .args .kind) (c .args .z)
 at c e f = rw (e, ← back (c .fits .z)) f
 
 -- an answer read back from the machine's number
-answered : (c : tie.Start) {k : Kind} → c .args .kind ≡ k → {r : ℤ} → Read r → r ≡ addressOf (c .args .mode) (c .args .next) k (toZ w32 (ofZ w32 (c .args .z))) → toZ w32 (ofZ w32 r) ≡ addressOf (c .args .mode) (c .args .next) (c .args .kind) (c .args .z)
+answered : (c : tie.Start) {k : Kind} → c .args .kind ≡ k → {r : ℤ} → Read r → r ≡ addressOf (c .args .mode) (c .args .next) k (toZ w32 (ofZ w32 (c .args .z)))
+    → toZ w32 (ofZ w32 r) ≡ addressOf (c .args .mode) (c .args .next) (c .args .kind) (c .args .z)
 answered c e f g = f ∙ at c e g
 
 pub address-of-spec : {M : Type 1} → statement M

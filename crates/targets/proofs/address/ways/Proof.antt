@@ -15,10 +15,13 @@ abbrev Targets : tie.After-flow → List ℤ → Type 0
 Targets c ts = ts ≡ targetsIn (c .before .args .mode) (c .before .args .next) (c .before .args .instr)
 
 -- the targets at the flow that the arm has
-at : (c : tie.After-flow) {f : Flow} → c .flow .result ≡ f → Targets c (byFlow f (addressIn (c .before .args .mode) (c .before .args .next) (c .before .args .instr)) (inMode (c .before .args .mode) (pos (c .before .args .next))))
+at : (c : tie.After-flow) {f : Flow} → c .flow .result ≡ f
+    → Targets c (byFlow f (addressIn (c .before .args .mode) (c .before .args .next) (c .before .args .instr))
+    (inMode (c .before .args .mode) (pos (c .before .args .next))))
 unfolding targetsIn
 at c e =
-    ap (λ (g : Flow). byFlow g (addressIn (c .before .args .mode) (c .before .args .next) (c .before .args .instr)) (inMode (c .before .args .mode) (pos (c .before .args .next))))
+    ap (λ (g : Flow). byFlow g (addressIn (c .before .args .mode) (c .before .args .next) (c .before .args .instr))
+    (inMode (c .before .args .mode) (pos (c .before .args .next))))
     (sym e ∙ c .flow .ensures)
 
 -- a target read back from the machine's number

@@ -11,7 +11,8 @@ use Rattle.targets.proofs.here.instr_at.Tie as tie
 returns : tie.Need-returns
 returns c = let a = c .before .before .args in outside-here (a .image .now) (a .p) (c .if1 .taken)
 
-decoded : (d : tie.After-decode) → decodedOf (d .decode .result) ≡ decodeAnswer (drop (d .before .before .before .before .args .p) (d .before .before .before .before .args .image .now))
+decoded : (d : tie.After-decode)
+    → decodedOf (d .decode .result) ≡ decodeAnswer (drop (d .before .before .before .before .args .p) (d .before .before .before .before .args .image .now))
 decoded d =
     let a = d .before .before .before .before .args in d .decode .ensures ∙ ap decodeAnswer (to-end (a .image .now) (a .p))
 

@@ -7,7 +7,7 @@ use Prim.Native.Nat.{ℕ, _+_}
 use borrow.Author.Needs.{needs}
 use Rattle.instruction.specs.declared.mode.Mode.{Mode}
 use Rattle.targets.specs.At.{sizeHere, instrHere, nameHere, placeOf}
-use Rattle.targets.specs.Opening.{isNaming}
+use Rattle.targets.specs.Ways.{isNaming}
 use Rattle.targets.specs.Targets.{addressIn}
 use Rattle.targets.proofs.Openings.{names}
 use Rattle.targets.proofs.name.name_by.Statement.{statement}

@@ -47,7 +47,8 @@ returns-3 : tie.Need-returns-3
 returns-3 c =
     let t = c .before in
     let a = t .before in
-    is-cut (image a) (p a) (a .before .before .before .before .if1 .left) (a .before .before .before .if2 .left) _ (next-is a) (t .if3 .taken) (c .new .result) (c .new .ensures)
+    is-cut (image a) (p a) (a .before .before .before .before .if1 .left) (a .before .before .before .if2 .left) _ (next-is a) (t .if3 .taken) (c .new .result)
+    (c .new .ensures)
 
 returns-4 : tie.Need-returns-4
 unfolding firstSays

@@ -8,7 +8,7 @@ use borrow.Author.Needs.{needs}
 use lib.IntN.{pos}
 use Rattle.instruction.specs.declared.mode.Mode.{Mode}
 use Rattle.targets.specs.At.{sizeHere, placeOf}
-use Rattle.targets.specs.Opening.{isNaming}
+use Rattle.targets.specs.Ways.{isNaming}
 use Rattle.targets.specs.Targets.{inMode}
 use Rattle.targets.proofs.Openings.{goes-by}
 use Rattle.targets.proofs.place.places_by.Statement.{statement}
