@@ -36,14 +36,17 @@ number-is (Malformed k) = refl
 number-is (PastEnd k) = refl
 
 -- a line's number is at most the number of all lines, b
-refused-low : (mode : Mode) (n b : ℕ) (ls : List (List ℕ)) (place : Place) (sheet : Sheet) → place .line + length ls ≤ b + 1 → valueIn (judge (lineRefusals mode n place sheet ls) b) ≤ b
+refused-low : (mode : Mode) (n b : ℕ) (ls : List (List ℕ)) (place : Place) (sheet : Sheet) → place .line + length ls ≤ b + 1
+    → valueIn (judge (lineRefusals mode n place sheet ls) b) ≤ b
 unfolding lineRefusals judge placeAfter
 refused-low mode n b [] place sheet k = omega arith
 refused-low mode n b (l ∷ ls) place sheet k =
     by (isFit mode place sheet l) (reach n (positionOn l) (listedOn l))
     (refused-low mode n b ls (placeAfter place (length l) (recordOf l)) (sheetWith sheet l) (omega (arith, k, after-most (place .line))))
   where
-    by : (f r : Bool) → valueIn (judge (lineRefusals mode n (placeAfter place (length l) (recordOf l)) (sheetWith sheet l) ls) b) ≤ b → valueIn (judge (refuse (not f) 15 (pos (place .line) ∷ []) ∷ refuse r 16 (pos (place .line) ∷ []) ∷ lineRefusals mode n (placeAfter place (length l) (recordOf l)) (sheetWith sheet l) ls) b) ≤ b
+    by : (f r : Bool) → valueIn (judge (lineRefusals mode n (placeAfter place (length l) (recordOf l)) (sheetWith sheet l) ls) b) ≤ b
+        → valueIn (judge (refuse (not f) 15 (pos (place .line) ∷ []) ∷ refuse r 16 (pos (place .line) ∷ [])
+        ∷ lineRefusals mode n (placeAfter place (length l) (recordOf l)) (sheetWith sheet l) ls) b) ≤ b
     by true true rest = omega arith
     by true false rest = rest
     by false r rest = omega arith
@@ -53,7 +56,9 @@ module _ (mode : Mode) (text : List ℕ) (n : ℕ) (image marks : List ℕ) (t :
   unfolding backAnswer judge
   answer-small = by (ltb 65536 n) (ltb (length marks) n) (ltb (length image) n)
     where
-      by : (a b c : Bool) → valueIn (judge (refuse a 1 (pos n ∷ []) ∷ refuse b 2 (pos (length marks) ∷ []) ∷ refuse c 11 (pos n ∷ []) ∷ lineRefusals mode n start (emptySheet n) (lines text)) (length (lines text))) < 2 ^ 63
+      by : (a b c : Bool) → valueIn (judge
+          (refuse a 1 (pos n ∷ []) ∷ refuse b 2 (pos (length marks) ∷ []) ∷ refuse c 11 (pos n ∷ []) ∷ lineRefusals mode n start (emptySheet n) (lines text))
+          (length (lines text))) < 2 ^ 63
       by true b c = h
       by false true c = m
       by false false true = h

@@ -89,7 +89,8 @@ module _ (text : List ℕ) (t : length text < 2 ^ 63) where
             let v : judge (inputRefusals text) counts ≡ accepted counts = e ∙ ap accepted (sym (accepts (inputRefusals text) counts c e)) in
             rw (past-all (noRoom ∷ []) counts counts (inputRefusals text) v) (room-small (held-small v))
         by (refused n vs) e =
-            rw (first-of (noRoom ∷ []) counts counts (inputRefusals text) n vs e) (one-small n vs (carries One (inputRefusals text) counts n vs input-each (sym e)))
+            rw (first-of (noRoom ∷ []) counts counts (inputRefusals text) n vs e)
+            (one-small n vs (carries One (inputRefusals text) counts n vs input-each (sym e)))
 
     pub parsed-small : (r : Parsed) → parsedOf r ≡ parseAnswer text entries image → FitsParsed r
     parsed-small r e = reply-small r (rw e answer-small)

@@ -45,7 +45,8 @@ unfolding damageRefusals
 damage-later image m p ts = (later (omega arith), damages-later (length image) m ts)
 
 -- the refusals of a run that it meets before it begins
-begun : {A : Type 0} (j : Answer A) (b : Answer RunResult) (n : ℕ) (vs : List ℤ) → (refused n vs ≡ b → n ≡ 5) → n < 4 → refused n vs ≡ andThen j b → refused n vs ≡ j
+begun : {A : Type 0} (j : Answer A) (b : Answer RunResult) (n : ℕ) (vs : List ℤ) → (refused n vs ≡ b → n ≡ 5) → n < 4 → refused n vs ≡ andThen j b
+    → refused n vs ≡ j
 begun (accepted a) b n vs f h e = let p : n ≡ 5 = f e in absurd (omega arith)
 begun (refused k ws) b n vs f h e = let p : n ≡ k = cc in let q : vs ≡ ws = cc in rw (p, q) refl
 
@@ -88,7 +89,8 @@ module _ (image marks : List ℕ) (i : length image < 2 ^ 63) (m : length marks 
     refused-small k n h e =
         let out = outcomeOf mode image marks entries pins limit in
         let f = ended image (out .end) (steps out) (length (noted out)) k (pos n ∷ []) in
-        carries Small (runRefusals image marks order) tt k (pos n ∷ []) (this i, (this m, (this o, tt))) (begun (runJudged image marks order) (ranAnswer image out) k (pos n ∷ []) f h e) h n refl
+        carries Small (runRefusals image marks order) tt k (pos n ∷ []) (this i, (this m, (this o, tt)))
+        (begun (runJudged image marks order) (ranAnswer image out) k (pos n ∷ []) f h e) h n refl
 
     pub ran-small : (d : Ran) → ranOf d ≡ runAnswer mode image marks order entries pins limit → lengthInRan d < 2 ^ 63
     ran-small (ran.Finished c) e = omega arith

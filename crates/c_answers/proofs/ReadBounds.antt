@@ -52,7 +52,8 @@ module _ (mode : Mode) (text : List ℕ) (place : Place) (t : length text < 2 ^ 
   unfolding judge
   line-small l h = by (isGood mode place l) refl
     where
-      by : (b : Bool) → isGood mode place l ≡ b → Small (judge (refuse (not b) 15 (pos (place .line) ∷ []) ∷ []) (listed (recordOf l) (placeAfter place (length l) (recordOf l))))
+      by : (b : Bool) → isGood mode place l ≡ b
+          → Small (judge (refuse (not b) 15 (pos (place .line) ∷ []) ∷ []) (listed (recordOf l) (placeAfter place (length l) (recordOf l))))
       by true e =
           let g = good-line mode l (first-part (isLine mode l) (follows place (recordOf l)) e) in
           omega (arith, counted l, ap (λ (r : Record). r .count) (record-is l g))

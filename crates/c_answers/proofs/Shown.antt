@@ -52,12 +52,14 @@ module _ (image m : List ℕ) (i : length image < 2 ^ 63) (k : length m < 2 ^ 63
   unfolding viewAnswer roomAnswer viewRefusals
   past-limit out room h = long-image image m _ (length out) h ∙ sym (long-image image m _ 0 h)
 
-  pub limited-small : (out room : List ℕ) → (length image ≤ 65536 → length out < 2 ^ 63) → (v : Viewed) → viewedOf v ≡ viewAnswer image m out room → lengthInViewed v < 2 ^ 63
+  pub limited-small : (out room : List ℕ) → (length image ≤ 65536 → length out < 2 ^ 63) → (v : Viewed) → viewedOf v ≡ viewAnswer image m out room
+      → lengthInViewed v < 2 ^ 63
   limited-small out room o v e =
       ⊎-elim (λ h. viewed-small [] room (omega arith) v (e ∙ past-limit out room h)) (λ h. viewed-small out room (o h) v e) (lt-or-le 65536 (length image))
 
 -- of a listing
-pub listing-small : (mode : Mode) (image m : List ℕ) → Bytes image → length image ≤ 65536 → (choice : Arrivals) → length (listingOf mode image m choice) < 2 ^ 63
+pub listing-small : (mode : Mode) (image m : List ℕ) → Bytes image → length image ≤ 65536 → (choice : Arrivals)
+    → length (listingOf mode image m choice) < 2 ^ 63
 listing-small mode image m B h Chosen = omega (arith, h, chosen-bound mode image m B)
 listing-small mode image m B h Declined = omega (arith, h, listing-bound mode image m B)
 

@@ -62,12 +62,14 @@ next-small : (position : ℕ) (i : Instr) → position < 2 ^ 32 → nextOf posit
 next-small position i h =
     let k : sizeOf (formIn i) < 4 = size-range (partsOf i .form) (known i .small) .1 in omega arith
 
-pub targets-small : (mode : Mode) (position : ℕ) (i : Instr) (t : Targets) → position < 2 ^ 32 → targetsOf t ≡ targetsAnswer mode position i → nextInTargets t < 2 ^ 63
+pub targets-small : (mode : Mode) (position : ℕ) (i : Instr) (t : Targets) → position < 2 ^ 32 → targetsOf t ≡ targetsAnswer mode position i
+    → nextInTargets t < 2 ^ 63
 unfolding targetsAnswer Next
 targets-small mode position i targets.Nowhere h e = omega arith
 targets-small mode position i (targets.One a) h e = omega arith
 targets-small mode position i (targets.Two a b) h e = omega arith
 targets-small mode position i (targets.PastEnd n) h e =
-    let v : pos n ∷ [] ≡ pos (nextOf position i) ∷ [] = carries (Next position i) _ _ 14 (pos n ∷ []) (λ q. refl, (other-14, (other-14, (other-14, tt)))) e refl in
+    let v : pos n ∷ [] ≡ pos (nextOf position i) ∷ [] =
+    carries (Next position i) _ _ 14 (pos n ∷ []) (λ q. refl, (other-14, (other-14, (other-14, tt)))) e refl in
     let p : n ≡ nextOf position i = cc in rw p (next-small position i h)
 targets-small mode position i (targets.Unfit m) h e = omega arith

@@ -25,11 +25,13 @@ module _ {r : Reply} {n : ℕ} where
   pub told3 : {a a′ b b′ c c′ : ℤ} → r ≡ reply n (a ∷ b ∷ c ∷ []) → a ≡ a′ → b ≡ b′ → c ≡ c′ → r ≡ reply n (a′ ∷ b′ ∷ c′ ∷ [])
   told3 e p q s = rw (← p, ← q, ← s) e
 
-  pub told5 : {a a′ b b′ c c′ d d′ f f′ : ℤ} → r ≡ reply n (a ∷ b ∷ c ∷ d ∷ f ∷ []) → a ≡ a′ → b ≡ b′ → c ≡ c′ → d ≡ d′ → f ≡ f′ → r ≡ reply n (a′ ∷ b′ ∷ c′ ∷ d′ ∷ f′ ∷ [])
+  pub told5 : {a a′ b b′ c c′ d d′ f f′ : ℤ} → r ≡ reply n (a ∷ b ∷ c ∷ d ∷ f ∷ []) → a ≡ a′ → b ≡ b′ → c ≡ c′ → d ≡ d′ → f ≡ f′
+      → r ≡ reply n (a′ ∷ b′ ∷ c′ ∷ d′ ∷ f′ ∷ [])
   told5 e p q s t u = rw (← p, ← q, ← s, ← t, ← u) e
 
 -- the reply to the case that an arm of a match has is the reply to the whole enum
-pub by-case : {R A : Type 0} (own : A → List ℤ) (answerOf : R → Answer A) {x k : R} {r : Reply} → x ≡ k → r ≡ replyOf own (answerOf k) → r ≡ replyOf own (answerOf x)
+pub by-case : {R A : Type 0} (own : A → List ℤ) (answerOf : R → Answer A) {x k : R} {r : Reply} → x ≡ k → r ≡ replyOf own (answerOf k)
+    → r ≡ replyOf own (answerOf x)
 by-case own answerOf e f = rw e f
 
 -- what the caller gets of a reply

@@ -61,7 +61,8 @@ unfolding message codes
 line-short n vs h k =
     let d = both (codes "dis: ") (decimal n) 5 20 (omega arith) (decimal-length n (omega (arith, h))) in
     let c = both (codes "dis: " ++ decimal n) (codes ": ") 25 2 d (omega arith) in
-    both (codes "dis: " ++ decimal n ++ codes ": " ++ reason n vs) (10 ∷ []) 108 1 (both (codes "dis: " ++ decimal n ++ codes ": ") (reason n vs) 27 81 c k) (omega arith)
+    both (codes "dis: " ++ decimal n ++ codes ": " ++ reason n vs) (10 ∷ []) 108 1 (both (codes "dis: " ++ decimal n ++ codes ": ") (reason n vs) 27 81 c k)
+    (omega arith)
 
 one-or-two : (vs : List ℤ) → OneOrTwo vs → value vs 2 ≤ 2
 one-or-two vs (inl e) = let f = ap natAbs e in omega (arith, f)
@@ -72,7 +73,8 @@ told-short words image h B n vs (word e f) =
     rw e (line-short 13 vs (omega arith) (omega (arith, reason-13 vs (omega (arith, f, h)))))
 told-short words image h B n vs (long e) = rw e (line-short 1 vs (omega arith) (omega (arith, reason-1 vs)))
 told-short words image h B n vs (cutOff a e f) =
-    let m = run-missing (a .mode) image (lentRoom image) (lentRoom image) (entriesFor (a .entries)) (a .pins) (length image) vs B (f ∙ ap (λ (k : ℕ). refused k vs) e) in
+    let m = run-missing (a .mode) image (lentRoom image) (lentRoom image) (entriesFor (a .entries)) (a .pins) (length image) vs B
+    (f ∙ ap (λ (k : ℕ). refused k vs) e) in
     rw e (line-short 5 vs (omega arith) (reason-5 vs (one-or-two vs m)))
 
 -- what is accepted is a listing of an image that is not too long

@@ -70,4 +70,7 @@ lists out room v e = by (ltb (length room) (length out)) refl
 
 -- what is printed is the same
 pub shown-as : (d e : Answer (List ℕ)) → d ≡ e → (room : List ℕ) (r : Answer Output) (t : List ℕ) → Is e room r t → Is d room r t
-shown-as d e f room r t p = (p .0 ∙ ap (λ (x : Answer (List ℕ)). shownAnswer x room) (sym f), p .1 ∙ ap (λ (x : Answer (List ℕ)). roomAfter [] (printed x) room) (sym f))
+shown-as d e f room r t p = (
+  p .0 ∙ ap (λ (x : Answer (List ℕ)). shownAnswer x room) (sym f),
+  p .1 ∙ ap (λ (x : Answer (List ℕ)). roomAfter [] (printed x) room) (sym f),
+)

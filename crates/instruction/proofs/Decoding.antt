@@ -20,14 +20,16 @@ use Rattle.instruction.proofs.Judging.{pass, stop, done}
 use Rattle.instruction.proofs.Known.{known, form-small}
 
 -- a position, its byte, and the form's size less what is left are what refusal 5 tells
-pub cut-at : (s : List ℕ) (p : ℕ) (d : CutOff) → d .position ≡ p → d .first ≡ getD s p 0 → d .missing ≡ sizeOf (formAt (formOf (getD s p 0))) - (length s - p) → d ≡ cutAt s p
+pub cut-at : (s : List ℕ) (p : ℕ) (d : CutOff) → d .position ≡ p → d .first ≡ getD s p 0 → d .missing ≡ sizeOf (formAt (formOf (getD s p 0))) - (length s - p)
+    → d ≡ cutAt s p
 unfolding cutAt
 cut-at s p d x y z =
     ap₂ (λ (a : ℕ) (b : ℕ). record { position = a; first = b; missing = d .missing }) x y
     ∙ ap (λ (a : ℕ). record { position = p; first = getD s p 0; missing = a }) z
 
 -- from the start all bytes are left
-pub cut-from-start : (s : List ℕ) (d : CutOff) → d .position ≡ 0 → d .first ≡ getD s 0 0 → d .missing ≡ sizeOf (formAt (formOf (getD s 0 0))) - length s → d ≡ cutAt s 0
+pub cut-from-start : (s : List ℕ) (d : CutOff) → d .position ≡ 0 → d .first ≡ getD s 0 0 → d .missing ≡ sizeOf (formAt (formOf (getD s 0 0))) - length s
+    → d ≡ cutAt s 0
 cut-from-start s d x y z =
     let all : length s ≡ length s - 0 = omega arith in
     cut-at s 0 d x y (z ∙ ap (λ (n : ℕ). sizeOf (formAt (formOf (getD s 0 0))) - n) all)

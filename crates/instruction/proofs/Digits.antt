@@ -2,7 +2,8 @@
 -- Assumes nothing.
 use mathlib.Core.Path.{_≡_, ap, sym, _∙_}
 use Prim.Native.Nat.{ℕ, zero, suc, _+_, _*_, _/_, _%_, _^_, _<_}
-use native.Mathlib.Nat.{add-zero, add-comm, mul-suc, mul-zero, pow-zero, div-one, div-div-eq-div-mul, mul-add-div, div-eq-of-lt, mul-add-mod-self-left, mod-eq-of-lt}
+use native.Mathlib.Nat.{add-zero, add-comm, mul-suc, mul-zero, pow-zero, div-one, div-div-eq-div-mul, mul-add-div, div-eq-of-lt, mul-add-mod-self-left}
+use native.Mathlib.Nat.{mod-eq-of-lt}
 use native.Mathlib.Omega.{arith}
 use lib.Pow.{pow-add, pow-pos}
 use Rattle.instruction.specs.Tables.{digitsFrom}

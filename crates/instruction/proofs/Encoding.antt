@@ -59,7 +59,8 @@ module _ (i : Instr) (room : List ℕ) where
   need = sizeOf (formIn i)
 
   -- what is left to say once the answer is known
-  held : (r : Answer ℕ) → encodeAnswer i room ≡ r → (t : List ℕ) → after r (instrBytes i ++ drop need room) room ≡ t → (r ≡ encodeAnswer i room) × (t ≡ encodeRoom i room)
+  held : (r : Answer ℕ) → encodeAnswer i room ≡ r → (t : List ℕ) → after r (instrBytes i ++ drop need room) room ≡ t
+      → (r ≡ encodeAnswer i room) × (t ≡ encodeRoom i room)
   unfolding encodeRoom
   held r e t f = (sym e, rw e (sym f))
 
@@ -72,20 +73,23 @@ module _ (i : Instr) (room : List ℕ) where
   unfolding fitAnswer encodeAnswer
   no-room e h = held (refused 11 (pos need ∷ [])) (past-all _ tt need (misfits i) (sym e) ∙ stop _ _ _ (lt-ltb (length room) need h)) room refl
 
-  pub writes : accepted tt ≡ fitAnswer i → need ≤ length room → (t : List ℕ) → instrBytes i ++ drop need room ≡ t → (accepted need ≡ encodeAnswer i room) × (t ≡ encodeRoom i room)
+  pub writes : accepted tt ≡ fitAnswer i → need ≤ length room → (t : List ℕ) → instrBytes i ++ drop need room ≡ t
+      → (accepted need ≡ encodeAnswer i room) × (t ≡ encodeRoom i room)
   unfolding fitAnswer encodeAnswer
   writes e h t f =
       held (accepted need) (past-all _ tt need (misfits i) (sym e) ∙ pass _ _ _ (le-ltb (length room) need h) ∙ done _) t f
 
   -- the same of what the code wrote by the shape
-  module _ (v : Parts) (apart : v ≡ partsOf i) (t : Shape) (shape : t ≡ formAt (v .form) .shape) (u : ℕ) (fixed : u ≡ value (getD (bits (formAt (v .form))) 0 []) []) (fit : accepted tt ≡ fitAnswer i) (n : ℕ) (size : n ≡ length (blank t)) where
+  module _ (v : Parts) (apart : v ≡ partsOf i) (t : Shape) (shape : t ≡ formAt (v .form) .shape) (u : ℕ)
+      (fixed : u ≡ value (getD (bits (formAt (v .form))) 0 []) []) (fit : accepted tt ≡ fitAnswer i) (n : ℕ) (size : n ≡ length (blank t)) where
     abbrev room′ : List ℕ
     room′ = writtenRoom u t (v .a) (v .b) (v .c) room
 
     needed : length (blank t) ≡ need
     needed = sized (v .form) t (form-small i apart) shape ∙ ap (λ (w : Parts). sizeOf (formAt (w .form))) apart
 
-    pub short : leb (length (blank t)) (length room) ≡ false → (s : List ℕ) → s ≡ room′ → (refused 11 (pos n ∷ []) ≡ encodeAnswer i room) × (s ≡ encodeRoom i room)
+    pub short : leb (length (blank t)) (length room) ≡ false → (s : List ℕ) → s ≡ room′
+        → (refused 11 (pos n ∷ []) ≡ encodeAnswer i room) × (s ≡ encodeRoom i room)
     unfolding writtenRoom
     short h s e =
         let l : length room < need = rw (← needed) (leb-false (length (blank t)) (length room) h) in

@@ -10,7 +10,8 @@ use lib.ListN.{getD}
 use Rattle.instruction.specs.Bytes.{Bytes}
 use Rattle.instruction.specs.Kinds.{kindsOf}
 use Rattle.instruction.specs.declared.kind.Shape.{Shape}
-use Rattle.instruction.specs.declared.kind.Shape.the-variants.{Bare, Imm, D9, Ri, ImmD9, ImmRi, D9B3, A12, A16, R16, R8, D9B3R8, D9R8, RiR8, ImmR8, RiImmR8}
+use Rattle.instruction.specs.declared.kind.Shape.the-variants.{Bare, Imm, D9, Ri, ImmD9, ImmRi, D9B3, A12, A16, R16, R8, D9B3R8, D9R8, RiR8, ImmR8}
+use Rattle.instruction.specs.declared.kind.Shape.the-variants.{RiImmR8}
 use Rattle.instruction.specs.Code.{shortOf}
 use Rattle.instruction.specs.Layout.{blank, fieldsBy}
 use Rattle.instruction.specs.declared.layout.Fields.{Fields}
@@ -53,7 +54,8 @@ says A12 s h = rw (low8 (getD s 1 0) (h 1)) (simp (add-zero, zero-add, high3) (m
 says A16 s h = rw (high8 (getD s 1 0) (h 1), low8 (getD s 2 0) (h 2)) (simp (add-zero, zero-add) (make3 (ap pos (omega arith)) refl refl))
 says R16 s h = rw (low8 (getD s 1 0) (h 1), high8 (getD s 2 0) (h 2)) (simp (add-zero, zero-add) (make3 (ap pos (omega arith)) refl refl))
 says R8 s h = rw (low8 (getD s 1 0) (h 1)) (simp (add-zero, zero-add) (make3 refl refl refl))
-says D9B3R8 s h = rw (low8 (getD s 1 0) (h 1), low8 (getD s 2 0) (h 2)) (simp (add-zero, zero-add, low3) (make3 (ap pos (omega arith)) (ap pos (omega arith)) refl))
+says D9B3R8 s h = rw (low8 (getD s 1 0) (h 1), low8 (getD s 2 0) (h 2))
+    (simp (add-zero, zero-add, low3) (make3 (ap pos (omega arith)) (ap pos (omega arith)) refl))
 says D9R8 s h = rw (low8 (getD s 1 0) (h 1), low8 (getD s 2 0) (h 2)) (simp (add-zero, zero-add) (make3 (ap pos (omega arith)) refl refl))
 says RiR8 s h = rw (low8 (getD s 1 0) (h 1)) (simp (add-zero, zero-add) (make3 (ap pos (omega arith)) refl refl))
 says ImmR8 s h = rw (low8 (getD s 1 0) (h 1), low8 (getD s 2 0) (h 2)) (simp (add-zero, zero-add) (make3 (ap pos (omega arith)) refl refl))

@@ -54,7 +54,8 @@ module _ (mode : Mode) (k : Kinds) (a b c : ℤ) (base : ℕ) where
 
       module _ (y : ℤ) (ey : accepted y ≡ answerOf mode base 2 (k .b) b) where
         -- the first two operands are accepted: the third decides
-        third : (m : Fields) → judge (operandRefusals mode base 1 (k .a) a ++ (operandRefusals mode base 2 (k .b) b ++ operandRefusals mode base 3 (k .c) c)) m ≡ judge (operandRefusals mode base 3 (k .c) c) m
+        third : (m : Fields) → judge (operandRefusals mode base 1 (k .a) a ++ (operandRefusals mode base 2 (k .b) b ++ operandRefusals mode base 3 (k .c) c)) m
+            ≡ judge (operandRefusals mode base 3 (k .c) c) m
         third m =
             goes-on (operandRefusals mode base 1 (k .a) a) _ (fieldOf mode base (k .a) a) x m ex
             ∙ goes-on (operandRefusals mode base 2 (k .b) b) _ (fieldOf mode base (k .b) b) y m ey

@@ -47,7 +47,8 @@ module _ {A B : Type 0} (qs : List Refusal) (a : A) (b : B) where
   first-of [] n vs e = let z : _≡_ {A = ℕ} 0 1 = cc in absurd (omega arith)
   first-of (r ∷ rs) n vs e = by (r .holds) refl e (first-of rs n vs)
     where
-      by : (t : Bool) → r .holds ≡ t → cond t (refused (r .number) (r .values)) (judge rs a) ≡ refused n vs → (judge rs a ≡ refused n vs → judge (rs ++ qs) b ≡ refused n vs) → judge (r ∷ (rs ++ qs)) b ≡ refused n vs
+      by : (t : Bool) → r .holds ≡ t → cond t (refused (r .number) (r .values)) (judge rs a) ≡ refused n vs
+          → (judge rs a ≡ refused n vs → judge (rs ++ qs) b ≡ refused n vs) → judge (r ∷ (rs ++ qs)) b ≡ refused n vs
       by true p f rest = stop r (rs ++ qs) b p ∙ (let g : r .number ≡ n = cc in let h : r .values ≡ vs = cc in cc)
       by false p f rest = pass r (rs ++ qs) b p ∙ rest f
 
@@ -56,7 +57,8 @@ module _ {A B : Type 0} (qs : List Refusal) (a : A) (b : B) where
   past-all [] e = refl
   past-all (r ∷ rs) e = by (r .holds) refl e (past-all rs)
     where
-      by : (t : Bool) → r .holds ≡ t → cond t (refused (r .number) (r .values)) (judge rs a) ≡ accepted a → (judge rs a ≡ accepted a → judge (rs ++ qs) b ≡ judge qs b) → judge (r ∷ (rs ++ qs)) b ≡ judge qs b
+      by : (t : Bool) → r .holds ≡ t → cond t (refused (r .number) (r .values)) (judge rs a) ≡ accepted a
+          → (judge rs a ≡ accepted a → judge (rs ++ qs) b ≡ judge qs b) → judge (r ∷ (rs ++ qs)) b ≡ judge qs b
       by true p f rest = let z : _≡_ {A = ℕ} 0 1 = cc in absurd (omega arith)
       by false p f rest = pass r (rs ++ qs) b p ∙ rest f
 

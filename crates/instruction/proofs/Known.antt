@@ -7,7 +7,13 @@ use Rattle.instruction.specs.Forms.{forms, formAt, formNamed}
 use Rattle.instruction.specs.Parts.{partsOf, madeOf}
 use Rattle.instruction.specs.declared.instr.Parts.{Parts}
 use Rattle.instruction.specs.declared.instr.Instr.{Instr}
-use Rattle.instruction.specs.declared.instr.Instr.the-variants.{«Add_i8», «Add_d9», «Add_Ri», «Addc_i8», «Addc_d9», «Addc_Ri», «Sub_i8», «Sub_d9», «Sub_Ri», «Subc_i8», «Subc_d9», «Subc_Ri», «Inc_d9», «Inc_Ri», «Dec_d9», «Dec_Ri», Mul, Div, «And_i8», «And_d9», «And_Ri», «Or_i8», «Or_d9», «Or_Ri», «Xor_i8», «Xor_d9», «Xor_Ri», Rol, Rolc, Ror, Rorc, «Ld_d9», «Ld_Ri», «St_d9», «St_Ri», «Mov_d9», «Mov_Rj», Ldc, Push, Pop, «Xch_d9», «Xch_Ri», Jmp, Jmpf, Br, Brf, Bz, Bnz, Bp, Bpc, Bn, «Dbnz_d9», «Dbnz_Ri», «Be_i8», «Be_d9», «Be_Rj», «Bne_i8», «Bne_d9», «Bne_Rj», Call, Callf, Callr, Ret, Reti, Clr1, Set1, Not1, Nop, Ldf, Stf}
+use Rattle.instruction.specs.declared.instr.Instr.the-variants.{«Add_i8», «Add_d9», «Add_Ri», «Addc_i8», «Addc_d9», «Addc_Ri», «Sub_i8», «Sub_d9»}
+use Rattle.instruction.specs.declared.instr.Instr.the-variants.{«Sub_Ri», «Subc_i8», «Subc_d9», «Subc_Ri», «Inc_d9», «Inc_Ri», «Dec_d9», «Dec_Ri», Mul}
+use Rattle.instruction.specs.declared.instr.Instr.the-variants.{Div, «And_i8», «And_d9», «And_Ri», «Or_i8», «Or_d9», «Or_Ri», «Xor_i8», «Xor_d9»}
+use Rattle.instruction.specs.declared.instr.Instr.the-variants.{«Xor_Ri», Rol, Rolc, Ror, Rorc, «Ld_d9», «Ld_Ri», «St_d9», «St_Ri», «Mov_d9», «Mov_Rj»}
+use Rattle.instruction.specs.declared.instr.Instr.the-variants.{Ldc, Push, Pop, «Xch_d9», «Xch_Ri», Jmp, Jmpf, Br, Brf, Bz, Bnz, Bp, Bpc, Bn, «Dbnz_d9»}
+use Rattle.instruction.specs.declared.instr.Instr.the-variants.{«Dbnz_Ri», «Be_i8», «Be_d9», «Be_Rj», «Bne_i8», «Bne_d9», «Bne_Rj», Call, Callf, Callr}
+use Rattle.instruction.specs.declared.instr.Instr.the-variants.{Ret, Reti, Clr1, Set1, Not1, Nop, Ldf, Stf}
 
 pub record Known (i : Instr) : Type 0 where
   pub made : madeOf (partsOf i) ≡ i

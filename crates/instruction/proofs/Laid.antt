@@ -10,7 +10,8 @@ use lib.IntN.{ℤ}
 use lib.ListN.{length, take, drop}
 use borrow.Author.Tests.{le-leb, lt-leb}
 use Rattle.instruction.specs.declared.kind.Shape.{Shape}
-use Rattle.instruction.specs.declared.kind.Shape.the-variants.{Bare, Imm, D9, Ri, ImmD9, ImmRi, D9B3, A12, A16, R16, R8, D9B3R8, D9R8, RiR8, ImmR8, RiImmR8}
+use Rattle.instruction.specs.declared.kind.Shape.the-variants.{Bare, Imm, D9, Ri, ImmD9, ImmRi, D9B3, A12, A16, R16, R8, D9B3R8, D9R8, RiR8, ImmR8}
+use Rattle.instruction.specs.declared.kind.Shape.the-variants.{RiImmR8}
 use Rattle.instruction.specs.Code.{codeOf}
 use Rattle.instruction.specs.Layout.{blank, bytesBy, writtenRoom}
 
@@ -40,7 +41,8 @@ module _ (u : ℕ) (t : Shape) (a b c : ℤ) (room : List ℕ) (n : ℕ) (sized 
   too-short h =
       let e : leb (length (blank t)) (length room) ≡ false = rw (← sized) (lt-leb n (length room) h) in (sym e, rw e refl)
 
-  pub laid : n ≤ length room → (l s : List ℕ) → take (length (blank t)) l ≡ bytesBy u t (codeOf a ∷ codeOf b ∷ codeOf c ∷ []) → s ≡ take n l ++ drop n room → (true ≡ leb (length (blank t)) (length room)) × (s ≡ writtenRoom u t a b c room)
+  pub laid : n ≤ length room → (l s : List ℕ) → take (length (blank t)) l ≡ bytesBy u t (codeOf a ∷ codeOf b ∷ codeOf c ∷ []) → s ≡ take n l ++ drop n room
+      → (true ≡ leb (length (blank t)) (length room)) × (s ≡ writtenRoom u t a b c room)
   unfolding writtenRoom
   laid h l s f g =
       let e : leb (length (blank t)) (length room) ≡ true = rw (← sized) (le-leb n (length room) h) in

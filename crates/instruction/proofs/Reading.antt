@@ -46,7 +46,8 @@ pub by-shape : (k : ℕ) → k < 70 → (s : List ℕ) → formed k (fieldsBy (f
 unfolding fieldsIn fieldsBy
 by-shape k h s = make3 k (at 0) (at 1) (at 2)
   where
-    at : (l : ℕ) → operandOf (kindAt (formAt k .shape) l) (field l (blank (formAt k .shape)) s 0) ≡ operandOf (kindAt (formAt k .shape) l) (field l (bits (formAt k)) s 0)
+    at : (l : ℕ) → operandOf (kindAt (formAt k .shape) l) (field l (blank (formAt k .shape)) s 0)
+        ≡ operandOf (kindAt (formAt k .shape) l) (field l (bits (formAt k)) s 0)
     at l =
         ap (operandOf (kindAt (formAt k .shape) l)) (ap (λ (ps : List (List Bit)). field l ps s 0) (sym (laid k h)) ∙ field-free l (bits (formAt k)) s 0)
 

@@ -42,6 +42,7 @@ module _ (mode : Mode) (i : Instr) (base : ℕ) where
   unfolding fieldsAnswer resolveAnswer
   no w e = last-no rs _ _ w e
 
-  pub yes : (f : Fields) → accepted f ≡ fieldsAnswer mode k (v .a) (v .b) (v .c) base → (r : Instr) → r ≡ madeOf (formed (v .form) f) → accepted r ≡ resolveAnswer mode i base
+  pub yes : (f : Fields) → accepted f ≡ fieldsAnswer mode k (v .a) (v .b) (v .c) base → (r : Instr) → r ≡ madeOf (formed (v .form) f)
+      → accepted r ≡ resolveAnswer mode i base
   unfolding fieldsAnswer resolveAnswer
   yes f e r m = sym (last-yes rs _ f _ e ∙ ap accepted (ap (λ (g : Fields). madeOf (formed (v .form) g)) (accepts rs _ f (sym e)) ∙ sym m))

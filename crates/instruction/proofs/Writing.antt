@@ -59,7 +59,8 @@ value-lt (b ∷ p) ns = rw pow-suc (times (bitFor b ns) (2 ^ length p) (value p 
 wrap : (u t e : ℕ) → u ≡ t + e → u < 256 → (t + e) % 256 ≡ u
 wrap u t e p h = omega arith
 
-on-fixed : (ps qs : List (List Bit)) → free ps ≡ qs → drop 1 ps ≡ drop 1 qs → length (getD ps 0 []) ≡ 8 → (ns : List ℕ) → onFixed (value (getD ps 0 []) []) (filled qs ns) ≡ filled ps ns
+on-fixed : (ps qs : List (List Bit)) → free ps ≡ qs → drop 1 ps ≡ drop 1 qs → length (getD ps 0 []) ≡ 8 → (ns : List ℕ)
+    → onFixed (value (getD ps 0 []) []) (filled qs ns) ≡ filled ps ns
 on-fixed [] qs e f l ns = rw (← e) refl
 on-fixed (p ∷ ps) qs e f l ns =
     let small : value p ns < 256 = subst (λ (m : ℕ). value p ns < 2 ^ m) l (value-lt p ns) in
@@ -70,9 +71,11 @@ eight-bits : (k : ℕ) → k < 70 → length (getD (bits (formAt k)) 0 []) ≡ 8
 unfolding forms pattern patternBytes onto bitsGiven nextBracket
 eight-bits = at-each (λ w. length (getD (bits w) 0 [])) (λ w. 8) refl
 
-pub by-shape : (k : ℕ) (s : Shape) → k < 70 → s ≡ formAt k .shape → (t : ℕ) → t ≡ value (getD (bits (formAt k)) 0 []) [] → (ns : List ℕ) → bytesBy t s ns ≡ filled (bits (formAt k)) ns
+pub by-shape : (k : ℕ) (s : Shape) → k < 70 → s ≡ formAt k .shape → (t : ℕ) → t ≡ value (getD (bits (formAt k)) 0 []) [] → (ns : List ℕ)
+    → bytesBy t s ns ≡ filled (bits (formAt k)) ns
 unfolding bytesBy
 by-shape k s h e t f ns = rw (e, f) (on-fixed (bits (formAt k)) (blank (formAt k .shape)) (laid k h) (tail-laid k h) (eight-bits k h) ns)
 
-pub write : (k : ℕ) (s : Shape) (x y z : ℕ) → k < 70 → s ≡ formAt k .shape → (t : ℕ) → t ≡ value (getD (bits (formAt k)) 0 []) [] → take (sizeOf (formAt k)) (written s t x y z) ≡ filled (bits (formAt k)) (x ∷ y ∷ z ∷ [])
+pub write : (k : ℕ) (s : Shape) (x y z : ℕ) → k < 70 → s ≡ formAt k .shape → (t : ℕ) → t ≡ value (getD (bits (formAt k)) 0 []) []
+    → take (sizeOf (formAt k)) (written s t x y z) ≡ filled (bits (formAt k)) (x ∷ y ∷ z ∷ [])
 write k s x y z h e t f = rw (← sized k s h e) (write-by s t x y z ∙ by-shape k s h e t f (x ∷ y ∷ z ∷ []))

@@ -9,7 +9,8 @@ use lib.IntN.{ℤ}
 use lib.ListN.{length, drop}
 use Rattle.instruction.specs.Kinds.{kindAt}
 use Rattle.instruction.specs.declared.kind.Shape.{Shape}
-use Rattle.instruction.specs.declared.kind.Shape.the-variants.{Bare, Imm, D9, Ri, ImmD9, ImmRi, D9B3, A12, A16, R16, R8, D9B3R8, D9R8, RiR8, ImmR8, RiImmR8}
+use Rattle.instruction.specs.declared.kind.Shape.the-variants.{Bare, Imm, D9, Ri, ImmD9, ImmRi, D9B3, A12, A16, R16, R8, D9B3R8, D9R8, RiR8, ImmR8}
+use Rattle.instruction.specs.declared.kind.Shape.the-variants.{RiImmR8}
 use Rattle.instruction.specs.Code.{operandOf, codeOf}
 use Rattle.instruction.specs.Pattern.{Bit, O, of, field, filled}
 use Rattle.instruction.specs.declared.layout.Fields.{Fields}

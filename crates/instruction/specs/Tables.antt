@@ -5,7 +5,8 @@ use mathlib.Core.List.{[]}
 use lib.ListN.{getD}
 use Rattle.instruction.specs.Pattern.{value}
 use Rattle.instruction.specs.declared.kind.Shape.{Shape}
-use Rattle.instruction.specs.declared.kind.Shape.the-variants.{Bare, Imm, D9, Ri, ImmD9, ImmRi, D9B3, A12, A16, R16, R8, D9B3R8, D9R8, RiR8, ImmR8, RiImmR8}
+use Rattle.instruction.specs.declared.kind.Shape.the-variants.{Bare, Imm, D9, Ri, ImmD9, ImmRi, D9B3, A12, A16, R16, R8, D9B3R8, D9R8, RiR8, ImmR8}
+use Rattle.instruction.specs.declared.kind.Shape.the-variants.{RiImmR8}
 use Rattle.instruction.specs.Forms.{formAt, bits}
 use Rattle.instruction.specs.Grid.{entry}
 

@@ -26,7 +26,8 @@ module _ (k t x y z : ℕ) (rest : List ℕ) where
   abbrev first : Shape → ℕ
   first s = getD (strung s) 0 0
 
-  pub back-by : (s : Shape) → In s x y z → t + held s (first s) ≡ first s → formed k (closed s (first s) (getD (strung s) 1 0) (getD (strung s) 2 0)) ≡ operands s k x y z
+  pub back-by : (s : Shape) → In s x y z → t + held s (first s) ≡ first s → formed k (closed s (first s) (getD (strung s) 1 0) (getD (strung s) 2 0))
+      ≡ operands s k x y z
   unfolding closed written blank kindsOf limit held
   back-by Bare (a, b, c) e = make3 k (ap pos (nil x a)) (ap pos (nil y b)) (ap pos (nil z c))
   back-by Imm (a, b, c) e = make3 k (ap pos (byte x a)) (ap pos (nil y b)) (ap pos (nil z c))

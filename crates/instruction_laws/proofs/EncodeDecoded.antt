@@ -37,7 +37,8 @@ module _ (s : List ℕ) (r : FormReads s) (long : sizeOf (formAt (formFirst s)) 
   same : instrBytes i ≡ take (sizeOf (formIn i)) s
   same =
       bytes-by i (r .v) apart (r .numbers) ∙ r .bytes
-      ∙ rw (sized (r .v .form) (shapeOf (r .v)) (r .numbers .form) refl, ← apart) (firsts s (sizeOf (formIn i)) (rw apart (size-range (r .v .form) (r .numbers .form) .1)) size)
+      ∙ rw (sized (r .v .form) (shapeOf (r .v)) (r .numbers .form) refl, ← apart)
+      (firsts s (sizeOf (formIn i)) (rw apart (size-range (r .v .form) (r .numbers .form) .1)) size)
 
   stands : Stands i s
   stands =

@@ -20,7 +20,8 @@ plain : (h n : ℕ) → n < suc h → outside (pos 0) (pos h) (pos n) ≡ false
 plain h n l = rw (le-ltb n 0 (omega arith), le-ltb h n (omega arith))
 
 -- a kind that holds the numbers from 0 to h
-module _ (k : Kind) (h : ℕ) (limited : limit k ≡ suc h) (ranged : (z : ℤ) → unfit k z ≡ outside (pos 0) (pos h) z) (same : (n : ℕ) → operandOf k n ≡ pos n) (kept : (z : ℤ) → used k z ≡ z) where
+module _ (k : Kind) (h : ℕ) (limited : limit k ≡ suc h) (ranged : (z : ℤ) → unfit k z ≡ outside (pos 0) (pos h) z) (same : (n : ℕ) → operandOf k n ≡ pos n)
+    (kept : (z : ℤ) → used k z ≡ z) where
   number : (n : ℕ) → n < limit k → Field k n (operandOf k n)
   number n l =
       record { less = l; operand = refl; code = rw (same n); fit = rw (same n, ranged (pos n)) (plain h n (rw limited at l)); kept = kept (operandOf k n) }
@@ -29,7 +30,8 @@ module _ (k : Kind) (h : ℕ) (limited : limit k ≡ suc h) (ranged : (z : ℤ) 
   from-zero =
       record {
         number = number;
-        operand = λ z u e. let m : Natural z h = natural h z (rw (ranged z) at u) in back k number (natAbs z) (rw limited (omega arith)) (same (natAbs z) ∙ sym (m .is));
+        operand = λ z u e. let m : Natural z h = natural h z (rw (ranged z) at u) in
+            back k number (natAbs z) (rw limited (omega arith)) (same (natAbs z) ∙ sym (m .is));
       }
 
 -- no operand: its number is 0

@@ -31,7 +31,8 @@ pub record FormReads (s : List ℕ) : Type 0 where
   pub form : v .form ≡ formFirst s
   pub fields : fieldsIn (formFirst s) s ≡ v
   pub numbers : Numbers v a b c
-  pub bytes : take (length (blank (shapeOf v))) (written (shapeOf v) (fixedOf (v .form)) a b c) ≡ take (length (blank (shapeOf v))) (getD s 0 0 ∷ getD s 1 0 ∷ getD s 2 0 ∷ [])
+  pub bytes : take (length (blank (shapeOf v))) (written (shapeOf v) (fixedOf (v .form)) a b c)
+      ≡ take (length (blank (shapeOf v))) (getD s 0 0 ∷ getD s 1 0 ∷ getD s 2 0 ∷ [])
 
 pub form-reads : (s : List ℕ) → Bytes s → FormReads s
 form-reads s b =
@@ -46,6 +47,11 @@ form-reads s b =
       c = r .c;
       form = refl;
       fields = sym (read k t s small refl b) ∙ r .reads;
-      numbers = record { form = small; first = law _ .number (r .a) (r .fit .0); second = law _ .number (r .b) (r .fit .1); third = law _ .number (r .c) (r .fit .2) };
+      numbers = record {
+        form = small;
+        first = law _ .number (r .a) (r .fit .0);
+        second = law _ .number (r .b) (r .fit .1);
+        third = law _ .number (r .c) (r .fit .2);
+      };
       bytes = r .bytes;
     }

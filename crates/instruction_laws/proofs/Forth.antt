@@ -30,18 +30,116 @@ module _ (k t x p q : ℕ) (hx : x < 256) (hp : p < 256) (hq : q < 256) where
   pub read-by : (s : Shape) → t + held s x ≡ x → Read s k t x p q
   unfolding closed written blank kindsOf limit held
   read-by Bare e = record { a = 0; b = 0; c = 0; reads = refl; fit = (omega arith, omega arith, omega arith); bytes = cons (omega arith) refl }
-  read-by Imm e = record { a = p; b = 0; c = 0; reads = refl; fit = (omega arith, omega arith, omega arith); bytes = cons (omega arith) (cons (omega arith) refl) }
-  read-by D9 e = record { a = x % 2 * 256 + p; b = 0; c = 0; reads = refl; fit = (omega arith, omega arith, omega arith); bytes = cons (omega arith) (cons (omega arith) refl) }
+  read-by Imm e = record {
+    a = p;
+    b = 0;
+    c = 0;
+    reads = refl;
+    fit = (omega arith, omega arith, omega arith);
+    bytes = cons (omega arith) (cons (omega arith) refl);
+  }
+  read-by D9 e = record {
+    a = x % 2 * 256 + p;
+    b = 0;
+    c = 0;
+    reads = refl;
+    fit = (omega arith, omega arith, omega arith);
+    bytes = cons (omega arith) (cons (omega arith) refl);
+  }
   read-by Ri e = record { a = x % 4; b = 0; c = 0; reads = refl; fit = (omega arith, omega arith, omega arith); bytes = cons (omega arith) refl }
-  read-by ImmD9 e = record { a = q; b = x % 2 * 256 + p; c = 0; reads = refl; fit = (omega arith, omega arith, omega arith); bytes = cons (omega arith) (cons (omega arith) (cons (omega arith) refl)) }
-  read-by ImmRi e = record { a = p; b = x % 4; c = 0; reads = refl; fit = (omega arith, omega arith, omega arith); bytes = cons (omega arith) (cons (omega arith) refl) }
-  read-by D9B3 e = record { a = x / 16 % 2 * 256 + p; b = x % 8; c = 0; reads = refl; fit = (omega arith, omega arith, omega arith); bytes = cons (again-nine t x p hx hp e) (cons (omega arith) refl) }
-  read-by A12 e = record { a = (x / 16 % 2 * 8 + x % 8) * 256 + p; b = 0; c = 0; reads = refl; fit = (omega arith, omega arith, omega arith); bytes = cons (again-twelve t x p hx hp e) (cons (omega arith) refl) }
-  read-by A16 e = record { a = p * 256 + q; b = 0; c = 0; reads = refl; fit = (omega arith, omega arith, omega arith); bytes = cons (omega arith) (cons (omega arith) (cons (omega arith) refl)) }
-  read-by R16 e = record { a = q * 256 + p; b = 0; c = 0; reads = refl; fit = (omega arith, omega arith, omega arith); bytes = cons (omega arith) (cons (omega arith) (cons (omega arith) refl)) }
-  read-by R8 e = record { a = p; b = 0; c = 0; reads = refl; fit = (omega arith, omega arith, omega arith); bytes = cons (omega arith) (cons (omega arith) refl) }
-  read-by D9B3R8 e = record { a = x / 16 % 2 * 256 + p; b = x % 8; c = q; reads = refl; fit = (omega arith, omega arith, omega arith); bytes = cons (again-nine t x p hx hp e) (cons (omega arith) (cons (omega arith) refl)) }
-  read-by D9R8 e = record { a = x % 2 * 256 + p; b = q; c = 0; reads = refl; fit = (omega arith, omega arith, omega arith); bytes = cons (omega arith) (cons (omega arith) (cons (omega arith) refl)) }
-  read-by RiR8 e = record { a = x % 4; b = p; c = 0; reads = refl; fit = (omega arith, omega arith, omega arith); bytes = cons (omega arith) (cons (omega arith) refl) }
-  read-by ImmR8 e = record { a = p; b = q; c = 0; reads = refl; fit = (omega arith, omega arith, omega arith); bytes = cons (omega arith) (cons (omega arith) (cons (omega arith) refl)) }
-  read-by RiImmR8 e = record { a = x % 4; b = p; c = q; reads = refl; fit = (omega arith, omega arith, omega arith); bytes = cons (omega arith) (cons (omega arith) (cons (omega arith) refl)) }
+  read-by ImmD9 e = record {
+    a = q;
+    b = x % 2 * 256 + p;
+    c = 0;
+    reads = refl;
+    fit = (omega arith, omega arith, omega arith);
+    bytes = cons (omega arith) (cons (omega arith) (cons (omega arith) refl));
+  }
+  read-by ImmRi e = record {
+    a = p;
+    b = x % 4;
+    c = 0;
+    reads = refl;
+    fit = (omega arith, omega arith, omega arith);
+    bytes = cons (omega arith) (cons (omega arith) refl);
+  }
+  read-by D9B3 e = record {
+    a = x / 16 % 2 * 256 + p;
+    b = x % 8;
+    c = 0;
+    reads = refl;
+    fit = (omega arith, omega arith, omega arith);
+    bytes = cons (again-nine t x p hx hp e) (cons (omega arith) refl);
+  }
+  read-by A12 e = record {
+    a = (x / 16 % 2 * 8 + x % 8) * 256 + p;
+    b = 0;
+    c = 0;
+    reads = refl;
+    fit = (omega arith, omega arith, omega arith);
+    bytes = cons (again-twelve t x p hx hp e) (cons (omega arith) refl);
+  }
+  read-by A16 e = record {
+    a = p * 256 + q;
+    b = 0;
+    c = 0;
+    reads = refl;
+    fit = (omega arith, omega arith, omega arith);
+    bytes = cons (omega arith) (cons (omega arith) (cons (omega arith) refl));
+  }
+  read-by R16 e = record {
+    a = q * 256 + p;
+    b = 0;
+    c = 0;
+    reads = refl;
+    fit = (omega arith, omega arith, omega arith);
+    bytes = cons (omega arith) (cons (omega arith) (cons (omega arith) refl));
+  }
+  read-by R8 e = record {
+    a = p;
+    b = 0;
+    c = 0;
+    reads = refl;
+    fit = (omega arith, omega arith, omega arith);
+    bytes = cons (omega arith) (cons (omega arith) refl);
+  }
+  read-by D9B3R8 e = record {
+    a = x / 16 % 2 * 256 + p;
+    b = x % 8;
+    c = q;
+    reads = refl;
+    fit = (omega arith, omega arith, omega arith);
+    bytes = cons (again-nine t x p hx hp e) (cons (omega arith) (cons (omega arith) refl));
+  }
+  read-by D9R8 e = record {
+    a = x % 2 * 256 + p;
+    b = q;
+    c = 0;
+    reads = refl;
+    fit = (omega arith, omega arith, omega arith);
+    bytes = cons (omega arith) (cons (omega arith) (cons (omega arith) refl));
+  }
+  read-by RiR8 e = record {
+    a = x % 4;
+    b = p;
+    c = 0;
+    reads = refl;
+    fit = (omega arith, omega arith, omega arith);
+    bytes = cons (omega arith) (cons (omega arith) refl);
+  }
+  read-by ImmR8 e = record {
+    a = p;
+    b = q;
+    c = 0;
+    reads = refl;
+    fit = (omega arith, omega arith, omega arith);
+    bytes = cons (omega arith) (cons (omega arith) (cons (omega arith) refl));
+  }
+  read-by RiImmR8 e = record {
+    a = x % 4;
+    b = p;
+    c = q;
+    reads = refl;
+    fit = (omega arith, omega arith, omega arith);
+    bytes = cons (omega arith) (cons (omega arith) (cons (omega arith) refl));
+  }

@@ -61,7 +61,8 @@ module _ (t u n : ℕ) where
   both : (d b : ℕ) → d < 2 → b < 8 → u ≡ (t + (d * 16 + b)) % 256 → t + (u / 16 % 2 * 16 + u % 8) ≡ u → (u / 16 % 2 ≡ d) × (u % 8 ≡ b)
   both d b h k p e = split (u / 16 % 2) (u % 8) d b (omega arith) k (put t (d * 16 + b) (u / 16 % 2 * 16 + u % 8) (omega arith) p e)
 
-  pub bit8b3 : (m : ℕ) → n < 512 → m < 8 → u ≡ (t + (n / 256 % 2 * 16 + m % 8)) % 256 → t + (u / 16 % 2 * 16 + u % 8) ≡ u → (u / 16 % 2 * 256 + n % 256 ≡ n) × (u % 8 ≡ m)
+  pub bit8b3 : (m : ℕ) → n < 512 → m < 8 → u ≡ (t + (n / 256 % 2 * 16 + m % 8)) % 256 → t + (u / 16 % 2 * 16 + u % 8) ≡ u
+      → (u / 16 % 2 * 256 + n % 256 ≡ n) × (u % 8 ≡ m)
   bit8b3 m h k p e = let r = both (n / 256 % 2) (m % 8) (omega arith) (omega arith) p e in (nine n (u / 16 % 2) h (r .0), r .1 ∙ three m k)
 
   pub high4 : n < 4096 → u ≡ (t + (n / 2048 % 2 * 16 + n / 256 % 8)) % 256 → t + (u / 16 % 2 * 16 + u % 8) ≡ u → (u / 16 % 2 * 8 + u % 8) * 256 + n % 256 ≡ n

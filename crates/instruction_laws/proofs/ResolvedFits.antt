@@ -30,7 +30,8 @@ use Rattle.instruction.specs.declared.mode.Mode.{Mode}
 
 -- where the refusals of an operand and those behind them let a call through, its field is in range, and those behind let the call through
 module _ (mode : Mode) {A : Type 0} (base n : ℕ) (z : ℤ) (rs : List Refusal) (a : A) {b : A} where
-  in-range : (k : Kind) → judge (operandRefusals mode base n k z ++ rs) a ≡ accepted b → (unfit k (used k (fieldOf mode base k z)) ≡ false) × (judge rs a ≡ accepted b)
+  in-range : (k : Kind) → judge (operandRefusals mode base n k z ++ rs) a ≡ accepted b
+      → (unfit k (used k (fieldOf mode base k z)) ≡ false) × (judge rs a ≡ accepted b)
   unfolding operandRefusals fieldOf unfit limit
   in-range Absent e = (refl, e)
   in-range Immediate e = passed _ _ _ e

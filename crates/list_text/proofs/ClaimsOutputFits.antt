@@ -43,7 +43,8 @@ line-short text n vs e = by (only-two text n vs e)
     by (inl f) = rw f (omega (arith, number-length 13 2 refl))
     by (inr f) = rw f (five (listed-missing text vs (e ∙ ap (λ (k : ℕ). refused k vs) f)))
 
-shown-fits : (r : Answer (List ℕ)) → ((out : List ℕ) → r ≡ accepted out → length out ≤ 983040) → ((n : ℕ) (vs : List ℤ) → r ≡ refused n vs → length (refusalLine n vs) ≤ 6) → length (outputText r) ≤ 983040
+shown-fits : (r : Answer (List ℕ)) → ((out : List ℕ) → r ≡ accepted out → length out ≤ 983040)
+    → ((n : ℕ) (vs : List ℤ) → r ≡ refused n vs → length (refusalLine n vs) ≤ 6) → length (outputText r) ≤ 983040
 shown-fits (accepted out) f g = f out refl
 shown-fits (refused n vs) f g = omega (arith, g n vs refl)
 

@@ -36,7 +36,8 @@ why text n vs e = by (or-refused (judge (inputRefusals text) (countsOf text)) _ 
     line (inl v) f = absurd (differ (sym f ∙ v))
     line (inr r) f = ap refusalOf (sym f) ∙ r
 
-    by : (judge (inputRefusals text) (countsOf text) ≡ refused n vs) ⊎ (((c : _) × (judge (inputRefusals text) (countsOf text) ≡ accepted c)) × (tracedText (imageOf text) (entriesOf text) ≡ refused n vs)) → Why text n vs
+    by : (judge (inputRefusals text) (countsOf text) ≡ refused n vs)
+        ⊎ (((c : _) × (judge (inputRefusals text) (countsOf text) ≡ accepted c)) × (tracedText (imageOf text) (entriesOf text) ≡ refused n vs)) → Why text n vs
     by (inl f) = inl (line (lines-13 text) f)
     by (inr a) =
         let c = a .0 .0 in
@@ -57,4 +58,5 @@ listed-missing text vs e = by (why text 5 vs e)
   where
     by : Why text 5 vs → OneOrTwo vs
     by (inl f) = absurd (omega (arith, f))
-    by (inr r) = run-missing Unwrapped (imageOf text) (lentRoom (imageOf text)) (lentRoom (imageOf text)) (entriesOf text) [] (length (imageOf text)) vs (image-bytes text) (r .1)
+    by (inr r) = run-missing Unwrapped (imageOf text) (lentRoom (imageOf text)) (lentRoom (imageOf text)) (entriesOf text) [] (length (imageOf text)) vs
+        (image-bytes text) (r .1)

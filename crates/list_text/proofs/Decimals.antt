@@ -51,7 +51,8 @@ lowest-length (suc k) n = omega (arith, length-append (lowest k (n / 10)) ((48 +
 -- a byte behind what is written may be written before it
 sets-behind : (s l : List ℕ) (at p b : ℕ) → at + length s ≤ p → sets (set l p b) at s ≡ set (sets l at s) p b
 sets-behind [] l at p b h = refl
-sets-behind (x ∷ s) l at p b h = ap (λ (m : List ℕ). sets m (suc at) s) (set-comm l p at b x (λ e. omega arith)) ∙ sets-behind s (set l at x) (suc at) p b (omega arith)
+sets-behind (x ∷ s) l at p b h = ap (λ (m : List ℕ). sets m (suc at) s) (set-comm l p at b x (λ e. omega arith))
+    ∙ sets-behind s (set l at x) (suc at) p b (omega arith)
 
 sets-snoc : (s l : List ℕ) (at b : ℕ) → sets l at (s ++ b ∷ []) ≡ set (sets l at s) (at + length s) b
 sets-snoc [] l at b = rw add-zero
@@ -65,7 +66,8 @@ last-first l at (suc j) m h =
     let e : suc j - 1 ≡ j = omega arith in
     let s = lowest j (m / 10) in
     let k = lowest-length j (m / 10) in
-    rw e (sets-behind s l at (at + j) (48 + m % 10) (omega arith) ∙ ap (λ (p : ℕ). set (sets l at s) (at + p) (48 + m % 10)) (sym k) ∙ sym (sets-snoc s l at (48 + m % 10)))
+    rw e (sets-behind s l at (at + j) (48 + m % 10) (omega arith) ∙ ap (λ (p : ℕ). set (sets l at s) (at + p) (48 + m % 10)) (sym k)
+    ∙ sym (sets-snoc s l at (48 + m % 10)))
 
 pub none-left : (l : List ℕ) (at i m : ℕ) → i ≤ 0 → sets l at (lowest i m) ≡ l
 unfolding lowest

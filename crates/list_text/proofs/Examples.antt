@@ -37,12 +37,15 @@ unfolding sample bytes judge inputRefusals imageRefusals countsOf cut isEntries 
 read = (refl, refl, refl)
 
 -- an empty input, an empty line 1, only line 1, two entries, no byte 10 at the end
-short : (told [] ≡ accepted (counts 0 0)) × (told (10 ∷ []) ≡ accepted (counts 0 0)) × (told (bytes "0000") ≡ accepted (counts 1 0)) × (told (bytes "0000" ++ 9 ∷ bytes "FFFF") ≡ accepted (counts 2 0)) × (told (10 ∷ bytes "A0") ≡ accepted (counts 0 1))
+short : (told [] ≡ accepted (counts 0 0)) × (told (10 ∷ []) ≡ accepted (counts 0 0)) × (told (bytes "0000") ≡ accepted (counts 1 0))
+    × (told (bytes "0000" ++ 9 ∷ bytes "FFFF") ≡ accepted (counts 2 0)) × (told (10 ∷ bytes "A0") ≡ accepted (counts 0 1))
 unfolding bytes judge inputRefusals imageRefusals countsOf cut isEntries allFour isFour fourOf digitOf allHex bytesOf isBytes bytesInLines
 short = (refl, refl, refl, refl, refl)
 
 -- a tab at either end, two tabs, a blank at the end, a byte of three digits, lower case, CR, NUL, an empty line
-bent : (told (bytes "0000" ++ 9 ∷ []) ≡ malformed 1) × (told (9 ∷ bytes "0000") ≡ malformed 1) × (told (bytes "0000" ++ 9 ∷ 9 ∷ bytes "0000") ≡ malformed 1) × (told (bytes "0000 ") ≡ malformed 1) × (told (10 ∷ bytes "A0A") ≡ malformed 2) × (told (10 ∷ bytes "a0") ≡ malformed 2) × (told (10 ∷ bytes "A0" ++ 13 ∷ 10 ∷ []) ≡ malformed 2) × (told (0 ∷ []) ≡ malformed 1) × (told (10 ∷ bytes "A0" ++ 10 ∷ 10 ∷ []) ≡ malformed 3)
+bent : (told (bytes "0000" ++ 9 ∷ []) ≡ malformed 1) × (told (9 ∷ bytes "0000") ≡ malformed 1) × (told (bytes "0000" ++ 9 ∷ 9 ∷ bytes "0000") ≡ malformed 1)
+    × (told (bytes "0000 ") ≡ malformed 1) × (told (10 ∷ bytes "A0A") ≡ malformed 2) × (told (10 ∷ bytes "a0") ≡ malformed 2)
+    × (told (10 ∷ bytes "A0" ++ 13 ∷ 10 ∷ []) ≡ malformed 2) × (told (0 ∷ []) ≡ malformed 1) × (told (10 ∷ bytes "A0" ++ 10 ∷ 10 ∷ []) ≡ malformed 3)
 unfolding bytes judge inputRefusals imageRefusals countsOf cut isEntries allFour isFour fourOf digitOf allHex bytesOf isBytes bytesInLines
 bent = (refl, refl, refl, refl, refl, refl, refl, refl, refl)
 
@@ -72,8 +75,11 @@ unfolding full judge inputRefusals imageRefusals countsOf cut isEntries allFour 
 most = (refl, refl)
 
 -- what is written, and too little room for an entry or for a byte
-written : (parseEntries sample (7 ∷ 7 ∷ []) (replicate 9 7) ≡ 0 ∷ 7 ∷ []) × (parseImage sample (7 ∷ []) (replicate 9 7) ≡ 1 ∷ 2 ∷ 0 ∷ 65 ∷ 100 ∷ 128 ∷ 249 ∷ 160 ∷ 7 ∷ [])
-    × (parseAnswer sample [] (replicate 9 7) ≡ refused 11 (pos 1 ∷ pos 8 ∷ [])) × (parseAnswer sample (7 ∷ []) (replicate 7 7) ≡ refused 11 (pos 1 ∷ pos 8 ∷ []))
+written : (parseEntries sample (7 ∷ 7 ∷ []) (replicate 9 7) ≡ 0 ∷ 7 ∷ [])
+    × (parseImage sample (7 ∷ []) (replicate 9 7) ≡ 1 ∷ 2 ∷ 0 ∷ 65 ∷ 100 ∷ 128 ∷ 249 ∷ 160 ∷ 7 ∷ [])
+    × (parseAnswer sample [] (replicate 9 7) ≡ refused 11 (pos 1 ∷ pos 8 ∷ []))
+    × (parseAnswer sample (7 ∷ []) (replicate 7 7) ≡ refused 11 (pos 1 ∷ pos 8 ∷ []))
     × (parseEntries sample (7 ∷ []) (replicate 7 7) ≡ 7 ∷ [])
-unfolding sample bytes parseAnswer parseEntries parseImage judge inputRefusals imageRefusals countsOf cut isEntries allFour isFour fourOf digitOf allHex bytesOf isBytes bytesInLines
+unfolding sample bytes parseAnswer parseEntries parseImage judge inputRefusals imageRefusals countsOf cut isEntries allFour isFour fourOf digitOf allHex bytesOf
+    isBytes bytesInLines
 written = (refl, refl, refl, refl, refl)

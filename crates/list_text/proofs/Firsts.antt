@@ -56,7 +56,8 @@ module _ (t : List ℕ) (e : ℕ) (p : e ≡ 0 + length (upTo 10 (drop 0 t))) wh
       let b : isEntries (entryLine t) ≡ false = ap isEntries (split t e p .0) ∙ bad-line line (sym f ∙ g) in
       sym (stop _ _ _ (rw b))
 
-  pub first-good : (r : Line) → r ≡ entriesLine line → (n : ℕ) → r ≡ Good n → judge (imageRefusals 2 0 rest) (counts n (length (bytesInLines rest))) ≡ judge (inputRefusals t) (countsOf t)
+  pub first-good : (r : Line) → r ≡ entriesLine line → (n : ℕ) → r ≡ Good n → judge (imageRefusals 2 0 rest) (counts n (length (bytesInLines rest)))
+      ≡ judge (inputRefusals t) (countsOf t)
   unfolding inputRefusals countsOf
   first-good r f n g =
       let w = good-line line n (sym f ∙ g) in
@@ -76,7 +77,9 @@ module _ (t : List ℕ) (e : ℕ) (p : e ≡ 0 + length (upTo 10 (drop 0 t))) wh
   pub image-fits : (k : ℕ) → length (imageOf t) ≤ k → length (bytesInLines rest) ≤ k
   image-fits k h = omega (arith, ap (λ (ls : List (List ℕ)). length (bytesInLines ls)) (split t e p .1))
 
-  pub put-whole : (room image : List ℕ) → length (entriesOf t) ≤ length room → length (imageOf t) ≤ length image → (room′ : List ℕ) → room′ ≡ sets room 0 (entriesIn line) → (image′ : List ℕ) → image′ ≡ sets image 0 (bytesInLines rest) → (room′ ≡ laid (entriesOf t) room) × (image′ ≡ laid (imageOf t) image)
+  pub put-whole : (room image : List ℕ) → length (entriesOf t) ≤ length room → length (imageOf t) ≤ length image → (room′ : List ℕ)
+      → room′ ≡ sets room 0 (entriesIn line) → (image′ : List ℕ) → image′ ≡ sets image 0 (bytesInLines rest)
+      → (room′ ≡ laid (entriesOf t) room) × (image′ ≡ laid (imageOf t) image)
   put-whole room image h k room′ f image′ g =
       let s = split t e p in (
         f ∙ ap (λ (l : List ℕ). sets room 0 (entriesIn l)) (sym (s .0)) ∙ laid-over (entriesOf t) room h,

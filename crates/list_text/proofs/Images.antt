@@ -21,7 +21,8 @@ use Rattle.list_text.proofs.Parts.{or-accepted}
 use Rattle.list_text.proofs.Sounding.{sound, judged-on, answer-on, room-on}
 
 -- the same line printed
-pub said : (x y : List ℕ) → x ≡ y → (r : Answer ℕ) (t room : List ℕ) → (r ≡ roomAnswer [] x room) × (t ≡ roomAfter [] x room) → (r ≡ roomAnswer [] y room) × (t ≡ roomAfter [] y room)
+pub said : (x y : List ℕ) → x ≡ y → (r : Answer ℕ) (t room : List ℕ) → (r ≡ roomAnswer [] x room) × (t ≡ roomAfter [] x room)
+    → (r ≡ roomAnswer [] y room) × (t ≡ roomAfter [] y room)
 said x y e r t room p = subst (λ (z : List ℕ). (r ≡ roomAnswer [] z room) × (t ≡ roomAfter [] z room)) e p
 
 module _ (mode : Mode) (image entries pins : List ℕ) where
@@ -39,7 +40,8 @@ module _ (mode : Mode) (image entries pins : List ℕ) where
     pub marks-sound : length marks ≡ length (lentRoom image) → Sound image marks
     marks-sound l =
         sound image marks (omega arith) (let c = covered in omega arith)
-        (subst (Undamaged image) (sym (marks-are mode image (lentRoom image) (lentRoom image) entries pins (length image) s a)) (run-undamaged mode image (lentRoom image) entries pins (length image) covered))
+        (subst (Undamaged image) (sym (marks-are mode image (lentRoom image) (lentRoom image) entries pins (length image) s a))
+        (run-undamaged mode image (lentRoom image) entries pins (length image) covered))
 
   module _ (arrivals : Arrivals) where
     abbrev traced : Answer (List ℕ)
@@ -59,7 +61,8 @@ module _ (mode : Mode) (image entries pins : List ℕ) where
     -- what is accepted is the listing of its marks
     pub accepted-listing : (out : List ℕ) → traced ≡ accepted out → listing marks ≡ out
     unfolding tracedWith
-    accepted-listing out e = accepts (viewRefusals image marks) (listing marks) out (or-accepted answer (judge (viewRefusals image marks) (listing marks)) out e .1)
+    accepted-listing out e = accepts (viewRefusals image marks) (listing marks) out
+        (or-accepted answer (judge (viewRefusals image marks) (listing marks)) out e .1)
 
     -- these marks are listed, and r and t are what that leaves
     abbrev pub Listed : List ℕ → Answer ℕ → List ℕ → List ℕ → Type 0
@@ -70,7 +73,8 @@ module _ (mode : Mode) (image entries pins : List ℕ) where
     unfolding viewAnswer viewRoom tracedWith
     listed small s a l r t room p =
         let S = marks-sound small s a l in (
-          ap (λ (x : Answer RunResult). andThen x (judge (viewRefusals image marks) (listing marks))) a ∙ judged-on (viewRefusals image marks) S (listing marks),
+          ap (λ (x : Answer RunResult). andThen x (judge (viewRefusals image marks) (listing marks))) a
+              ∙ judged-on (viewRefusals image marks) S (listing marks),
           p .0 ∙ answer-on (viewRefusals image marks) S (listing marks) room,
           p .1 ∙ room-on (viewRefusals image marks) S (listing marks) room,
         )

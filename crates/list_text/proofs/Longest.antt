@@ -27,7 +27,8 @@ use Rattle.list_text.proofs.Totals.{total, all-there, with-first, longe
 use Rattle.list_text.proofs.Turns.{more-bytes, no-bytes}
 
 -- a line of n bytes takes at most 3 * n bytes
-pub image-most : (k n : ℕ) (ls : List (List ℕ)) (c d : Input) → n ≤ 16384 → judge (imageRefusals k n ls) c ≡ accepted d → (total ls + n * 3 ≤ 49152) × (n + length (bytesInLines ls) ≤ 16384)
+pub image-most : (k n : ℕ) (ls : List (List ℕ)) (c d : Input) → n ≤ 16384 → judge (imageRefusals k n ls) c ≡ accepted d
+    → (total ls + n * 3 ≤ 49152) × (n + length (bytesInLines ls) ≤ 16384)
 unfolding imageRefusals
 image-most k n [] c d h e = (omega arith, omega (arith, ap length no-bytes))
 image-most k n (l ∷ ls) c d h e =

@@ -17,6 +17,7 @@ module _ {A B : Type 0} where
   or-accepted (refused n vs) s b e = absurd (differ e)
 
   -- what is refused is refused at first, or accepted there and refused then
-  pub or-refused : (r : Answer A) (s : Answer B) (n : ℕ) (vs : List ℤ) → andThen r s ≡ refused n vs → (r ≡ refused n vs) ⊎ (((a : A) × (r ≡ accepted a)) × (s ≡ refused n vs))
+  pub or-refused : (r : Answer A) (s : Answer B) (n : ℕ) (vs : List ℤ) → andThen r s ≡ refused n vs
+      → (r ≡ refused n vs) ⊎ (((a : A) × (r ≡ accepted a)) × (s ≡ refused n vs))
   or-refused (accepted a) s n vs e = inr ((a, refl), e)
   or-refused (refused k us) s n vs e = inl (let f : k ≡ n = cc in let g : us ≡ vs = cc in cc)

@@ -38,12 +38,14 @@ module _ (n : ℕ) (o m : List ℕ) where
   number-put k a e = rw (← a) (puts-then (head-put k e) (byte-at 10 (k + 2) (k + 3) m (omega arith)))
 
   module _ (v : ℕ) (p : List ℕ) where
-    parts : (k j : ℕ) → m ≡ sets o 0 (82 ∷ 9 ∷ lowest k n) → p ≡ sets (set m (k + 2) 9) (k + 3) (lowest j v) → Puts (82 ∷ 9 ∷ lowest k n ++ 9 ∷ lowest j v ++ 10 ∷ []) 0 o (set p (k + j + 3) 10) (k + j + 4)
+    parts : (k j : ℕ) → m ≡ sets o 0 (82 ∷ 9 ∷ lowest k n) → p ≡ sets (set m (k + 2) 9) (k + 3) (lowest j v)
+        → Puts (82 ∷ 9 ∷ lowest k n ++ 9 ∷ lowest j v ++ 10 ∷ []) 0 o (set p (k + j + 3) 10) (k + j + 4)
     parts k j e f =
         let second = puts-then (byte-at 9 (k + 2) (k + 3) m (omega arith)) (digits-put j v (k + 3) (k + j + 3) _ p f (omega arith)) in
         puts-then (puts-then (head-put k e) second) (byte-at 10 (k + j + 3) (k + j + 4) p (omega arith))
 
-    pub value-put : (k j : ℕ) → k ≡ width n n → j ≡ width v v → m ≡ sets o 0 (82 ∷ 9 ∷ lowest k n) → p ≡ sets (set m (k + 2) 9) (k + 3) (lowest j v) → Puts (valueLine n v) 0 o (set p (k + j + 3) 10) (k + j + 4)
+    pub value-put : (k j : ℕ) → k ≡ width n n → j ≡ width v v → m ≡ sets o 0 (82 ∷ 9 ∷ lowest k n) → p ≡ sets (set m (k + 2) 9) (k + 3) (lowest j v)
+        → Puts (valueLine n v) 0 o (set p (k + j + 3) 10) (k + j + 4)
     unfolding valueLine
     value-put k j a b e f = rw (← a, ← b) (parts k j e f)
 

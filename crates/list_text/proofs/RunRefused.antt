@@ -41,7 +41,8 @@ run-length : (mode : Mode) (image marks entries pins : List ℕ) (limit : ℕ) �
     → length (outcomeOf mode image marks entries pins limit .marks) ≡ length marks
 unfolding outcomeOf
 run-length mode image marks entries pins limit h =
-    takes-length (tracerOf mode image) (run-takes limit (tracerOf mode image) entries (table (length image) pins marks) (table-base (tracerOf mode image) pins marks h) .takes)
+    takes-length (tracerOf mode image)
+    (run-takes limit (tracerOf mode image) entries (table (length image) pins marks) (table-base (tracerOf mode image) pins marks h) .takes)
     ∙ length-note (length image) entries (table (length image) pins marks)
     ∙ length-table (length image) pins marks h
 
@@ -63,7 +64,8 @@ module _ (mode : Mode) (image entries pins : List ℕ) where
     judged : runJudged image (lentRoom image) (lentRoom image) ≡ accepted tt
     judged =
         let l = lent-length in
-        right-sizes image (lentRoom image) _ tt (omega arith) (omega arith) ∙ pass _ _ _ (le-ltb (length (lentRoom image)) (length image) (omega arith)) ∙ done tt
+        right-sizes image (lentRoom image) _ tt (omega arith) (omega arith)
+        ∙ pass _ _ _ (le-ltb (length (lentRoom image)) (length image) (omega arith)) ∙ done tt
 
     pub run-five : (n : ℕ) (vs : List ℤ) → answer mode image entries pins ≡ refused n vs → n ≡ 5
     unfolding runAnswer
@@ -77,18 +79,22 @@ module _ (mode : Mode) (image entries pins : List ℕ) where
         by (cutOff p) s k f = let g : 5 ≡ n = cc in sym g
 
     -- what is refused, the run refused
-    pub run-refused : (arrivals : Arrivals) (n : ℕ) (vs : List ℤ) → tracedWith mode image entries pins arrivals ≡ refused n vs → answer mode image entries pins ≡ refused n vs
+    pub run-refused : (arrivals : Arrivals) (n : ℕ) (vs : List ℤ) → tracedWith mode image entries pins arrivals ≡ refused n vs
+        → answer mode image entries pins ≡ refused n vs
     unfolding tracedWith
     run-refused arrivals n vs e = by (or-refused (answer mode image entries pins) _ n vs e)
       where
         m : List ℕ
         m = marks mode image entries pins
 
-        by : (answer mode image entries pins ≡ refused n vs) ⊎ (((s : RunResult) × (answer mode image entries pins ≡ accepted s)) × (judge (viewRefusals image m) (listingOf mode image m arrivals) ≡ refused n vs)) → answer mode image entries pins ≡ refused n vs
+        by : (answer mode image entries pins ≡ refused n vs)
+            ⊎ (((s : RunResult) × (answer mode image entries pins ≡ accepted s))
+            × (judge (viewRefusals image m) (listingOf mode image m arrivals) ≡ refused n vs)) → answer mode image entries pins ≡ refused n vs
         by (inl r) = r
         by (inr a) =
             let s = a .0 .0 in
             let f : answer mode image entries pins ≡ accepted s = a .0 .1 in
-            let l : length m ≡ length (lentRoom image) = ap length (marks-are mode image (lentRoom image) (lentRoom image) entries pins (length image) s f) ∙ run-length mode image (lentRoom image) entries pins (length image) (let k = lent-length in omega arith) in
+            let l : length m ≡ length (lentRoom image) = ap length (marks-are mode image (lentRoom image) (lentRoom image) entries pins (length image) s f)
+            ∙ run-length mode image (lentRoom image) entries pins (length image) (let k = lent-length in omega arith) in
             let S : Sound image m = marks-sound mode image entries pins small s f l in
             absurd (differ (sym (a .1) ∙ judged-on (viewRefusals image m) S (listingOf mode image m arrivals)))

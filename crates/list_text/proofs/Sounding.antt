@@ -13,7 +13,8 @@ use Rattle.views.specs.Positions.{upFrom, positions}
 use Rattle.views.specs.View.{Sound, damagedHere, damageIn, viewRefusals, roomAnswer, roomAfter}
 use Rattle.views_laws.specs.ClaimsSound.{Undamaged}
 
-none-damaged : (image m : List ℕ) (k q : ℕ) → ((p : ℕ) → q ≤ p → p < q + k → damagedHere image m p ≡ false) → _≡_ {A = Answer ℕ} (judge (damageIn image m (upFrom k q)) 0) (accepted 0)
+none-damaged : (image m : List ℕ) (k q : ℕ) → ((p : ℕ) → q ≤ p → p < q + k → damagedHere image m p ≡ false)
+    → _≡_ {A = Answer ℕ} (judge (damageIn image m (upFrom k q)) 0) (accepted 0)
 unfolding upFrom
 none-damaged image m zero q f = done 0
 none-damaged image m (suc k) q f =

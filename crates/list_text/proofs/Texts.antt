@@ -73,7 +73,8 @@ module _ (text : List ℕ) where
     unfolding parseEntries
     read-entries l e n f =
         let z : n - 0 ≡ length (entriesOf text) = omega arith in
-        ap (take (n - 0)) (e ∙ ap (λ (r : Answer Input). after r (laid (entriesOf text) entries) entries) (valid-parses v)) ∙ take-at (entriesOf text) _ (n - 0) (sym z)
+        ap (take (n - 0)) (e ∙ ap (λ (r : Answer Input). after r (laid (entriesOf text) entries) entries) (valid-parses v))
+        ∙ take-at (entriesOf text) _ (n - 0) (sym z)
 
     pub read-image : (l : List ℕ) → l ≡ parseImage text entries image → (n : ℕ) → n ≡ length (imageOf text) → take (n - 0) (drop 0 l) ≡ imageOf text
     unfolding parseImage

@@ -57,11 +57,13 @@ module _ (text room image : List ℕ) where
     unfolding countsOf
     bytes-of = ap (λ (x : Input). x .bytes) same
 
-    short : (ltb (length room) (length (entriesOf text)) || ltb (length image) (length (imageOf text))) ≡ true → Is (refused 11 (pos (c .entries) ∷ pos (c .bytes) ∷ [])) room image
+    short : (ltb (length room) (length (entriesOf text)) || ltb (length image) (length (imageOf text))) ≡ true
+        → Is (refused 11 (pos (c .entries) ∷ pos (c .bytes) ∷ [])) room image
     unfolding parseAnswer
     short h =
         rw (← entries-of, ← bytes-of)
-        (held (refused 11 (pos (length (entriesOf text)) ∷ pos (length (imageOf text)) ∷ [])) (past-all _ (countsOf text) (countsOf text) (inputRefusals text) good ∙ stop _ _ _ h))
+        (held (refused 11 (pos (length (entriesOf text)) ∷ pos (length (imageOf text)) ∷ []))
+        (past-all _ (countsOf text) (countsOf text) (inputRefusals text) good ∙ stop _ _ _ h))
 
     pub few-entries : length room < c .entries → Is (refused 11 (pos (c .entries) ∷ pos (c .bytes) ∷ [])) room image
     few-entries h = short (rw (lt-ltb (length room) (length (entriesOf text)) (rw entries-of h)))

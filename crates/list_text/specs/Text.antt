@@ -73,7 +73,8 @@ unfoldable pub parseAnswer : List ℕ → List ℕ → List ℕ → Answer Input
 parseAnswer text entries image =
     judge
     (inputRefusals text
-    ++ refuse (ltb (length entries) (length (entriesOf text)) || ltb (length image) (length (imageOf text))) 11 (pos (length (entriesOf text)) ∷ pos (length (imageOf text)) ∷ [])
+    ++ refuse (ltb (length entries) (length (entriesOf text)) || ltb (length image) (length (imageOf text))) 11
+    (pos (length (entriesOf text)) ∷ pos (length (imageOf text)) ∷ [])
     ∷ [])
     (countsOf text)
 

@@ -24,7 +24,8 @@ use Rattle.listing.specs.Walk.{isChosen, walk, listingOf}
 use Rattle.listing.specs.declared.tabbed.Arrivals.{Arrivals}
 
 -- a list as long as the image, left in a room for every image, is the room's beginning
-pub in-front : (image m : List ℕ) → Sound image m → (out : List ℕ) → length out ≡ length image → (room : List ℕ) → 65536 ≡ length room → (t : List ℕ) → t ≡ viewRoom image m out room → take (length image) t ≡ out
+pub in-front : (image m : List ℕ) → Sound image m → (out : List ℕ) → length out ≡ length image → (room : List ℕ) → 65536 ≡ length room → (t : List ℕ)
+    → t ≡ viewRoom image m out room → take (length image) t ≡ out
 in-front image m s out e room f t g =
     let h : length image ≤ 65536 = small image m s in
     let x = shown-as image m out room s (length image) e (omega arith) (out ++ drop (length image) room) refl in
@@ -38,7 +39,8 @@ long-enough l out n e f = omega (arith, length-take n l, ap length e ∙ f)
 pub part-is : (l out : List ℕ) (n : ℕ) → take n l ≡ out → take (n - 0) (drop 0 l) ≡ out
 part-is l out n e = let f : n - 0 ≡ n = omega arith in ap (λ (k : ℕ). take k l) f ∙ e
 
-pub is-listing : (mode : Mode) (image m : List ℕ) (choice : Arrivals) (chosen : Bool) → chosen ≡ isChosen choice → textOf mode image m chosen ≡ listingOf mode image m choice
+pub is-listing : (mode : Mode) (image m : List ℕ) (choice : Arrivals) (chosen : Bool) → chosen ≡ isChosen choice
+    → textOf mode image m chosen ≡ listingOf mode image m choice
 unfolding textOf listingOf
 is-listing mode image m choice chosen e = rw e
 

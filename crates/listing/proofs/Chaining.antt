@@ -68,13 +68,15 @@ module _ (mode : Mode) (image m : List ℕ) (b : OfBytes image) (p : ℕ) where
         let f : q ≡ nextNamer mode image m p 0 = e ∙ first-indexed mode image m p b h in
         (again 0 q f, low-fewer n (b .1) N g fewer 0 q f)
 
-    pub chain-next : (q r : ℕ) → q < n → N q ≡ true → r ≡ nextIn (indexOf mode image m) q → (r ≡ nextNamer mode image m p r) × (lowestOf g n r ≡ lowestOf g n (q + 1))
+    pub chain-next : (q r : ℕ) → q < n → N q ≡ true → r ≡ nextIn (indexOf mode image m) q
+        → (r ≡ nextNamer mode image m p r) × (lowestOf g n r ≡ lowestOf g n (q + 1))
     chain-next q r h e f =
         let d : r ≡ nextNamer mode image m p (q + 1) = f ∙ next-indexed mode image m p q b h e in
         (again (q + 1) r d, low-fewer n (b .1) N g fewer (q + 1) r d)
 
     -- one that does not pass is passed over
-    pub chain-over : (q r : ℕ) → q < n → q ≡ nextNamer mode image m p q → r ≡ nextIn (indexOf mode image m) q → g q ≡ false → (r ≡ nextNamer mode image m p r) × (lowestOf g n r ≡ lowestOf g n q)
+    pub chain-over : (q r : ℕ) → q < n → q ≡ nextNamer mode image m p q → r ≡ nextIn (indexOf mode image m) q → g q ≡ false
+        → (r ≡ nextNamer mode image m p r) × (lowestOf g n r ≡ lowestOf g n q)
     chain-over q r h e f d =
         let x = chain-next q r h (names-here q h e) f in
         (x .0, x .1 ∙ sym (low-later g n q h d))
@@ -153,7 +155,8 @@ module _ (mode : Mode) (image m : List ℕ) (b : OfBytes image) (p : ℕ) where
   held-names q e = first-part (N q) (isHeld m q) e
 
   -- past q: it is the lowest from there on, or it is not
-  pub held-at : (q c r : ℕ) → q < n → c ≡ nextHeld mode image m p q → c ≡ q → r ≡ nextIn (indexOf mode image m) q → (r ≡ nextNamer mode image m p r) × (nextHeld mode image m p r ≡ nextHeld mode image m p (q + 1))
+  pub held-at : (q c r : ℕ) → q < n → c ≡ nextHeld mode image m p q → c ≡ q → r ≡ nextIn (indexOf mode image m) q
+      → (r ≡ nextNamer mode image m p r) × (nextHeld mode image m p r ≡ nextHeld mode image m p (q + 1))
   held-at q c r h e f d =
       let g : H q ≡ true = subst (λ (x : ℕ). x < n → H x ≡ true) (sym (sym f ∙ e)) (low-is n (b .1) H q .here) h in
       chain-next H held-fewer q r h (held-names q g) d

@@ -58,27 +58,45 @@ image = 0x01 ∷ 0x02 ∷ 0x00 ∷ 0x41 ∷ 0x64 ∷ 0x80 ∷ 0xF9 ∷ 0xA0 ∷ 
 abbrev marks : List ℕ
 marks = 2 ∷ 0 ∷ 0 ∷ 0 ∷ 2 ∷ 2 ∷ 0 ∷ 2 ∷ []
 
-pub example : (mode : Mode) → Lists mode image marks Declined ("LT0000" ∷ "IT0000T0102TbrT0004" ∷ "DT0002T0041" ∷ "LT0004" ∷ "IT0004T64TincT@R0" ∷ "IT0005T80F9TbzT0000" ∷ "IT0007TA0Tret" ∷ [])
-unfolding judge kindsOf unfit pattern patternBytes onto bitsGiven nextBracket fieldsIn stops jumps branches flowOf forms formAt formOf formNamed mnemonicOf lettersOf partsOf madeOf fitsHere instrHere flashHere nameHere hereOf addressOf addressIn targetsIn targetsAnswer nameOf tracedMark exemptHere leading runLength dataRun labelled labelsOf masked maskOf overlapsOf upFrom some kept hex1 hex2 hex3 hex4 hexes fieldsText labelLine overlapLine instrText dataLine target shown operandsBy codeLines linesAt passed walk listingOf
+pub example : (mode : Mode) → Lists mode image marks Declined ("LT0000" ∷ "IT0000T0102TbrT0004" ∷ "DT0002T0041" ∷ "LT0004" ∷ "IT0004T64TincT@R0"
+    ∷ "IT0005T80F9TbzT0000" ∷ "IT0007TA0Tret" ∷ [])
+unfolding judge kindsOf unfit pattern patternBytes onto bitsGiven nextBracket fieldsIn stops jumps branches flowOf forms formAt formOf formNamed mnemonicOf
+    lettersOf partsOf madeOf fitsHere instrHere flashHere nameHere hereOf addressOf addressIn targetsIn targetsAnswer nameOf tracedMark exemptHere leading
+    runLength dataRun labelled labelsOf masked maskOf overlapsOf upFrom some kept hex1 hex2 hex3 hex4 hexes fieldsText labelLine overlapLine instrText dataLine
+    target shown operandsBy codeLines linesAt passed walk listingOf
 example Unwrapped = refl
 example Wrapping = refl
 
 -- the same with arrivals
-pub chosen : (mode : Mode) → Lists mode image marks Chosen ("LT0000" ∷ "AT0000T0005" ∷ "IT0000T0102TbrT0004" ∷ "DT0002T0041" ∷ "LT0004" ∷ "AT0004T0000" ∷ "IT0004T64TincT@R0" ∷ "AT0005T0004" ∷ "IT0005T80F9TbzT0000" ∷ "AT0007T0005" ∷ "IT0007TA0Tret" ∷ [])
-unfolding judge kindsOf unfit pattern patternBytes onto bitsGiven nextBracket fieldsIn stops jumps branches flowOf forms formAt formOf formNamed mnemonicOf lettersOf partsOf madeOf fitsHere instrHere flashHere nameHere hereOf addressOf addressIn targetsIn targetsAnswer nameOf tracedMark exemptHere leading runLength dataRun labelled labelsOf masked maskOf overlapsOf upFrom some kept arrivalsOf arrives heldAt held waysHere arrivalLine hex1 hex2 hex3 hex4 hexes fieldsText labelLine overlapLine instrText dataLine target shown operandsBy codeLines linesAt passed walk listingOf
+pub chosen : (mode : Mode) → Lists mode image marks Chosen ("LT0000" ∷ "AT0000T0005" ∷ "IT0000T0102TbrT0004" ∷ "DT0002T0041" ∷ "LT0004" ∷ "AT0004T0000"
+    ∷ "IT0004T64TincT@R0" ∷ "AT0005T0004" ∷ "IT0005T80F9TbzT0000" ∷ "AT0007T0005" ∷ "IT0007TA0Tret" ∷ [])
+unfolding judge kindsOf unfit pattern patternBytes onto bitsGiven nextBracket fieldsIn stops jumps branches flowOf forms formAt formOf formNamed mnemonicOf
+    lettersOf partsOf madeOf fitsHere instrHere flashHere nameHere hereOf addressOf addressIn targetsIn targetsAnswer nameOf tracedMark exemptHere leading
+    runLength dataRun labelled labelsOf masked maskOf overlapsOf upFrom some kept arrivalsOf arrives heldAt held waysHere arrivalLine hex1 hex2 hex3 hex4 hexes
+    fieldsText labelLine overlapLine instrText dataLine target shown operandsBy codeLines linesAt passed walk listingOf
 chosen Unwrapped = refl
 chosen Wrapping = refl
 
 -- edge 13, entries 0 and 2: an overlap, and a position walked inside an instruction
-pub overlap : (mode : Mode) → Lists mode (0x22 ∷ 0x01 ∷ 0x00 ∷ 0xA0 ∷ []) (2 ∷ 0 ∷ 2 ∷ 2 ∷ []) Declined ("OT0000T0002" ∷ "IT0000T220100TmovT#00T001" ∷ "IT0002T00Tnop" ∷ "IT0003TA0Tret" ∷ [])
-unfolding judge kindsOf unfit pattern patternBytes onto bitsGiven nextBracket fieldsIn stops jumps branches flowOf forms formAt formOf formNamed mnemonicOf lettersOf partsOf madeOf fitsHere instrHere flashHere nameHere hereOf addressOf addressIn targetsIn targetsAnswer nameOf tracedMark exemptHere leading runLength dataRun labelled labelsOf masked maskOf overlapsOf upFrom some kept hex1 hex2 hex3 hex4 hexes fieldsText labelLine overlapLine instrText dataLine target shown operandsBy codeLines linesAt passed walk listingOf
+pub overlap : (mode : Mode) → Lists mode (0x22 ∷ 0x01 ∷ 0x00 ∷ 0xA0 ∷ []) (2 ∷ 0 ∷ 2 ∷ 2 ∷ []) Declined ("OT0000T0002" ∷ "IT0000T220100TmovT#00T001"
+    ∷ "IT0002T00Tnop" ∷ "IT0003TA0Tret" ∷ [])
+unfolding judge kindsOf unfit pattern patternBytes onto bitsGiven nextBracket fieldsIn stops jumps branches flowOf forms formAt formOf formNamed mnemonicOf
+    lettersOf partsOf madeOf fitsHere instrHere flashHere nameHere hereOf addressOf addressIn targetsIn targetsAnswer nameOf tracedMark exemptHere leading
+    runLength dataRun labelled labelsOf masked maskOf overlapsOf upFrom some kept hex1 hex2 hex3 hex4 hexes fieldsText labelLine overlapLine instrText dataLine
+    target shown operandsBy codeLines linesAt passed walk listingOf
 overlap mode = refl
 
 -- edge 14: a target outside, and a run left out; wrapped, the target is -126 modulo 65,536
 pub outside : Lists Unwrapped (0x01 ∷ 0x80 ∷ 0x00 ∷ 0x00 ∷ []) (2 ∷ 0 ∷ 0 ∷ 0 ∷ []) Declined ("IT0000T0180TbrT?" ∷ [])
-unfolding judge kindsOf unfit pattern patternBytes onto bitsGiven nextBracket fieldsIn stops jumps branches flowOf forms formAt formOf formNamed mnemonicOf lettersOf partsOf madeOf fitsHere instrHere flashHere nameHere hereOf addressOf addressIn targetsIn targetsAnswer nameOf tracedMark exemptHere leading runLength dataRun labelled labelsOf masked maskOf overlapsOf upFrom some kept hex1 hex2 hex3 hex4 hexes fieldsText labelLine overlapLine instrText dataLine target shown operandsBy codeLines linesAt passed walk listingOf
+unfolding judge kindsOf unfit pattern patternBytes onto bitsGiven nextBracket fieldsIn stops jumps branches flowOf forms formAt formOf formNamed mnemonicOf
+    lettersOf partsOf madeOf fitsHere instrHere flashHere nameHere hereOf addressOf addressIn targetsIn targetsAnswer nameOf tracedMark exemptHere leading
+    runLength dataRun labelled labelsOf masked maskOf overlapsOf upFrom some kept hex1 hex2 hex3 hex4 hexes fieldsText labelLine overlapLine instrText dataLine
+    target shown operandsBy codeLines linesAt passed walk listingOf
 outside = refl
 
 pub around : Lists Wrapping (0x01 ∷ 0x80 ∷ 0x00 ∷ 0x00 ∷ []) (2 ∷ 0 ∷ 0 ∷ 0 ∷ []) Declined ("IT0000T0180TbrTFF82" ∷ [])
-unfolding judge kindsOf unfit pattern patternBytes onto bitsGiven nextBracket fieldsIn stops jumps branches flowOf forms formAt formOf formNamed mnemonicOf lettersOf partsOf madeOf fitsHere instrHere flashHere nameHere hereOf addressOf addressIn targetsIn targetsAnswer nameOf tracedMark exemptHere leading runLength dataRun labelled labelsOf masked maskOf overlapsOf upFrom some kept hex1 hex2 hex3 hex4 hexes fieldsText labelLine overlapLine instrText dataLine target shown operandsBy codeLines linesAt passed walk listingOf
+unfolding judge kindsOf unfit pattern patternBytes onto bitsGiven nextBracket fieldsIn stops jumps branches flowOf forms formAt formOf formNamed mnemonicOf
+    lettersOf partsOf madeOf fitsHere instrHere flashHere nameHere hereOf addressOf addressIn targetsIn targetsAnswer nameOf tracedMark exemptHere leading
+    runLength dataRun labelled labelsOf masked maskOf overlapsOf upFrom some kept hex1 hex2 hex3 hex4 hexes fieldsText labelLine overlapLine instrText dataLine
+    target shown operandsBy codeLines linesAt passed walk listingOf
 around = refl

@@ -85,4 +85,14 @@ instr-width mode p i all h =
     let end : List ℕ = fieldsText (operands mode p i) in
     let w : widthIn (formIn i) ≤ 22 = leb-true (widthIn (formIn i)) 22 (narrow (partsOf i .form) h) in
     let o : length end ≤ widths (kindsOf (formIn i .shape)) + 1 = fields-width _ (kindsOf (formIn i .shape)) _ in
-    omega (arith, w, o, hex4-length p, hexes-length bytes, length-take (sizeOf (formIn i)) all, length-append name end, length-append (hexes bytes) (9 ∷ name ++ end), length-append (hex4 p) (9 ∷ hexes bytes ++ (9 ∷ name ++ end)))
+    omega (
+      arith,
+      w,
+      o,
+      hex4-length p,
+      hexes-length bytes,
+      length-take (sizeOf (formIn i)) all,
+      length-append name end,
+      length-append (hexes bytes) (9 ∷ name ++ end),
+      length-append (hex4 p) (9 ∷ hexes bytes ++ (9 ∷ name ++ end)),
+    )

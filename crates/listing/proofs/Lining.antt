@@ -129,13 +129,15 @@ module _ (p : ℕ) (chosen : Bool) (qs : List ℕ) where
 -- ---- `I`
 
 module _ (mode : Mode) (all : List ℕ) (p : ℕ) (i : Instr) where
-  pub instr : (rest : List ℕ) → rest ≡ fieldsText (operandsBy (firstOf (targetsAnswer mode p i)) i) → (w : ℕ) → letters 8 w ≡ mnemonicOf (partsOf i .form) → (bytes : List ℕ) → bytes ≡ take (sizeOf (formIn i)) all
+  pub instr : (rest : List ℕ) → rest ≡ fieldsText (operandsBy (firstOf (targetsAnswer mode p i)) i) → (w : ℕ) → letters 8 w ≡ mnemonicOf (partsOf i .form)
+      → (bytes : List ℕ) → bytes ≡ take (sizeOf (formIn i)) all
       → begin (code "I") p ++ ((9 ∷ hexes bytes) ++ ((9 ∷ letters 8 w) ++ rest)) ≡ instrText mode p i all
   unfolding instrText fieldsText
   instr rest e w f bytes g = rw (e, f, g)
 
 -- by itself
-pub code-here : (mode : Mode) (p : ℕ) (bytes : List ℕ) (i : Instr) → Whole i ≡ hereOf bytes 0 → nextOf p i ≤ 65536 → instrText mode p i bytes ≡ codeLine mode p bytes
+pub code-here : (mode : Mode) (p : ℕ) (bytes : List ℕ) (i : Instr) → Whole i ≡ hereOf bytes 0 → nextOf p i ≤ 65536
+    → instrText mode p i bytes ≡ codeLine mode p bytes
 unfolding codeLine
 code-here mode p bytes i e h = ap (λ (b : Bool). cond b [] (instrText mode p i bytes)) (sym (le-ltb 65536 (nextOf p i) h)) ∙ ap (codeBy mode p bytes) e
 

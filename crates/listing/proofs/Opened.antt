@@ -103,6 +103,7 @@ module _ (mode : Mode) (p : ℕ) (s : List ℕ) (b : Small s) where
   pub text-alone : p + sizeHere s 0 ≤ 65536 → textOf mode p s (decodeAnswer s) ≡ codeLine mode p s
   text-alone h = either (λ f. ap (textOf mode p s) (sym (nothing s f)) ∙ outside f) by
     where
-      by : (i : 0 < length s) (t : Bool) → fitsHere s 0 ≡ t → textOf mode p s (decodeAnswer s) ≡ codeBy mode p s (cond t (Whole (instrHere s 0)) (Cut (cutAt s 0)))
+      by : (i : 0 < length s) (t : Bool) → fitsHere s 0 ≡ t
+          → textOf mode p s (decodeAnswer s) ≡ codeBy mode p s (cond t (Whole (instrHere s 0)) (Cut (cutAt s 0)))
       by i true f = rw (le-ltb 65536 (nextOf p (instrHere s 0)) (rw end h)) (ap (textOf mode p s) (answer s 0 i true f))
       by i false f = ap (textOf mode p s) (answer s 0 i false f)

@@ -127,7 +127,8 @@ by-shape t ImmR8 a b c = refl
 by-shape t RiImmR8 a b c = refl
 
 module _ (t : ℕ) (i : Instr) (v : Parts) (k : Kinds) where
-  pub is-operands : v ≡ partsOf i → k ≡ threeOf (formIn i .shape) → (a b c : ℕ) → a ≡ natAbs (v .a) → b ≡ natAbs (v .b) → c ≡ natAbs (v .c) → three t k a b c ≡ fieldsText (operandsBy t i)
+  pub is-operands : v ≡ partsOf i → k ≡ threeOf (formIn i .shape) → (a b c : ℕ) → a ≡ natAbs (v .a) → b ≡ natAbs (v .b) → c ≡ natAbs (v .c)
+      → three t k a b c ≡ fieldsText (operandsBy t i)
   unfolding operandsBy
   is-operands e f a b c x y z =
       let g : three t k a b c ≡ three t k (natAbs (v .a)) (natAbs (v .b)) (natAbs (v .c)) = rw (x, y, z) in
@@ -137,11 +138,23 @@ module _ (t : ℕ) (i : Instr) (v : Parts) (k : Kinds) where
 
 three-length : (t : ℕ) (k : Kinds) (a b c : ℕ) → length (three t k a b c) ≤ 16
 three-length t k a b c =
-    omega (arith, field-length t (k .a) a, field-length t (k .b) b, field-length t (k .c) c, length-append (shownField t (k .a) a) (shownField t (k .b) b ++ (shownField t (k .c) c ++ (10 ∷ []))), length-append (shownField t (k .b) b) (shownField t (k .c) c ++ (10 ∷ [])), length-append (shownField t (k .c) c) (10 ∷ []))
+    omega (
+      arith,
+      field-length t (k .a) a,
+      field-length t (k .b) b,
+      field-length t (k .c) c,
+      length-append (shownField t (k .a) a) (shownField t (k .b) b ++ (shownField t (k .c) c ++ (10 ∷ []))),
+      length-append (shownField t (k .b) b) (shownField t (k .c) c ++ (10 ∷ [])),
+      length-append (shownField t (k .c) c) (10 ∷ []),
+    )
 
 -- the operands and the end of the line have at most sixteen bytes
 pub operands-length : (t : ℕ) (i : Instr) → length (fieldsText (operandsBy t i)) ≤ 16
 operands-length t i =
     let v = partsOf i in
     let k = threeOf (formIn i .shape) in
-    omega (arith, ap length (is-operands t i v k refl refl (natAbs (v .a)) (natAbs (v .b)) (natAbs (v .c)) refl refl refl), three-length t k (natAbs (v .a)) (natAbs (v .b)) (natAbs (v .c)))
+    omega (
+      arith,
+      ap length (is-operands t i v k refl refl (natAbs (v .a)) (natAbs (v .b)) (natAbs (v .c)) refl refl refl),
+      three-length t k (natAbs (v .a)) (natAbs (v .b)) (natAbs (v .c)),
+    )

@@ -29,7 +29,8 @@ module _ (mode : Mode) (image m labels : List ℕ) (chosen : Bool) (p : ℕ) whe
   print-code e = rw e
 
   -- an empty run prints nothing
-  pub print-run : tracedMark (getD m p 0) ≡ false → (run : List ℕ) → run ≡ runAt image m p → dataLine p run ≡ linesAt mode image m (maskOf image m) labels chosen p
+  pub print-run : tracedMark (getD m p 0) ≡ false → (run : List ℕ) → run ≡ runAt image m p
+      → dataLine p run ≡ linesAt mode image m (maskOf image m) labels chosen p
   unfolding linesAt dataLine
   print-run e run g = rw (e, g) (by (eqb (getD (maskOf image m) p 0) 0))
     where
@@ -38,7 +39,8 @@ module _ (mode : Mode) (image m labels : List ℕ) (chosen : Bool) (p : ℕ) whe
       by false = refl
 
 -- the run of a traced position is empty, since that is masked
-pub step-run : (image m : List ℕ) (p : ℕ) → (tracedMark (getD m p 0) ≡ true → getD (maskOf image m) p 0 ≡ 1) → (run : List ℕ) → run ≡ runAt image m p → 1 + (length run - 1) ≡ 1 + passed image m (maskOf image m) p
+pub step-run : (image m : List ℕ) (p : ℕ) → (tracedMark (getD m p 0) ≡ true → getD (maskOf image m) p 0 ≡ 1) → (run : List ℕ) → run ≡ runAt image m p
+    → 1 + (length run - 1) ≡ 1 + passed image m (maskOf image m) p
 unfolding passed
 step-run image m p h run g =
     ap (λ (l : List ℕ). 1 + (length l - 1)) g ∙ by (tracedMark (getD m p 0)) refl (eqb (getD (maskOf image m) p 0) 0) refl
@@ -46,7 +48,8 @@ step-run image m p h run g =
     r : List ℕ
     r = dataRun image (maskOf image m) p
 
-    by : (t : Bool) → tracedMark (getD m p 0) ≡ t → (b : Bool) → eqb (getD (maskOf image m) p 0) 0 ≡ b → 1 + (length (cond b r []) - 1) ≡ 1 + cond t 0 (cond b (length r - 1) 0)
+    by : (t : Bool) → tracedMark (getD m p 0) ≡ t → (b : Bool) → eqb (getD (maskOf image m) p 0) 0 ≡ b
+        → 1 + (length (cond b r []) - 1) ≡ 1 + cond t 0 (cond b (length r - 1) 0)
     by true e true f = absurd (omega (arith, h e, eqb-true (getD (maskOf image m) p 0) 0 f))
     by true e false f = refl
     by false e true f = refl
@@ -120,7 +123,8 @@ module _ (mode : Mode) (image m mask labels : List ℕ) (chosen : Bool) where
   left-end p h = let e : length image - p ≡ 0 = omega arith in ap (λ (n : ℕ). from n p 0) e
 
 -- at the start it is the listing
-pub left-text : (mode : Mode) (image m : List ℕ) (chosen : Bool) → leftAt mode image m (maskOf image m) (labelsOf mode image m) chosen 0 ≡ textOf mode image m chosen
+pub left-text : (mode : Mode) (image m : List ℕ) (chosen : Bool) → leftAt mode image m (maskOf image m) (labelsOf mode image m) chosen 0
+    ≡ textOf mode image m chosen
 unfolding textOf
 left-text mode image m chosen =
     let e : length image - 0 ≡ length image = omega arith in

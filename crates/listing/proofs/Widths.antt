@@ -139,7 +139,17 @@ module _ (mode : Mode) (image m : List ℕ) (B : Small image) where
         let l = cond (eqb (getD labels p 0) 0) [] (labelLine p) in
         let o = overlapLine p (overlapsOf image m p) in
         let h = hereLine mode image p (hereOf image p) in
-        omega (arith, label-length (getD labels p 0) p, found-width (code "O") p (overlapsOf image m p), overlaps-few image m B p, most p, here-width p, length-append l (o ++ (arrived chosen p ++ h)), length-append o (arrived chosen p ++ h), length-append (arrived chosen p) h)
+        omega (
+          arith,
+          label-length (getD labels p 0) p,
+          found-width (code "O") p (overlapsOf image m p),
+          overlaps-few image m B p,
+          most p,
+          here-width p,
+          length-append l (o ++ (arrived chosen p ++ h)),
+          length-append o (arrived chosen p ++ h),
+          length-append (arrived chosen p) h,
+        )
 
     printed-width : (p : ℕ) → length (linesAt mode image m mask labels chosen p) ≤ 60 + w p
     unfolding linesAt
@@ -161,7 +171,12 @@ module _ (mode : Mode) (image m : List ℕ) (B : Small image) where
   pub all-width : (mask labels : List ℕ) (chosen : Bool) → length (walk mode image m mask labels chosen (length image) 0 0) ≤ cond chosen 77 60 * length image
   all-width mask labels true =
       let f : ℕ → ℕ = λ (p : ℕ). length (arrivalsOf mode image m p) in
-      omega (arith, walk-width true arrivedMost arrived-width mask labels (length image) 0 0, total-line f (length image) 0, arrivals-few mode image m (length image) 0)
+      omega (
+        arith,
+        walk-width true arrivedMost arrived-width mask labels (length image) 0 0,
+        total-line f (length image) 0,
+        arrivals-few mode image m (length image) 0,
+      )
   all-width mask labels false =
       omega (arith, walk-width false (λ (p : ℕ). 0) (λ p. omega arith) mask labels (length image) 0 0, total-same 0 (length image) 0)
 

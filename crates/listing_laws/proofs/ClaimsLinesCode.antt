@@ -32,5 +32,6 @@ code-listed mode image m choice B small U p t =
           ∷ operandsBy (firstOf (accepted (s .targets))) (s .instr);
       text =
           rw (second-part (ltb p (length image)) _ t)
-          (ap (λ (h : List ℕ). cond (eqb (getD (labelsOf mode image m) p 0) 0) [] (labelLine p) ++ (overlapLine p (overlapsOf image m p) ++ (cond (isChosen choice) (arrivalLine p (arrivalsOf mode image m p)) [] ++ h))) (s .shown));
+          (ap (λ (h : List ℕ). cond (eqb (getD (labelsOf mode image m) p 0) 0) [] (labelLine p)
+          ++ (overlapLine p (overlapsOf image m p) ++ (cond (isChosen choice) (arrivalLine p (arrivalsOf mode image m p)) [] ++ h))) (s .shown));
     }

@@ -32,7 +32,8 @@ unfolding leading upFrom
 leading-each f zero p i h = absurd (omega arith)
 leading-each f (suc k) p i h = by (f p) i refl h (leading-each f k (suc p))
   where
-    by : (t : Bool) (i : ℕ) → f p ≡ t → i < cond t (suc (leading f (upFrom k (suc p)))) 0 → ((j : ℕ) → j < leading f (upFrom k (suc p)) → f (suc p + j) ≡ true) → f (p + i) ≡ true
+    by : (t : Bool) (i : ℕ) → f p ≡ t → i < cond t (suc (leading f (upFrom k (suc p)))) 0 → ((j : ℕ) → j < leading f (upFrom k (suc p)) → f (suc p + j) ≡ true)
+        → f (p + i) ≡ true
     by true zero e g rest = ap f (let d : p + 0 ≡ p = omega arith in d) ∙ e
     by true (suc i) e g rest = ap f (let d : p + suc i ≡ suc p + i = omega arith in d) ∙ rest i (omega arith)
     by false i e g rest = absurd (omega arith)

@@ -36,7 +36,9 @@ pub record Shown (mode : Mode) (image : List ℕ) (p : ℕ) : Type 0 where
   pub decoded : decodeAnswer (drop p image) ≡ accepted instr
   pub targets : List ℤ
   pub going : targetsAnswer mode p instr ≡ accepted targets
-  pub shown : hereLine mode image p (hereOf image p) ≡ line (code "I") (hex4 p ∷ hexes (take (sizeOf (formIn instr)) (drop p image)) ∷ mnemonicOf (partsOf instr .form) ∷ operandsBy (firstOf (accepted targets)) instr)
+  pub shown : hereLine mode image p (hereOf image p)
+      ≡ line (code "I") (hex4 p ∷ hexes (take (sizeOf (formIn instr)) (drop p image)) ∷ mnemonicOf (partsOf instr .form)
+      ∷ operandsBy (firstOf (accepted targets)) instr)
 
 -- at each traced position of marks that no view refuses
 abbrev pub TracedShown : Type 0
@@ -47,6 +49,7 @@ TracedShown =
 -- instruction is not cut off
 abbrev pub TracedReachable : Type 0
 TracedReachable =
-    (mode : Mode) (image marks order entries pins : List ℕ) (limit : ℕ) (s : RunResult) → Bytes image → Clean image → runAnswer mode image marks order entries pins limit ≡ accepted s → s .finished ≡ true
+    (mode : Mode) (image marks order entries pins : List ℕ) (limit : ℕ) (s : RunResult) → Bytes image → Clean image
+    → runAnswer mode image marks order entries pins limit ≡ accepted s → s .finished ≡ true
     → (p : ℕ) → (tracedAt image (runMarks mode image marks order entries pins limit) p ≡ true → Reachable mode image entries pins p × (fitsHere image p ≡ true))
     × (Reachable mode image entries pins p → fitsHere image p ≡ true → tracedAt image (runMarks mode image marks order entries pins limit) p ≡ true)

@@ -167,7 +167,8 @@ trailing-digits f (suc k) q =
     ap₂ (λ (x y : ℕ). q + under x y) (lowest a (f q)) (ap (trailingZeros k) (half a (f q)))
     ∙ by (f q) (trailing-digits f k (suc q))
   where
-    by : (b : Bool) → suc q + trailingZeros k (digits f k (suc q)) ≡ firstIn f k (suc q) → q + under (bit b) (trailingZeros k (digits f k (suc q))) ≡ cond b q (firstIn f k (suc q))
+    by : (b : Bool) → suc q + trailingZeros k (digits f k (suc q)) ≡ firstIn f k (suc q)
+        → q + under (bit b) (trailingZeros k (digits f k (suc q))) ≡ cond b q (firstIn f k (suc q))
     by true e = omega arith
     by false e = omega arith
 

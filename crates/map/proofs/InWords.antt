@@ -47,7 +47,8 @@ module _ (ws : List ℕ) where
 
         inside : (i : ℕ) → i < e - a → f (0 + a + i) ≡ codeAt ws (64 * j + a + i)
         inside i l =
-            first-alone (one w (0 + a + i)) (between a e (0 + a + i)) (ap₂ (λ (b c : Bool). b && c) (le-leb a (0 + a + i) (omega arith)) (lt-ltb (0 + a + i) e (omega arith)))
+            first-alone (one w (0 + a + i)) (between a e (0 + a + i))
+            (ap₂ (λ (b c : Bool). b && c) (le-leb a (0 + a + i) (omega arith)) (lt-ltb (0 + a + i) e (omega arith)))
             ∙ sym (bit-at j (0 + a + i) (omega arith))
             ∙ ap (codeAt ws) (let g : 64 * j + (0 + a + i) ≡ 64 * j + a + i = omega arith in g)
 
@@ -92,5 +93,6 @@ module _ (ws : List ℕ) where
 
     pub hit-data : zero-bit < 64 → dataAt ws (base + zero-bit) ≡ true
     hit-data h =
-        ap not (at-word (base + zero-bit) (omega arith) (omega arith) ∙ ap (one (getD ws (q / 64) 0)) (let e : base + zero-bit - base ≡ zero-bit = omega arith in e))
+        ap not (at-word (base + zero-bit) (omega arith) (omega arith)
+        ∙ ap (one (getD ws (q / 64) 0)) (let e : base + zero-bit - base ≡ zero-bit = omega arith in e))
         ∙ second-part (leb (q % 64) zero-bit) (not (one (getD ws (q / 64) 0) zero-bit)) (hits h)

@@ -50,7 +50,8 @@ module _ (mask : List ℕ) where
 
 pub cleared-length : (k : ℕ) (ws lent : List ℕ) → k ≤ length lent → ws ≡ replicate k 0 ++ drop k lent → length ws ≡ length lent
 cleared-length k ws lent h e =
-    ap length e ∙ length-append (replicate k 0) (drop k lent) ∙ (let a : length (replicate {A = ℕ} k 0) ≡ k = length-replicate k 0 in let b = length-drop k lent in omega arith)
+    ap length e ∙ length-append (replicate k 0) (drop k lent) ∙ (let a : length (replicate {A = ℕ} k 0) ≡ k = length-replicate k 0 in
+    let b = length-drop k lent in omega arith)
 
 digits-none : (f : ℕ → Bool) (k p : ℕ) → ((i : ℕ) → f i ≡ false) → digits f k p ≡ 0
 unfolding digits
@@ -101,14 +102,16 @@ module _ (image m : List ℕ) where
       ∙ ap (λ (q : ℕ). before p b || covers image m b q) (let g : 0 + p ≡ p = omega arith in g)
       ∙ ap (λ (c : Bool). before p b || (c && between p (p + sizeHere image p) b)) (ap₂ (λ (x y : Bool). x && y) (lt-ltb p n h) e)
 
-  next : (p : ℕ) → p < n → (t : Bool) → tracedMark (getD m p 0) ≡ t → (t ≡ true → p + sizeHere image p ≤ n) → cond t (covered (mapBy n (before p)) (sizeHere image p) p) (mapBy n (before p)) ≡ mapBy n (before (p + 1))
+  next : (p : ℕ) → p < n → (t : Bool) → tracedMark (getD m p 0) ≡ t → (t ≡ true → p + sizeHere image p ≤ n)
+      → cond t (covered (mapBy n (before p)) (sizeHere image p) p) (mapBy n (before p)) ≡ mapBy n (before (p + 1))
   next p h true e f =
       stretch-more n (before p) (sizeHere image p) p (f refl)
       ∙ map-same n (λ (b : ℕ). before p b || between p (p + sizeHere image p) b) (before (p + 1)) (λ b l. sym (joins p h true e b))
   next p h false e f = map-same n (before p) (before (p + 1)) (λ b l. sym (joins p h false e b ∙ or-false (before p b)))
 
   apart : (t : Bool) (rest : List ℕ) (p : ℕ) → (t ≡ true → p + sizeHere image p ≤ n)
-      → cond t (covered (mapBy n (before p) ++ rest) (sizeHere image p) p) (mapBy n (before p) ++ rest) ≡ cond t (covered (mapBy n (before p)) (sizeHere image p) p) (mapBy n (before p)) ++ rest
+      → cond t (covered (mapBy n (before p) ++ rest) (sizeHere image p) p) (mapBy n (before p) ++ rest)
+      ≡ cond t (covered (mapBy n (before p)) (sizeHere image p) p) (mapBy n (before p)) ++ rest
   apart true rest p f =
       covered-append (mapBy n (before p)) rest (sizeHere image p) p (let l = map-length n (before p) in let g = f refl in omega arith)
   apart false rest p f = refl
@@ -131,7 +134,8 @@ module _ (image m : List ℕ) where
   pub mask-at : (b : ℕ) → b < n → maskedAt (maskOf image m) b ≡ masked image m b
   unfolding maskOf
   mask-at b h =
-      ap (λ (x : ℕ). not (eqb x 0)) (up-at (λ (c : ℕ). bit (masked image m c)) n 0 b h ∙ ap (λ (c : ℕ). bit (masked image m c)) (let e : 0 + b ≡ b = omega arith in e))
+      ap (λ (x : ℕ). not (eqb x 0)) (up-at (λ (c : ℕ). bit (masked image m c)) n 0 b h
+      ∙ ap (λ (c : ℕ). bit (masked image m c)) (let e : 0 + b ≡ b = omega arith in e))
       ∙ bit-back (masked image m b)
 
   pub packed-mask : packed (maskOf image m) ≡ mapBy n (masked image m)

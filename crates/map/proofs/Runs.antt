@@ -13,7 +13,8 @@ use Rattle.map.proofs.Digits.{digit-le}
 pub count-add : (f : ℕ → Bool) (i j p : ℕ) → countIn f (i + j) p ≡ countIn f i p + countIn f j (p + i)
 unfolding countIn
 count-add f zero j p =
-    ap₂ (λ (k q : ℕ). countIn f k q) (let e : 0 + j ≡ j = omega arith in e) (let e : p ≡ p + 0 = omega arith in e) ∙ (let e : countIn f j (p + 0) ≡ 0 + countIn f j (p + 0) = omega arith in e)
+    ap₂ (λ (k q : ℕ). countIn f k q) (let e : 0 + j ≡ j = omega arith in e) (let e : p ≡ p + 0 = omega arith in
+    e) ∙ (let e : countIn f j (p + 0) ≡ 0 + countIn f j (p + 0) = omega arith in e)
 count-add f (suc i) j p =
     ap (λ (k : ℕ). countIn f k p) (let e : suc i + j ≡ suc (i + j) = omega arith in e)
     ∙ ap (λ (x : ℕ). bit (f p) + x) (count-add f i j (suc p))
@@ -43,7 +44,8 @@ unfolding firstIn
 first-in f zero p = (omega arith, omega arith)
 first-in f (suc k) p = by (f p) (first-in f k (suc p))
   where
-    by : (b : Bool) → (suc p ≤ firstIn f k (suc p)) × (firstIn f k (suc p) ≤ suc p + k) → (p ≤ cond b p (firstIn f k (suc p))) × (cond b p (firstIn f k (suc p)) ≤ p + suc k)
+    by : (b : Bool) → (suc p ≤ firstIn f k (suc p)) × (firstIn f k (suc p) ≤ suc p + k)
+        → (p ≤ cond b p (firstIn f k (suc p))) × (cond b p (firstIn f k (suc p)) ≤ p + suc k)
     by true h = (omega arith, omega arith)
     by false h = (omega (arith, h .0), omega (arith, h .1))
 
@@ -67,7 +69,8 @@ unfolding firstIn
 first-hit f zero p h = absurd (omega arith)
 first-hit f (suc k) p h = by (f p) refl h (λ g. first-hit f k (suc p) g)
   where
-    by : (b : Bool) → f p ≡ b → cond b p (firstIn f k (suc p)) < p + suc k → (firstIn f k (suc p) < suc p + k → f (firstIn f k (suc p)) ≡ true) → f (cond b p (firstIn f k (suc p))) ≡ true
+    by : (b : Bool) → f p ≡ b → cond b p (firstIn f k (suc p)) < p + suc k → (firstIn f k (suc p) < suc p + k → f (firstIn f k (suc p)) ≡ true)
+        → f (cond b p (firstIn f k (suc p))) ≡ true
     by true e g rest = e
     by false e g rest = rest (omega arith)
 

@@ -36,8 +36,10 @@ module _ (ws : List ℕ) (first last : ℕ) where
         small = omega (arith, L .from, L .small);
         all =
             ap (λ (x : ℕ). n + x + countIn (codeAt ws) (64 * (last - (j + 1))) (64 * (j + 1))) (whole-word ws j b)
-            ∙ (let e : n + countIn (codeAt ws) 64 (64 * j) + countIn (codeAt ws) (64 * (last - (j + 1))) (64 * (j + 1)) ≡ n + (countIn (codeAt ws) 64 (64 * j) + countIn (codeAt ws) (64 * (last - (j + 1))) (64 * (j + 1))) = omega arith in e)
-            ∙ ap (λ (x : ℕ). n + (countIn (codeAt ws) 64 (64 * j) + countIn (codeAt ws) (64 * (last - (j + 1))) x)) (let e : 64 * (j + 1) ≡ 64 * j + 64 = omega arith in e)
+            ∙ (let e : n + countIn (codeAt ws) 64 (64 * j) + countIn (codeAt ws) (64 * (last - (j + 1))) (64 * (j + 1)) ≡ n
+            + (countIn (codeAt ws) 64 (64 * j) + countIn (codeAt ws) (64 * (last - (j + 1))) (64 * (j + 1))) = omega arith in e)
+            ∙ ap (λ (x : ℕ). n + (countIn (codeAt ws) 64 (64 * j) + countIn (codeAt ws) (64 * (last - (j + 1))) x))
+            (let e : 64 * (j + 1) ≡ 64 * j + 64 = omega arith in e)
             ∙ ap (λ (x : ℕ). n + x) (sym (count-add (codeAt ws) 64 (64 * (last - (j + 1))) (64 * j)))
             ∙ ap (λ (x : ℕ). n + countIn (codeAt ws) x (64 * j)) (let e : 64 + 64 * (last - (j + 1)) ≡ 64 * (last - j) = omega arith in e)
             ∙ L .all;
@@ -93,7 +95,8 @@ module _ (ws : List ℕ) (from to : ℕ) (h : from ≤ to) where
     in-parts =
         let s : from / 64 < to / 64 = omega arith in
         ap₂ (λ (x y : ℕ). x + y) (ap₂ (λ (x y : ℕ). x + y) start body) rest
-        ∙ (let g : count (64 - from % 64) from + count k (64 * (from / 64 + 1)) + count (to % 64) (64 * (to / 64)) ≡ count (64 - from % 64) from + (count k (64 * (from / 64 + 1)) + count (to % 64) (64 * (to / 64))) = omega arith in g)
+        ∙ (let g : count (64 - from % 64) from + count k (64 * (from / 64 + 1)) + count (to % 64) (64 * (to / 64)) ≡ count (64 - from % 64) from
+        + (count k (64 * (from / 64 + 1)) + count (to % 64) (64 * (to / 64))) = omega arith in g)
         ∙ ap₂ (λ (x y : ℕ). count (64 - from % 64) from + (count k x + count (to % 64) y))
         (let g : 64 * (from / 64 + 1) ≡ from + (64 - from % 64) = omega arith in g)
         (let g : 64 * (to / 64) ≡ from + (64 - from % 64) + k = omega arith in g)

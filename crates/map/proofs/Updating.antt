@@ -64,5 +64,6 @@ module _ (image m ws : List ℕ) (p : ℕ) where
         pub set-all : tracedMark (getD m p 0) ≡ true → (k : ℕ) → k ≡ sizeHere image p → (t : List ℕ) → t ≡ covered ws k p → Is (accepted k) t
         set-all e k f t g =
             held (accepted k)
-            (lent ∙ pass _ _ _ (le-ltb (length ws) (wordsFor (length image)) room) ∙ pass _ _ _ (ap not (here ∙ e)) ∙ done (sizeHere image p) ∙ ap accepted (sym f))
+            (lent ∙ pass _ _ _ (le-ltb (length ws) (wordsFor (length image)) room) ∙ pass _ _ _ (ap not (here ∙ e)) ∙ done (sizeHere image p)
+            ∙ ap accepted (sym f))
             t (sym (g ∙ ap (λ (i : ℕ). covered ws i p) f))

@@ -36,7 +36,8 @@ pub record Done (image m ws : List ℕ) : Type 0 where
   pub words : buildWords image m ws ≡ packed (maskOf image m) ++ drop (wordsFor (length image)) ws
 
 -- sound marks and enough words are enough
-pub builds : (image m ws : List ℕ) → Sound image m → wordsFor (length image) ≤ length ws → (buildAnswer image m ws ≡ accepted (wordsFor (length image))) × (buildWords image m ws ≡ packed (maskOf image m) ++ drop (wordsFor (length image)) ws)
+pub builds : (image m ws : List ℕ) → Sound image m → wordsFor (length image) ≤ length ws → (buildAnswer image m ws ≡ accepted (wordsFor (length image)))
+    × (buildWords image m ws ≡ packed (maskOf image m) ++ drop (wordsFor (length image)) ws)
 builds image m ws s h =
     let f = shown-as image m (packed (maskOf image m)) ws s (wordsFor (length image)) (packed-length image m) h _ refl in (sym (f .0), sym (f .1))
 

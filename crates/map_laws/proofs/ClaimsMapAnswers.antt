@@ -25,7 +25,8 @@ use Rattle.map_laws.proofs.Built.{built, bit-inside, bit-past}
 use lib.ListN.{length-append}
 
 -- the bytes of a mask of ones and zeros, summed, are its ones, counted
-summed : (f : ℕ → Bool) (mask : List ℕ) → ((q : ℕ) → q < length mask → getD mask q 0 ≡ bit (f q)) → (k b : ℕ) → b + k ≤ length mask → countIn f k b ≡ sum (take k (drop b mask))
+summed : (f : ℕ → Bool) (mask : List ℕ) → ((q : ℕ) → q < length mask → getD mask q 0 ≡ bit (f q)) → (k b : ℕ) → b + k ≤ length mask
+    → countIn f k b ≡ sum (take k (drop b mask))
 unfolding countIn sum
 summed f mask e zero b h = refl
 summed f mask e (suc k) b h =
@@ -62,7 +63,8 @@ module _ (image m : List ℕ) where
     unfolding testAnswer countAnswer firstAnswer
     answers = record {
       test = λ p h. sym (told ws n (leb n p) p (bit (codeAt ws p)) fits room _ (inside p h) (lt-leb n p h));
-      count = λ b e l h. sym (told ws n (ltb e b || ltb n e) b (countIn (codeAt ws) (e - b) b) fits room _ (sym (counted b e l h)) (ap₂ (λ (x y : Bool). x || y) (le-ltb e b l) (le-ltb n e h)));
+      count = λ b e l h. sym (told ws n (ltb e b || ltb n e) b (countIn (codeAt ws) (e - b) b) fits room _ (sym (counted b e l h))
+          (ap₂ (λ (x y : Bool). x || y) (le-ltb e b l) (le-ltb n e h)));
       first = λ p h. sym (told ws n (leb n p) p (firstIn (dataAt ws) (n - p) p) fits room _ (firsts p h) (lt-leb n p h));
     }
       where

@@ -69,7 +69,8 @@ module _ (mode : Mode) (image m ws : List ℕ) (p : ℕ) (d : Done image m ws) (
 
   long : wordsFor n ≤ length (buildWords image m ws)
   long =
-      subst (λ (v : List ℕ). wordsFor n ≤ length v) (sym (d .words)) (let e = length-append (packed (maskOf image m)) rest in let f = packed-length image m in omega arith)
+      subst (λ (v : List ℕ). wordsFor n ≤ length v) (sym (d .words)) (let e = length-append (packed (maskOf image m)) rest in let f = packed-length image m in
+      omega arith)
 
   -- stated for the marks taken up
   abbrev Holds : List ℕ → Type 0

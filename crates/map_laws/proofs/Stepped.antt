@@ -45,7 +45,8 @@ regroup false true false true false = refl
 regroup false true false false false = refl
 regroup false false false d u = refl
 
-some-more : (f g : ℕ → Bool) (u : Bool) (p k q : ℕ) → ((i : ℕ) → i < q + k → f i ≡ (g i || (eqb p i && u))) → some f (upFrom k q) ≡ (some g (upFrom k q) || (between q (q + k) p && u))
+some-more : (f g : ℕ → Bool) (u : Bool) (p k q : ℕ) → ((i : ℕ) → i < q + k → f i ≡ (g i || (eqb p i && u)))
+    → some f (upFrom k q) ≡ (some g (upFrom k q) || (between q (q + k) p && u))
 unfolding some upFrom
 some-more f g u p zero q e = sym (and-none u (between q (q + 0) p) (begins-none q p))
 some-more f g u p (suc k) q e =
@@ -113,4 +114,5 @@ module _ (mode : Mode) (image m : List ℕ) (p : ℕ) (room : length image ≤ l
 
   pub sound-after : n ≤ 65536 → ((q : ℕ) → q < n → damagedHere image m q ≡ false) → Sound image m′
   sound-after fits g =
-      sym (sound image m′ fits (let e = length-took (tracerOf mode image) m p in omega arith) n (omega arith) (left-from image m′ n (omega arith) (undamaged-after g)))
+      sym (sound image m′ fits (let e = length-took (tracerOf mode image) m p in omega arith) n (omega arith)
+      (left-from image m′ n (omega arith) (undamaged-after g)))

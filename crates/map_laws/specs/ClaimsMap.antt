@@ -28,7 +28,8 @@ pub record KeptUp (mode : Mode) (image m ws : List ℕ) (p : ℕ) : Type 0 where
 -- so it is wherever the map could be built and the step was accepted
 abbrev pub UpdatedIsBuilt : Type 0
 UpdatedIsBuilt =
-    (mode : Mode) (image m ws : List ℕ) (p k : ℕ) (s : StepResult) → buildAnswer image m ws ≡ accepted k → stepAnswer mode image m p ≡ accepted s → KeptUp mode image m ws p
+    (mode : Mode) (image m ws : List ℕ) (p k : ℕ) (s : StepResult) → buildAnswer image m ws ≡ accepted k → stepAnswer mode image m p ≡ accepted s
+    → KeptUp mode image m ws p
 
 -- the sum of a list
 unfoldable pub sum : List ℕ → ℕ

@@ -26,7 +26,8 @@ module _ (image ts m : List ℕ) (p : ℕ) (r : Taken) (m′ : List ℕ) where
         marks-are = q ∙ sym (took-exempt (goingTo image ts) m p e);
       }
 
-  pub plainly : exemptHere image m p ≡ false → (ps : Places) → (r .mark ≡ 2) × (r .noted ≡ ps) → (m₁ : List ℕ) → m₁ ≡ set m p 2 → (placesIn ps ≡ fresh (length image) ts m₁) × (m′ ≡ note (length image) ts m₁) → TakenUp (goingTo image ts) m p r m′
+  pub plainly : exemptHere image m p ≡ false → (ps : Places) → (r .mark ≡ 2) × (r .noted ≡ ps) → (m₁ : List ℕ) → m₁ ≡ set m p 2
+      → (placesIn ps ≡ fresh (length image) ts m₁) × (m′ ≡ note (length image) ts m₁) → TakenUp (goingTo image ts) m p r m′
   plainly e ps k m₁ s q =
       record {
         mark-is = k .0 ∙ sym (mark-plain (goingTo image ts) m p e);
@@ -35,7 +36,8 @@ module _ (image ts m : List ℕ) (p : ℕ) (r : Taken) (m′ : List ℕ) where
       }
 
 -- where these are the targets of the instruction at p, it is the image's own tracer that took p up
-pub by-ways : (mode : Mode) (image ts m : List ℕ) (p : ℕ) (r : Taken) (m′ : List ℕ) → ts ≡ waysHere mode image p → TakenUp (goingTo image ts) m p r m′ → TakenUp (tracerOf mode image) m p r m′
+pub by-ways : (mode : Mode) (image ts m : List ℕ) (p : ℕ) (r : Taken) (m′ : List ℕ) → ts ≡ waysHere mode image p → TakenUp (goingTo image ts) m p r m′
+    → TakenUp (tracerOf mode image) m p r m′
 unfolding mark found took targets
 by-ways mode image ts m p r m′ e t =
     record {

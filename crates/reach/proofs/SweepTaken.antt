@@ -55,7 +55,8 @@ module _ (G : Tracer) where
   none-from zero p m e = refl
   none-from (suc k) p m e = by (canTake G m p) e (none-from k (suc p) m)
     where
-      by : (b : Bool) → cond b 1 0 + sweepTakenFrom G k (suc p) (cond b (took G m p) m) ≡ 0 → (sweepTakenFrom G k (suc p) m ≡ 0 → sweepFrom G k (suc p) m ≡ m) → sweepFrom G k (suc p) (cond b (took G m p) m) ≡ m
+      by : (b : Bool) → cond b 1 0 + sweepTakenFrom G k (suc p) (cond b (took G m p) m) ≡ 0 → (sweepTakenFrom G k (suc p) m ≡ 0 → sweepFrom G k (suc p) m ≡ m)
+          → sweepFrom G k (suc p) (cond b (took G m p) m) ≡ m
       by true f rest = absurd (omega (arith, f))
       by false f rest = rest (omega (arith, f))
 

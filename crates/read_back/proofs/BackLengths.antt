@@ -33,6 +33,7 @@ back-length mode text n image marks h = by (backAnswer mode text n image marks)
     by (accepted k) = omega (arith, length-append new (drop (length new) image), length-drop (length new) image, image-long text n)
     by (refused k vs) = refl
 
-pub put-back : (mode : Mode) (text : List ℕ) (n : ℕ) (image marks : List ℕ) (k : ℕ) → accepted k ≡ backAnswer mode text n image marks → take n (backImage mode text n image marks) ≡ imageOn (sheetOf text n)
+pub put-back : (mode : Mode) (text : List ℕ) (n : ℕ) (image marks : List ℕ) (k : ℕ) → accepted k ≡ backAnswer mode text n image marks
+    → take n (backImage mode text n image marks) ≡ imageOn (sheetOf text n)
 unfolding backImage
 put-back mode text n image marks k e = rw (← e) (take-at (imageOn (sheetOf text n)) _ n (image-long text n))

@@ -84,7 +84,8 @@ back-bytes mode text n image marks b = by (backAnswer mode text n image marks)
     read i = omega (arith, bytes-at cells i, after-bounded (lines text) (emptySheet n) (zeros-bounded n) i)
 
     by : (a : Answer ℕ) → Bytes (after a (laid (bytesIn cells) image) image)
-    by (accepted k) = joined-small (bytesIn cells) (drop (length (bytesIn cells)) image) read (λ i. rw (getD-drop (length (bytesIn cells)) image i 0) (b (length (bytesIn cells) + i)))
+    by (accepted k) = joined-small (bytesIn cells) (drop (length (bytesIn cells)) image) read
+        (λ i. rw (getD-drop (length (bytesIn cells)) image i 0) (b (length (bytesIn cells) + i)))
     by (refused k vs) = b
 
 module _ (mode : Mode) (text : List ℕ) (n : ℕ) (image marks : List ℕ) where
@@ -135,5 +136,8 @@ module _ (mode : Mode) (text : List ℕ) (n : ℕ) (image marks : List ℕ) wher
           unfolding backImage backMarks
           is-done j f im mk p q =
               let e : accepted j ≡ backAnswer mode text n image marks = sym (ap restoredOf f) ∙ said in
-              let k : mk ≡ laid (marksIn told n) marks = q ∙ ap (λ (i : ℕ). marksIn told n ++ drop i marks) (sym (marks-length told n)) in
-              (said, rw (← e) (p ∙ ap (λ (y : List ℕ). laid y image) (r .image j (ap restoredOf f))), rw (← e) (k ∙ ap (λ (y : List ℕ). laid y marks) (r .marks j (ap restoredOf f))))
+              let k : mk ≡ laid (marksIn told n) marks = q ∙ ap (λ (i : ℕ). marksIn told n ++ drop i marks) (sym (marks-length told n)) in (
+                said,
+                rw (← e) (p ∙ ap (λ (y : List ℕ). laid y image) (r .image j (ap restoredOf f))),
+                rw (← e) (k ∙ ap (λ (y : List ℕ). laid y marks) (r .marks j (ap restoredOf f))),
+              )

@@ -17,7 +17,8 @@ use Rattle.text.specs.Cut.{fields}
 use Rattle.text.specs.Four.{isFour, allFour, fourOf}
 use Rattle.text.specs.Hex.{allHex}
 use Rattle.text.proofs.Pairs.{bytes-parts}
-use Rattle.read_back.specs.Line.{fieldOn, letterOn, positionOn, bytesOn, furtherOn, isStart, isLabel, isFound, isData, isCode, byLetter, isLine, hasBytes, recordOf}
+use Rattle.read_back.specs.Line.{fieldOn, letterOn, positionOn, bytesOn, furtherOn, isStart, isLabel, isFound, isData, isCode, byLetter, isLine, hasBytes}
+use Rattle.read_back.specs.Line.{recordOf}
 use Rattle.read_back.specs.Offsets.{positionAt, digitsAt, bytesAt, isStartAt, byLetterAt, isLineAt, recordAt, Spaced}
 use Rattle.read_back.proofs.Pieces.{tabbed, NoTab, NoTabs, fields-are, Fielded, fielded, fielded-of}
 use Rattle.read_back.proofs.Rests.{label-is, found-is, fives, data-is, digits-are}
@@ -61,7 +62,8 @@ module _ (mode : Mode) (c a b d e : ℕ) (gs : List (List ℕ)) (n : NoTab (c �
   agreed = ap₂ (λ (x y : Bool). x && y) started lettered
 
   -- positions, where there are no bytes
-  all-four : (l o r i t u v : Bool) → cond l (isLabel gs) (cond o (isFound gs) (cond r (isFound gs) (cond i u (cond t v false)))) ≡ true → cond i true t ≡ false → allFour gs ≡ true
+  all-four : (l o r i t u v : Bool) → cond l (isLabel gs) (cond o (isFound gs) (cond r (isFound gs) (cond i u (cond t v false)))) ≡ true → cond i true t ≡ false
+      → allFour gs ≡ true
   unfolding allFour
   all-four l o r i t u v q k = by gs l o r i t q k
     where
@@ -73,7 +75,8 @@ module _ (mode : Mode) (c a b d e : ℕ) (gs : List (List ℕ)) (n : NoTab (c �
       found [] q = absurd (never (sym q))
       found (h ∷ hs) q = q
 
-      by : (hs : List (List ℕ)) (l o r i t : Bool) → cond l (isLabel hs) (cond o (isFound hs) (cond r (isFound hs) (cond i u (cond t v false)))) ≡ true → cond i true t ≡ false → allFour hs ≡ true
+      by : (hs : List (List ℕ)) (l o r i t : Bool) → cond l (isLabel hs) (cond o (isFound hs) (cond r (isFound hs) (cond i u (cond t v false)))) ≡ true
+          → cond i true t ≡ false → allFour hs ≡ true
       by hs true o r i t q k = label hs q
       by hs false true r i t q k = found hs q
       by hs false false true i t q k = found hs q
@@ -84,8 +87,12 @@ module _ (mode : Mode) (c a b d e : ℕ) (gs : List (List ℕ)) (n : NoTab (c �
   counted : isLine mode line ≡ true → hasBytes c ≡ false → length (drop 6 line) / 5 ≡ length (furtherOn line)
   unfolding isLine
   counted g h =
-      let q = ap (λ (fs : List (List ℕ)). cond (eqb c (code "L")) (isLabel fs) (cond (eqb c (code "O")) (isFound fs) (cond (eqb c (code "A")) (isFound fs) (cond (eqb c (code "I")) (isCode mode (positionOn line) (bytesOn line) line) (cond (eqb c (code "D")) (isData fs) false))))) further in
-      let k = all-four (eqb c (code "L")) (eqb c (code "O")) (eqb c (code "A")) (eqb c (code "I")) (eqb c (code "D")) _ _ (sym q ∙ second-part (isStart line) (byLetter mode c line) g) h in
+      let q = ap (λ (fs : List (List ℕ)). cond (eqb c (code "L")) (isLabel fs)
+      (cond (eqb c (code "O")) (isFound fs)
+      (cond (eqb c (code "A")) (isFound fs)
+      (cond (eqb c (code "I")) (isCode mode (positionOn line) (bytesOn line) line) (cond (eqb c (code "D")) (isData fs) false))))) further in
+      let k = all-four (eqb c (code "L")) (eqb c (code "O")) (eqb c (code "A")) (eqb c (code "I")) (eqb c (code "D")) _ _
+      (sym q ∙ second-part (isStart line) (byLetter mode c line) g) h in
       omega (arith, fives gs k, ap length further)
 
   -- a field of bytes alone, in `D`
@@ -136,6 +143,7 @@ pub record-is : (line : List ℕ) → Spaced line → recordAt line ≡ recordOf
 unfolding recordAt recordOf
 record-is line g = ap₂ (λ (p k : ℕ). record { letter = letterOn line; position = p; count = k }) (g .position) (by (hasBytes (letterOn line)) refl)
   where
-    by : (b : Bool) → hasBytes (letterOn line) ≡ b → cond b (length (bytesAt line)) (length (drop 6 line) / 5) ≡ cond b (length (bytesOn line)) (length (furtherOn line))
+    by : (b : Bool) → hasBytes (letterOn line) ≡ b
+        → cond b (length (bytesAt line)) (length (drop 6 line) / 5) ≡ cond b (length (bytesOn line)) (length (furtherOn line))
     by true e = ap (λ (ds : List ℕ). length (bytesOf ds)) (g .digits)
     by false e = g .count e

@@ -36,7 +36,8 @@ unfolding backAnswer judge
 accepted-short mode text n image marks k e = by (ltb 65536 n) refl (judge rest (length (lines text))) e
   where
     rest : List Refusal
-    rest = refuse (ltb (length marks) n) 2 (pos (length marks) ∷ []) ∷ refuse (ltb (length image) n) 11 (pos n ∷ []) ∷ lineRefusals mode n start (emptySheet n) (lines text)
+    rest = refuse (ltb (length marks) n) 2 (pos (length marks) ∷ []) ∷ refuse (ltb (length image) n) 11 (pos n ∷ [])
+        ∷ lineRefusals mode n start (emptySheet n) (lines text)
 
     by : (b : Bool) → ltb 65536 n ≡ b → (a : Answer ℕ) → cond b (refused 1 (pos n ∷ [])) a ≡ accepted k → n ≤ 65536
     by true f a g = let z : _≡_ {A = ℕ} 0 1 = cc in absurd (omega arith)

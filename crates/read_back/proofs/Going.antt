@@ -48,12 +48,16 @@ module _ (mode : Mode) (n : ℕ) (place : Place) (cells marks l : List ℕ) (ls 
   abbrev agrees : Bool
   agrees = agree cells (positionOn l) (listedOn l)
 
-  step : judge (lineRefusals mode n place (sheet cells marks) (l ∷ ls)) x ≡ onto (turnAnswer mode place agrees n l) (λ (p : Place). judge (lineRefusals mode n p (sheetWith (sheet cells marks) l) ls) x)
+  step : judge (lineRefusals mode n place (sheet cells marks) (l ∷ ls)) x
+      ≡ onto (turnAnswer mode place agrees n l) (λ (p : Place). judge (lineRefusals mode n p (sheetWith (sheet cells marks) l) ls) x)
   unfolding lineRefusals turnAnswer judge
   step = by (isGood mode place l && agrees) (reach n (positionOn l) (listedOn l))
     where
       by : (b c : Bool)
-          → judge (refuse (not b) 15 (pos (place .line) ∷ []) ∷ refuse c 16 (pos (place .line) ∷ []) ∷ lineRefusals mode n (placeAfter place (length l) (recordOf l)) (sheetWith (sheet cells marks) l) ls) x ≡ onto (judge (refuse (not b) 15 (pos (place .line) ∷ []) ∷ refuse c 16 (pos (place .line) ∷ []) ∷ []) (placeAfter place (length l) (recordOf l))) (λ (p : Place). judge (lineRefusals mode n p (sheetWith (sheet cells marks) l) ls) x)
+          → judge (refuse (not b) 15 (pos (place .line) ∷ []) ∷ refuse c 16 (pos (place .line) ∷ [])
+          ∷ lineRefusals mode n (placeAfter place (length l) (recordOf l)) (sheetWith (sheet cells marks) l) ls) x
+          ≡ onto (judge (refuse (not b) 15 (pos (place .line) ∷ []) ∷ refuse c 16 (pos (place .line) ∷ []) ∷ []) (placeAfter place (length l) (recordOf l)))
+          (λ (p : Place). judge (lineRefusals mode n p (sheetWith (sheet cells marks) l) ls) x)
       by true true = refl
       by true false = refl
       by false c = refl
@@ -79,7 +83,8 @@ module _ (mode : Mode) (place : Place) (agrees : Bool) (n : ℕ) (l : List ℕ) 
   fine = by (isGood mode place l) refl agrees (reach n (positionOn l) (listedOn l)) refl e
     where
       by : (g : Bool) → isGood mode place l ≡ g → (a : Bool) (c : Bool) → reach n (positionOn l) (listedOn l) ≡ c
-          → accepted next ≡ judge (refuse (not (g && a)) 15 (pos (place .line) ∷ []) ∷ refuse c 16 (pos (place .line) ∷ []) ∷ []) (placeAfter place (length l) (recordOf l))
+          → accepted next ≡ judge (refuse (not (g && a)) 15 (pos (place .line) ∷ []) ∷ refuse c 16 (pos (place .line) ∷ []) ∷ [])
+          (placeAfter place (length l) (recordOf l))
           → (isGood mode place l ≡ true) × (reach n (positionOn l) (listedOn l) ≡ false) × (next ≡ placeAfter place (length l) (recordOf l))
       by true g true false f q = (g, f, ap placeOf q)
       by true g true true f q = absurd (never (ap isAccepted q))
@@ -94,7 +99,8 @@ module _ (mode : Mode) (text : List ℕ) (n : ℕ) where
     pub long : length image ≡ n
     pub wide : length table ≡ 1024
     pub answer : (x : ℕ)
-        → judge (lineRefusals mode n start (emptySheet n) (lines text)) x ≡ judge (lineRefusals mode n place (sheet cells (marksIn table n)) (lines (drop (place .at) text))) x
+        → judge (lineRefusals mode n start (emptySheet n) (lines text)) x
+        ≡ judge (lineRefusals mode n place (sheet cells (marksIn table n)) (lines (drop (place .at) text))) x
     pub rest : sheetOf text n ≡ sheetAfter (sheet cells (marksIn table n)) (lines (drop (place .at) text))
     pub count : place .line + length (lines (drop (place .at) text)) ≡ 1 + length (lines text)
     pub number : place .line ≤ place .at + 1
@@ -162,7 +168,9 @@ module _ (mode : Mode) (text : List ℕ) (n : ℕ) where
 
         -- the answer, by this line's
         then : (x : ℕ)
-            → judge (lineRefusals mode n start (emptySheet n) (lines text)) x ≡ onto (turnedOf place r) (λ (p : Place). judge (lineRefusals mode n p (sheetWith before line) (lines (drop (suc (place .at + length line)) text))) x)
+            → judge (lineRefusals mode n start (emptySheet n) (lines text)) x
+            ≡ onto (turnedOf place r) (λ (p : Place). judge
+            (lineRefusals mode n p (sheetWith before line) (lines (drop (suc (place .at + length line)) text))) x)
         then x =
             let ls : List (List ℕ) = lines (drop (suc (place .at + length line)) text) in
             so-far (line ∷ ls) next-lines x
@@ -173,7 +181,10 @@ module _ (mode : Mode) (text : List ℕ) (n : ℕ) where
         going-stop k vs e w =
             let z : (j : ℕ) → refused k vs ≡ accepted j → ⊥ = λ j f. never (sym (ap isAccepted f)) in
             record {
-              answer = sym (then (length (lines text)) ∙ ap (λ (b : Answer Place). onto b (λ (p : Place). judge (lineRefusals mode n p (sheetWith before line) (lines (drop (suc (place .at + length line)) text))) (length (lines text)))) e);
+              answer = sym (then (length (lines text))
+                  ∙ ap (λ (b : Answer Place). onto b
+                  (λ (p : Place). judge (lineRefusals mode n p (sheetWith before line) (lines (drop (suc (place .at + length line)) text)))
+                  (length (lines text)))) e);
               image = λ j f. absurd (z j f);
               marks = λ j f. absurd (z j f);
               wide = w ∙ g .wide;
@@ -221,7 +232,9 @@ module _ (mode : Mode) (text : List ℕ) (n : ℕ) where
             kept = keeps;
             long = ap length (t .leaves next far e .0) ∙ length-sets image (positionOn line) (listedOn line) ∙ g .long;
             wide = ap length (t .leaves next far e .1) ∙ noted-wide (recordOf line) table ∙ g .wide;
-            answer = λ x. then x ∙ ap (λ (b : Answer Place). onto b (λ (p : Place). judge (lineRefusals mode n p (sheetWith before line) (lines (drop (suc (place .at + length line)) text))) x)) (ap (turnedOf place) e) ∙ ap₂ (λ (y : Sheet) (ls : List (List ℕ)). judge (lineRefusals mode n next y ls) x) noting others;
+            answer = λ x. then x ∙ ap (λ (b : Answer Place). onto b
+                (λ (p : Place). judge (lineRefusals mode n p (sheetWith before line) (lines (drop (suc (place .at + length line)) text))) x))
+                (ap (turnedOf place) e) ∙ ap₂ (λ (y : Sheet) (ls : List (List ℕ)). judge (lineRefusals mode n next y ls) x) noting others;
             rest = g .rest ∙ ap (sheetAfter before) next-lines ∙ ap₂ sheetAfter noting others;
             count = omega (arith, line-number b, g .count, ap length next-lines, ap length others);
             number = omega (arith, line-number b, at-next, g .number);

@@ -11,4 +11,10 @@ abbrev pub Other : ℕ → Type 0
 Other c = ((((Unit {0} × (c ≡ code "L" → ⊥)) × (c ≡ code "O" → ⊥)) × (c ≡ code "A" → ⊥)) × (c ≡ code "I" → ⊥)) × (c ≡ code "D" → ⊥)
 
 pub no-rank : (c : ℕ) → Other c → 0 ≡ rankOf c
-no-rank c n = rw (ne-eqb c (code "L") (n .0 .0 .0 .0 .1), ne-eqb c (code "O") (n .0 .0 .0 .1), ne-eqb c (code "A") (n .0 .0 .1), ne-eqb c (code "I") (n .0 .1), ne-eqb c (code "D") (n .1))
+no-rank c n = rw (
+  ne-eqb c (code "L") (n .0 .0 .0 .0 .1),
+  ne-eqb c (code "O") (n .0 .0 .0 .1),
+  ne-eqb c (code "A") (n .0 .0 .1),
+  ne-eqb c (code "I") (n .0 .1),
+  ne-eqb c (code "D") (n .1),
+)

@@ -92,7 +92,15 @@ module _ (line : List ℕ) where
     unfolding positionIn isStartAt fourIn isFour fourOf
     start-four t =
         let f : List ℕ = drop 2 line in
-        rw (le-leb 6 (length line) h, eq-eqb (getD line 1 0) 9 t, eq-eqb (length (take 4 f)) 4 (length-take-le 4 f (omega (arith, length-drop 2 line))), getD-take 4 f 0 0 (omega arith), getD-take 4 f 1 0 (omega arith), getD-take 4 f 2 0 (omega arith), getD-take 4 f 3 0 (omega arith))
+        rw (
+          le-leb 6 (length line) h,
+          eq-eqb (getD line 1 0) 9 t,
+          eq-eqb (length (take 4 f)) 4 (length-take-le 4 f (omega (arith, length-drop 2 line))),
+          getD-take 4 f 0 0 (omega arith),
+          getD-take 4 f 1 0 (omega arith),
+          getD-take 4 f 2 0 (omega arith),
+          getD-take 4 f 3 0 (omega arith),
+        )
 
   -- by whether it begins so
   by-start : (p : ℕ) → p ≡ positionIn line → (b : Bool) → isStartAt line ≡ b → p ≡ cond b (positionAt line) 65536

@@ -11,4 +11,10 @@ use Rattle.read_back.proofs.Letters.{Other}
 use Rattle.read_back.specs.Offsets.{byLetterAt}
 
 pub no-line : (mode : Mode) (c : ℕ) (line : List ℕ) → Other c → byLetterAt mode c line ≡ false
-no-line mode c line n = rw (ne-eqb c (code "L") (n .0 .0 .0 .0 .1), ne-eqb c (code "O") (n .0 .0 .0 .1), ne-eqb c (code "A") (n .0 .0 .1), ne-eqb c (code "I") (n .0 .1), ne-eqb c (code "D") (n .1))
+no-line mode c line n = rw (
+  ne-eqb c (code "L") (n .0 .0 .0 .0 .1),
+  ne-eqb c (code "O") (n .0 .0 .0 .1),
+  ne-eqb c (code "A") (n .0 .0 .1),
+  ne-eqb c (code "I") (n .0 .1),
+  ne-eqb c (code "D") (n .1),
+)

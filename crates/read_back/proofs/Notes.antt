@@ -91,7 +91,8 @@ module _ (line : List ℕ) (r : Record) (e : r ≡ recordOf line) where
     module _ (g : b ≡ true) (l : Spaced line) where
       counted : r .count ≡ length (bytesAt line)
       unfolding recordOf
-      counted = ap (λ (x : Record). x .count) e ∙ ap (λ (x : Bool). cond x (length (bytesOn line)) (length (furtherOn line))) (sym has ∙ g) ∙ ap (λ (x : List ℕ). length (bytesOf x)) (sym (l .digits))
+      counted = ap (λ (x : Record). x .count) e ∙ ap (λ (x : Bool). cond x (length (bytesOn line)) (length (furtherOn line))) (sym has ∙ g)
+          ∙ ap (λ (x : List ℕ). length (bytesOf x)) (sym (l .digits))
 
       shown : listedOn line ≡ bytesAt line
       shown = sym (ap bytesOf (l .digits) ∙ rw (← has, g))
@@ -112,7 +113,8 @@ module _ (line : List ℕ) (r : Record) (e : r ≡ recordOf line) where
           let d : List ℕ = digitsAt line in
           let k : 7 + r .count * 2 - 7 ≡ length (bytesOf d) * 2 = omega (arith, counted) in
           ap (λ (n : ℕ). bytesOf (take n (drop 7 line))) k
-          ∙ ap bytesOf (sym (take-take (length (bytesOf d) * 2) (length d) (drop 7 line) (whole-most d)) ∙ ap (take (length (bytesOf d) * 2)) (take-first 9 (drop 7 line)))
+          ∙ ap bytesOf (sym (take-take (length (bytesOf d) * 2) (length d) (drop 7 line) (whole-most d))
+          ∙ ap (take (length (bytesOf d) * 2)) (take-first 9 (drop 7 line)))
           ∙ whole-pairs d ∙ sym shown
 
 -- a position lies in memory

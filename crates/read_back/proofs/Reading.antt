@@ -25,7 +25,8 @@ pub past : (mode : Mode) (text : List ℕ) (place : Place) → length text ≤ p
 unfolding readAnswer
 past mode text place h = rw (le-leb (length text) (place .at) h)
 
-module _ (mode : Mode) (text : List ℕ) (place : Place) (h : place .at < length text) (e : ℕ) (p : e ≡ place .at + length (upTo 10 (drop (place .at) text))) where
+module _ (mode : Mode) (text : List ℕ) (place : Place) (h : place .at < length text) (e : ℕ)
+    (p : e ≡ place .at + length (upTo 10 (drop (place .at) text))) where
   -- the line's bytes
   abbrev bytes : List ℕ
   bytes = take (e - place .at) (drop (place .at) text)
@@ -39,7 +40,8 @@ module _ (mode : Mode) (text : List ℕ) (place : Place) (h : place .at < length
 
   bad : isGood mode place bytes ≡ false → refused 15 (pos (place .line) ∷ []) ≡ readAnswer mode text place
   unfolding judge
-  bad f = sym (ap (λ (b : Bool). judge {A = Found} (refuse (not b) 15 (pos (place .line) ∷ []) ∷ []) (listed (recordOf bytes) (placeAfter place (length bytes) (recordOf bytes)))) f) ∙ here
+  bad f = sym (ap (λ (b : Bool). judge {A = Found} (refuse (not b) 15 (pos (place .line) ∷ []) ∷ [])
+      (listed (recordOf bytes) (placeAfter place (length bytes) (recordOf bytes)))) f) ∙ here
 
   pub bad-line : isLine mode bytes ≡ false → refused 15 (pos (place .line) ∷ []) ≡ readAnswer mode text place
   bad-line f = bad (ap (λ (b : Bool). b && follows place (recordOf bytes)) f)
@@ -51,7 +53,8 @@ module _ (mode : Mode) (text : List ℕ) (place : Place) (h : place .at < length
     pub bad-order : follows place r ≡ false → refused 15 (pos (place .line) ∷ []) ≡ readAnswer mode text place
     bad-order f = bad (good-by ∙ f)
 
-    pub good : follows place r ≡ true → (k : ℕ) → k ≡ lineAfter (place .line) → (n : Place) → (n .at ≡ e + 1) × (n .line ≡ k) × (n .last ≡ r .position) × (n .letter ≡ r .letter) → accepted (listed r n) ≡ readAnswer mode text place
+    pub good : follows place r ≡ true → (k : ℕ) → k ≡ lineAfter (place .line) → (n : Place)
+        → (n .at ≡ e + 1) × (n .line ≡ k) × (n .last ≡ r .position) × (n .letter ≡ r .letter) → accepted (listed r n) ≡ readAnswer mode text place
     unfolding judge placeAfter
     good f k m n t =
         let w : length bytes ≡ e - place .at = length-take-le _ _ (omega (arith, inside, length-drop (place .at) text)) in
@@ -59,5 +62,6 @@ module _ (mode : Mode) (text : List ℕ) (place : Place) (h : place .at < length
         let q : n ≡ placeAfter place (length bytes) r = placed n _ _ _ _ (a, t .1 ∙ m, t .2, t .3) in
         ap (λ (x : Place). accepted (listed r x)) q
         ∙ ap (λ (x : Record). accepted (listed x (placeAfter place (length bytes) x))) s
-        ∙ sym (ap (λ (b : Bool). judge {A = Found} (refuse (not b) 15 (pos (place .line) ∷ []) ∷ []) (listed (recordOf bytes) (placeAfter place (length bytes) (recordOf bytes)))) (good-by ∙ f))
+        ∙ sym (ap (λ (b : Bool). judge {A = Found} (refuse (not b) 15 (pos (place .line) ∷ []) ∷ [])
+        (listed (recordOf bytes) (placeAfter place (length bytes) (recordOf bytes)))) (good-by ∙ f))
         ∙ here

@@ -128,7 +128,8 @@ seventh mode p bytes h = by (hereOf bytes 0) h
     by (Cut c) h = absurd (omega arith)
     by Outside h = absurd (omega arith)
 
-pub not-code : (mode : Mode) (p : ℕ) (bytes : List ℕ) (c t a b d e x : ℕ) (r : List ℕ) → eqb x 9 ≡ false → isCode mode p bytes (c ∷ t ∷ a ∷ b ∷ d ∷ e ∷ x ∷ r) ≡ false
+pub not-code : (mode : Mode) (p : ℕ) (bytes : List ℕ) (c t a b d e x : ℕ) (r : List ℕ) → eqb x 9 ≡ false
+    → isCode mode p bytes (c ∷ t ∷ a ∷ b ∷ d ∷ e ∷ x ∷ r) ≡ false
 unfolding isCode
 not-code mode p bytes c t a b d e x r n =
     same-false (c ∷ t ∷ a ∷ b ∷ d ∷ e ∷ x ∷ r ++ 10 ∷ []) (codeLine mode p bytes)

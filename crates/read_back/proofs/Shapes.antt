@@ -67,8 +67,10 @@ shape mode (c ∷ []) ((a ∷ b ∷ []) ∷ gs) n ns = short mode c (a ∷ b ∷
 shape mode (c ∷ []) ((a ∷ b ∷ d ∷ []) ∷ gs) n ns = short mode c (a ∷ b ∷ d ∷ []) gs n ns (omega arith)
 shape mode (c ∷ []) ((a ∷ b ∷ d ∷ e ∷ []) ∷ gs) n ns = lined c a b d e gs
 shape mode (c ∷ []) ((a ∷ b ∷ d ∷ e ∷ x ∷ g) ∷ gs) n ns =
-    other (unstarted mode (c ∷ 9 ∷ a ∷ b ∷ d ∷ e ∷ x ∷ g ++ tabbed gs) _ (fields-are c [] ((a ∷ b ∷ d ∷ e ∷ x ∷ g) ∷ gs) n ns) (not-four (a ∷ b ∷ d ∷ e ∷ x ∷ g) (λ q. omega arith)))
+    other (unstarted mode (c ∷ 9 ∷ a ∷ b ∷ d ∷ e ∷ x ∷ g ++ tabbed gs) _ (fields-are c [] ((a ∷ b ∷ d ∷ e ∷ x ∷ g) ∷ gs) n ns)
+    (not-four (a ∷ b ∷ d ∷ e ∷ x ∷ g) (λ q. omega arith)))
     (not-second (isStartAt (c ∷ 9 ∷ a ∷ b ∷ d ∷ e ∷ x ∷ g ++ tabbed gs)) _ (more-digits mode c a b d e x (g ++ tabbed gs) (ns .0 .1 .1 .1 .1 .0)))
 shape mode (c ∷ k ∷ f) fs n ns =
-    other (unstarted mode (c ∷ k ∷ f ++ tabbed fs) _ (fields-are c (k ∷ f) fs n ns) (not-first (eqb (length (c ∷ k ∷ f)) 1) _ (ne-eqb (length (c ∷ k ∷ f)) 1 (λ e. omega arith))))
+    other (unstarted mode (c ∷ k ∷ f ++ tabbed fs) _ (fields-are c (k ∷ f) fs n ns)
+    (not-first (eqb (length (c ∷ k ∷ f)) 1) _ (ne-eqb (length (c ∷ k ∷ f)) 1 (λ e. omega arith))))
     (not-first _ _ (not-second (leb 6 (length (c ∷ k ∷ f ++ tabbed fs))) _ (not-first (eqb k 9) _ (n .1 .0))))

@@ -28,7 +28,8 @@ unfolding cut upTo
 lines-first [] t e = refl
 lines-first (b ∷ l) t e = by (eqb b 10) e (lines-first l t)
   where
-    by : (x : Bool) → cond x [] (b ∷ upTo 10 l) ≡ b ∷ l → (upTo 10 l ≡ l → lines (l ++ 10 ∷ t) ≡ l ∷ lines t) → cond x ([] ∷ lines (l ++ 10 ∷ t)) (before b (lines (l ++ 10 ∷ t))) ≡ (b ∷ l) ∷ lines t
+    by : (x : Bool) → cond x [] (b ∷ upTo 10 l) ≡ b ∷ l → (upTo 10 l ≡ l → lines (l ++ 10 ∷ t) ≡ l ∷ lines t)
+        → cond x ([] ∷ lines (l ++ 10 ∷ t)) (before b (lines (l ++ 10 ∷ t))) ≡ (b ∷ l) ∷ lines t
     by true f r = let z : _≡_ {A = ℕ} 0 (suc (length l)) = ap length f in absurd (omega arith)
     by false f r = let g : upTo 10 l ≡ l = cc in ap (before b) (r g)
 
@@ -82,9 +83,11 @@ module _ {A : Type 0} (a : A) where
       let e = hexes-bytes (take 32 m′) (bytes-take 32 m′ B) in
       let f = ap length e in
       ap (λ (ls : List (List ℕ)). judge (imageRefusals j n ls) a) (cut-first m′ (omega arith))
-      ∙ pass _ _ a (ap₂ (λ (x y : Bool). not x || y) (hexes-line (take 32 m′) (bytes-take 32 m′ B) (omega (arith, t)) (omega (arith, t))) (le-ltb 16384 (n + length (bytesOf (hexes (take 32 m′)))) (omega (arith, f, t))))
+      ∙ pass _ _ a (ap₂ (λ (x y : Bool). not x || y) (hexes-line (take 32 m′) (bytes-take 32 m′ B) (omega (arith, t)) (omega (arith, t)))
+      (le-ltb 16384 (n + length (bytesOf (hexes (take 32 m′)))) (omega (arith, f, t))))
       ∙ good k (suc j) (n + length (bytesOf (hexes (take 32 m′)))) (drop 32 m′) (omega (arith, d)) (bytes-drop 32 m′ B) (omega (arith, d, f, t))
 
   -- after a good line of entries
-  pub all-good : (e l : List ℕ) → isEntries e ≡ true → Bytes l → length l ≤ 16384 → judge (bad (not (isEntries e)) 1 ∷ imageRefusals 2 0 (lines (imageText l))) a ≡ accepted a
+  pub all-good : (e l : List ℕ) → isEntries e ≡ true → Bytes l → length l ≤ 16384
+      → judge (bad (not (isEntries e)) 1 ∷ imageRefusals 2 0 (lines (imageText l))) a ≡ accepted a
   all-good e l g B m = pass _ _ a (ap not g) ∙ good (length l) 2 0 l (omega arith) B (omega arith)

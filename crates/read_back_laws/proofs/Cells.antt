@@ -99,7 +99,8 @@ module _ (image : List ℕ) where
     pub keeps : (q : ℕ) → Right cells q → Right after q
     pub fills : (q : ℕ) → p ≤ q → q < p + k → Right after q
 
-  pub lays : (bs : List ℕ) (p : ℕ) (cells : List ℕ) → Sound cells → Part p bs → p + length bs ≤ length image → Lays cells (sets cells p (map suc bs)) p (length bs)
+  pub lays : (bs : List ℕ) (p : ℕ) (cells : List ℕ) → Sound cells → Part p bs → p + length bs ≤ length image
+      → Lays cells (sets cells p (map suc bs)) p (length bs)
   lays [] p cells S P h = record { sound = S; keeps = λ q r. r; fills = λ q i j. absurd (omega arith) }
   lays (b ∷ bs) p cells S P h =
       let g : p < length image = omega arith in

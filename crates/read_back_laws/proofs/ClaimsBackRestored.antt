@@ -36,7 +36,8 @@ use Rattle.read_back_laws.proofs.Places.{none, open-past}
 use Rattle.read_back_laws.proofs.Stand.{Stand, stand-start, stand-end, stand-over}
 use Rattle.read_back_laws.proofs.Steps.{OpenAt, Restores, read-end}
 
-module _ (mode : Mode) (image m : List ℕ) (B : Bytes image) (small : length image ≤ 65536) (long : length image ≤ length m) (U : Undamaged image m) (labels : List ℕ) (chosen : Bool) where
+module _ (mode : Mode) (image m : List ℕ) (B : Bytes image) (small : length image ≤ 65536) (long : length image ≤ length m) (U : Undamaged image m)
+    (labels : List ℕ) (chosen : Bool) where
   abbrev from : ℕ → ℕ → ℕ → List ℕ
   from k p s = walk mode image m (maskOf image m) labels chosen k p s
 
@@ -62,19 +63,23 @@ module _ (mode : Mode) (image m : List ℕ) (B : Bytes image) (small : length im
               absurd (let z : _≡_ {A = ℕ} 0 1 = cc in omega arith)
 
       by : (t b : Bool) → tracedMark (getD m p 0) ≡ t → eqb (getD (maskOf image m) p 0) 0 ≡ b → Reads k (suc p) (cond t 0 (cond b (length run - 1) 0))
-          → Given mode image m place sheet (cond t (codeLines mode image m labels chosen p) (cond b (dataLine p run) []) ++ from k (suc p) (cond t 0 (cond b (length run - 1) 0)))
-      by true b e f go = let t : tracedAt image m p ≡ true = sym (by-mark image m p h) ∙ e in code-stop mode image m B small long p t (fits t) labels chosen place sheet (from k (suc p) 0) S O go
+          → Given mode image m place sheet
+          (cond t (codeLines mode image m labels chosen p) (cond b (dataLine p run) []) ++ from k (suc p) (cond t 0 (cond b (length run - 1) 0)))
+      by true b e f go = let t : tracedAt image m p ≡ true = sym (by-mark image m p h) ∙ e in
+          code-stop mode image m B small long p t (fits t) labels chosen place sheet (from k (suc p) 0) S O go
       by false true e f go = data-stop mode image m B small long p h e place sheet (from k (suc p) (length run - 1)) S O f go
       by false false e f go = nothing-stop mode image m B small long p h e place sheet (from k (suc p) 0) S O f go
 
   reads : (k p s : ℕ) → p + k ≡ length image → Reads k p s
   unfolding walk cut
   reads zero p s e place sheet O S = let E = stand-end image m p s sheet (omega arith) S in read-end mode image _ place sheet (E .0) (E .1)
-  reads (suc k) p (suc s) e place sheet O S = reads k (suc p) s (omega arith) place sheet (open-past (omega arith) O) (stand-over image m p s sheet long (omega arith) S)
+  reads (suc k) p (suc s) e place sheet O S =
+      reads k (suc p) s (omega arith) place sheet (open-past (omega arith) O) (stand-over image m p s sheet long (omega arith) S)
   reads (suc k) p zero e place sheet O S = stop k p (omega arith) (reads k (suc p) (passed image m (maskOf image m) p) (omega arith)) place sheet O S
 
 -- lines that are read so from the beginning are what is given back
-module _ (mode : Mode) (text image tells room marks : List ℕ) (R : Restores mode image tells start (emptySheet (length image)) (lines text)) (small : length image ≤ 65536) (k : length image ≤ length room) (l : length image ≤ length marks) where
+module _ (mode : Mode) (text image tells room marks : List ℕ) (R : Restores mode image tells start (emptySheet (length image)) (lines text))
+    (small : length image ≤ 65536) (k : length image ≤ length room) (l : length image ≤ length marks) where
   answers : backAnswer mode text (length image) room marks ≡ accepted (length (lines text))
   unfolding backAnswer
   answers =
@@ -92,7 +97,8 @@ module _ (mode : Mode) (text image tells room marks : List ℕ) (R : Restores mo
 pub listing-restores : ListingRestores
 unfolding listingOf
 listing-restores mode image m choice room marks B small long U k l =
-    let R = reads mode image m B small long U (labelsOf mode image m) (isChosen choice) (length image) 0 0 (omega arith) start (emptySheet (length image)) (none refl) (stand-start image m) in
+    let R = reads mode image m B small long U (labelsOf mode image m) (isChosen choice) (length image) 0 0 (omega arith) start (emptySheet (length image))
+    (none refl) (stand-start image m) in
     let text : List ℕ = listingOf mode image m choice in
     let tells : List ℕ = map told (take (length image) m) in
     record {

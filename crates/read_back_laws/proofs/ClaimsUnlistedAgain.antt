@@ -50,7 +50,8 @@ unlisted-again e text n k E h a =
     let p : imageText image ≡ unlistedOf text n = sym (ap (printed image) a) in
     let long : length room ≡ n = length-replicate n 0 in
     subst (λ (t : List ℕ). Says (e ++ 10 ∷ t) (entriesIn e) image) p
-    (read-again e image E (back-bytes Unwrapped text n room room (zeros-small n)) (omega (arith, long, back-length Unwrapped text n room room (omega (arith, long)))))
+    (read-again e image E (back-bytes Unwrapped text n room room (zeros-small n))
+    (omega (arith, long, back-length Unwrapped text n room room (omega (arith, long)))))
 
 pub listed-unlisted : ListedUnlisted
 unfolding unlistedOf

@@ -51,11 +51,18 @@ after-line place n line = after-most (place .line)
 abbrev Word : ℕ → List ℤ → Type 0
 Word r vs = (r < 2 ^ 64) × (valueOf vs < 2 ^ 64)
 
-lines-each : (mode : Mode) (n : ℕ) (place : Place) (sheet : Sheet) (ls : List (List ℕ)) → place .line + length ls ≤ 2 ^ 63 → Each Word (lineRefusals mode n place sheet ls)
+lines-each : (mode : Mode) (n : ℕ) (place : Place) (sheet : Sheet) (ls : List (List ℕ)) → place .line + length ls ≤ 2 ^ 63
+    → Each Word (lineRefusals mode n place sheet ls)
 unfolding lineRefusals
 lines-each mode n place sheet [] h = tt
-lines-each mode n place sheet (l ∷ ls) h =
-    ((omega arith, omega arith), ((omega arith, omega arith), lines-each mode n (placeAfter place (length l) (recordOf l)) (sheetWith sheet l) ls (omega (arith, h, after-line place (length l) l))))
+lines-each mode n place sheet (l ∷ ls) h = (
+  (omega arith, omega arith),
+  (
+    (omega arith, omega arith),
+    lines-each mode n (placeAfter place (length l) (recordOf l)) (sheetWith sheet l) ls
+        (omega (arith, h, after-line place (length l) l)),
+  ),
+)
 
 module _ (mode : Mode) (text : List ℕ) (n : ℕ) (t : length text < 2 ^ 63) (h : n < 2 ^ 63) where
   abbrev room : List ℕ
@@ -64,10 +71,16 @@ module _ (mode : Mode) (text : List ℕ) (n : ℕ) (t : length text < 2 ^ 63) (h
   long : length room ≡ n
   long = length-replicate n 0
 
-  each : Each Word (refuse (ltb 65536 n) 1 (pos n ∷ []) ∷ refuse (ltb (length room) n) 2 (pos (length room) ∷ []) ∷ refuse (ltb (length room) n) 11 (pos n ∷ []) ∷ lineRefusals mode n start (emptySheet n) (lines text))
+  each : Each Word (refuse (ltb 65536 n) 1 (pos n ∷ []) ∷ refuse (ltb (length room) n) 2 (pos (length room) ∷ []) ∷ refuse (ltb (length room) n) 11 (pos n ∷ [])
+      ∷ lineRefusals mode n start (emptySheet n) (lines text))
   each =
-      let z = long in
-      ((omega arith, omega arith), ((omega arith, omega (arith, z)), ((omega arith, omega arith), lines-each mode n start (emptySheet n) (lines text) (omega (arith, t, lines-few text)))))
+      let z = long in (
+        (omega arith, omega arith),
+        (
+          (omega arith, omega (arith, z)),
+          ((omega arith, omega arith), lines-each mode n start (emptySheet n) (lines text) (omega (arith, t, lines-few text))),
+        ),
+      )
 
   fits : (a : Answer ℕ) → backAnswer mode text n room room ≡ a → length (printed (backImage mode text n room room) a) ≤ 133120
   unfolding backAnswer
@@ -76,7 +89,12 @@ module _ (mode : Mode) (text : List ℕ) (n : ℕ) (t : length text < 2 ^ 63) (h
       omega (arith, image-length image, back-length mode text n room room (omega (arith, long)), long, accepted-short mode text n room room k e)
   fits (refused r vs) e =
       let g = carries Word _ _ r vs each (sym e) in
-      omega (arith, value-length r (valueOf vs) (width r r) (width (valueOf vs) (valueOf vs)) refl refl, width-below 19 r r (omega (arith, g .0)), width-below 19 (valueOf vs) (valueOf vs) (omega (arith, g .1)))
+      omega (
+        arith,
+        value-length r (valueOf vs) (width r r) (width (valueOf vs) (valueOf vs)) refl refl,
+        width-below 19 r r (omega (arith, g .0)),
+        width-below 19 (valueOf vs) (valueOf vs) (omega (arith, g .1)),
+      )
 
 pub unlisted-fits : UnlistedFits
 unfolding unlistedOf

@@ -49,17 +49,20 @@ module _ (mode : Mode) (image m : List ℕ) (p : ℕ) (small : p < 65536) where
   -- a text that stores nothing: no line, or one of the rank r
   abbrev Passes : ℕ → List ℕ → Type 0
   Passes r t =
-      (place : Place) (sheet : Sheet) (rest : List ℕ) → OpenAt p r place → ((after : Place) → OpenAt p (suc r) after → Given mode image m after sheet rest) → Given mode image m place sheet (t ++ rest)
+      (place : Place) (sheet : Sheet) (rest : List ℕ) → OpenAt p r place → ((after : Place) → OpenAt p (suc r) after → Given mode image m after sheet rest)
+      → Given mode image m place sheet (t ++ rest)
 
   no-line : (r : ℕ) → Passes r []
   no-line r place sheet rest O go = go place (open-more (omega arith) O)
 
-  one-line : (c : ℕ) (fs : List (List ℕ)) → eqb c 10 ≡ false → allAbove fs ≡ true → LineSays mode c p [] (body c p fs) → ((sheet : Sheet) → wrote sheet c p [] ≡ sheet) → rankOf c < 5
+  one-line : (c : ℕ) (fs : List (List ℕ)) → eqb c 10 ≡ false → allAbove fs ≡ true → LineSays mode c p [] (body c p fs)
+      → ((sheet : Sheet) → wrote sheet c p [] ≡ sheet) → rankOf c < 5
       → Passes (rankOf c) (line c (hex4 p ∷ fs))
   unfolding agree
   one-line c fs e a S w h place sheet rest O go =
       rw (cuts-line rest c (hex4 p ∷ fs) e (rw (four-above p) a))
-      (read-line mode image _ place sheet (body c p fs) (lines rest) c p (rankOf c) [] S O (omega arith) (λ i. h) refl refl (λ after O′. rw (w sheet) (go after O′)))
+      (read-line mode image _ place sheet (body c p fs) (lines rest) c p (rankOf c) [] S O (omega arith) (λ i. h) refl refl
+      (λ after O′. rw (w sheet) (go after O′)))
 
   label : (b : Bool) → Passes 1 (cond b [] (labelLine p))
   unfolding labelLine
@@ -96,7 +99,8 @@ module _ (mode : Mode) (image m : List ℕ) (B : Bytes image) (small : length im
         let L = lays image listed p (sheet .cells) (S .sound) P (omega arith) in
         let i : Instr = instrHere image p in
         let name : List ℕ = mnemonicOf (partsOf i .form) in
-        let a : allAbove (hexes listed ∷ name ∷ operands mode p i) ≡ true = rw (bytes-above listed, name-above (partsOf i .form) (code-form mode image B p inside f)) (operands-above mode p i) in
+        let a : allAbove (hexes listed ∷ name ∷ operands mode p i) ≡ true =
+        rw (bytes-above listed, name-above (partsOf i .form) (code-form mode image B p inside f)) (operands-above mode p i) in
         rw (
           code-text mode image B p inside f,
           cuts-line rest (code "I") (hex4 p ∷ hexes listed ∷ name ∷ operands mode p i) refl (rw (four-above p) a),
@@ -105,8 +109,10 @@ module _ (mode : Mode) (image m : List ℕ) (B : Bytes image) (small : length im
         (said-code mode p listed name (operands mode p i) (omega (arith, inside)) a (part-small image B listed p P) (code-own mode image B p inside f small)) O
         (lit≤ tt) (λ h. lit< tt) (part-agrees image listed p (sheet .cells) (S .sound) P) (part-inside image listed p (omega arith))
         (λ after O. go after (wrote sheet (code "I") p listed) (open-past (omega arith) O)
-        (stand-next image m p 0 (length listed) sheet (wrote sheet (code "I") p listed) S L (omega (arith, b, there mode image B p inside f .least)) (λ t. omega arith)
-        (ap (λ (l : List ℕ). set l p traced) (S .tells) ∙ told-traced (length image) m long p inside (second-part (ltb p (length image)) _ t)) (λ i h. absurd (omega arith)))))
+        (stand-next image m p 0 (length listed) sheet (wrote sheet (code "I") p listed) S L (omega (arith, b, there mode image B p inside f .least))
+        (λ t. omega arith)
+        (ap (λ (l : List ℕ). set l p traced) (S .tells) ∙ told-traced (length image) m long p inside (second-part (ltb p (length image)) _ t))
+        (λ i h. absurd (omega arith)))))
 
     pub code-stop : (labels : List ℕ) (chosen : Bool) (place : Place) (sheet : Sheet) (rest : List ℕ) → Stand image m p 0 sheet → OpenAt p 0 place
         → ((after : Place) (next : Sheet) → OpenAt (suc p) 0 after → Stand image m (suc p) 0 next → Given mode image m after next rest)

@@ -41,7 +41,8 @@ cell-zero (empty e) z = omega arith
 cell-zero (full e) z = omega arith
 
 -- where bytes are all zero, nothing is to be stored
-zeros-right : (image cells : List ℕ) → Sound image cells → (bs : List ℕ) (p : ℕ) → Part image p bs → allZero bs ≡ true → (q : ℕ) → p ≤ q → q < p + length bs → Right image cells q
+zeros-right : (image cells : List ℕ) → Sound image cells → (bs : List ℕ) (p : ℕ) → Part image p bs → allZero bs ≡ true → (q : ℕ) → p ≤ q → q < p + length bs
+    → Right image cells q
 zeros-right image cells S [] p P z q h k = absurd (omega arith)
 zeros-right image cells S (b ∷ bs) p P z q h k = by (eqb q p) refl (zeros-right image cells S bs (suc p) (P .1) (second-part (eqb b 0) (allZero bs) z) q)
   where
@@ -53,7 +54,8 @@ zeros-right image cells S (b ∷ bs) p P z q h k = by (eqb q p) refl (zeros-righ
     by false f rest = let d : q ≡ p → ⊥ = eqb-false q p f in rest (omega arith) (omega arith)
 
 module _ (mode : Mode) (image m : List ℕ) (B : Bytes image) (small : length image ≤ 65536) (long : length image ≤ length m) where
-  module _ (p : ℕ) (h : p < length image) (u : tracedMark (getD m p 0) ≡ false) (place : Place) (sheet : Sheet) (rest : List ℕ) (S : Stand image m p 0 sheet) (O : OpenAt p 0 place) where
+  module _ (p : ℕ) (h : p < length image) (u : tracedMark (getD m p 0) ≡ false) (place : Place) (sheet : Sheet) (rest : List ℕ) (S : Stand image m p 0 sheet)
+      (O : OpenAt p 0 place) where
     untraced : tracedAt image m p ≡ false
     untraced = sym (by-mark image m p h) ∙ u
 
@@ -72,9 +74,11 @@ module _ (mode : Mode) (image m : List ℕ) (B : Bytes image) (small : length im
         let C = covered image m p h e untraced in
         let r : Right image (sheet .cells) p = S .under (C .at) p (C .is-traced) (C .less) (omega (arith, C .less)) (C .ends) in
         go place sheet (open-past (omega arith) O)
-        (on 0 1 sheet (record { sound = S .sound; keeps = λ q r. r; fills = λ q i j. let d : q ≡ p = omega arith in rw d r }) refl (omega arith) (λ i j. absurd (omega arith)))
+        (on 0 1 sheet (record { sound = S .sound; keeps = λ q r. r; fills = λ q i j. let d : q ≡ p = omega arith in rw d r }) refl (omega arith)
+        (λ i j. absurd (omega arith)))
 
-    pub data-stop : eqb (getD (maskOf image m) p 0) 0 ≡ true → On (length (dataRun image (maskOf image m) p) - 1) → Given mode image m place sheet (dataLine p (dataRun image (maskOf image m) p) ++ rest)
+    pub data-stop : eqb (getD (maskOf image m) p 0) 0 ≡ true → On (length (dataRun image (maskOf image m) p) - 1)
+        → Given mode image m place sheet (dataLine p (dataRun image (maskOf image m) p) ++ rest)
     unfolding dataLine
     data-stop e go = by (allZero run) refl
       where
@@ -85,7 +89,8 @@ module _ (mode : Mode) (image m : List ℕ) (B : Bytes image) (small : length im
         R = run-of image m p B h e
 
         -- after the run, stored or not
-        stands : (next : Sheet) → Lays image (sheet .cells) (next .cells) p (length run) → next .marks ≡ sheet .marks → Stand image m (suc p) (length run - 1) next
+        stands : (next : Sheet) → Lays image (sheet .cells) (next .cells) p (length run) → next .marks ≡ sheet .marks
+            → Stand image m (suc p) (length run - 1) next
         stands next L f =
             on (length run - 1) (length run) next L f (omega (arith, R .least))
             (λ i j. ap (tracedAt image m) (let d : suc p + i ≡ p + suc i = omega arith in d) ∙ R .free (suc i) (omega arith))
@@ -99,4 +104,5 @@ module _ (mode : Mode) (image m : List ℕ) (B : Bytes image) (small : length im
             (read-line mode image _ place sheet (body (code "D") p (hexes run ∷ [])) (lines rest) (code "D") p 0 run
             (said-data mode p run (omega arith) (part-small image B run p (R .from)) (R .least) (R .most)) O
             (lit≤ tt) (λ i. absurd (omega arith)) (part-agrees image run p (sheet .cells) (S .sound) (R .from)) (part-inside image run p (R .inside))
-            (λ after O. go after (wrote sheet (code "D") p run) (open-past (omega arith) O) (stands (wrote sheet (code "D") p run) (lays image run p (sheet .cells) (S .sound) (R .from) (R .inside)) refl)))
+            (λ after O. go after (wrote sheet (code "D") p run) (open-past (omega arith) O)
+            (stands (wrote sheet (code "D") p run) (lays image run p (sheet .cells) (S .sound) (R .from) (R .inside)) refl)))

@@ -36,7 +36,8 @@ unfolding cut upTo
 pieces-whole [] a = refl
 pieces-whole (b ∷ l) a = by (eqb b 9) refl a (pieces-whole l)
   where
-    by : (x : Bool) → eqb b 9 ≡ x → All (cond x ([] ∷ cut 9 ([] ∷ []) l) (before b (cut 9 ([] ∷ []) l))) → (All (cut 9 ([] ∷ []) l) → upTo 10 l ≡ l) → cond (eqb b 10) [] (b ∷ upTo 10 l) ≡ b ∷ l
+    by : (x : Bool) → eqb b 9 ≡ x → All (cond x ([] ∷ cut 9 ([] ∷ []) l) (before b (cut 9 ([] ∷ []) l))) → (All (cut 9 ([] ∷ []) l) → upTo 10 l ≡ l)
+        → cond (eqb b 10) [] (b ∷ upTo 10 l) ≡ b ∷ l
     by true e a r = let f = eqb-true b 9 e in rw (ne-eqb b 10 (λ g. omega arith)) (ap (λ (t : List ℕ). b ∷ t) (r (a .1)))
     by false e a r = let w = without b (cut 9 ([] ∷ []) l) a in rw (not-ten b (w .0)) (ap (λ (t : List ℕ). b ∷ t) (r (w .1)))
 

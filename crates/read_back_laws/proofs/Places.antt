@@ -25,7 +25,8 @@ open-past h (higher l) = higher (omega arith)
 open-past h (later e l) = higher (omega arith)
 
 -- the test of the definition; only at a higher position may the letter have the rank 5
-pub open-follows : {p r last a : ℕ} (b : ℕ) → Open p r last a → r ≤ b → (0 < r → b < 5) → (eqb a 0 || (ltb last p || (eqb last p && (ltb a b && ltb b 5)))) ≡ true
+pub open-follows : {p r last a : ℕ} (b : ℕ) → Open p r last a → r ≤ b → (0 < r → b < 5)
+    → (eqb a 0 || (ltb last p || (eqb last p && (ltb a b && ltb b 5)))) ≡ true
 open-follows {a} b (none e) h k = rw (eq-eqb a 0 e)
 open-follows {p} {last} {a} b (higher l) h k = rw (lt-ltb last p l) (or-second (eqb a 0) true refl)
 open-follows {p} {r} {last} {a} b (later e l) h k =

@@ -53,7 +53,8 @@ module _ (image m : List ℕ) (p : ℕ) where
       least = leading-least isOne 15 p (sym (by-mask image (maskOf image m) p h (omega (arith, h, mask-length image m))) ∙ e)
 
       inside : p + count ≤ length image
-      inside = let g : p + (count - 1) < length image = data-inside image (maskOf image m) (p + (count - 1)) (leading-each isOne 16 p (count - 1) (omega (arith, least))) in omega (arith, g, least)
+      inside = let g : p + (count - 1) < length image =
+          data-inside image (maskOf image m) (p + (count - 1)) (leading-each isOne 16 p (count - 1) (omega (arith, least))) in omega (arith, g, least)
 
       size : length run ≡ count
       size = length-take-le count (drop p image) (omega (arith, inside, length-drop p image))

@@ -64,21 +64,26 @@ module _ (mode : Mode) (p q : ℕ) (qs : List ℕ) (h : p < 65536) where
   found = map hex4 (q ∷ qs)
 
   pub said-overlaps : LineSays mode (code "O") p [] (body (code "O") p found)
-  said-overlaps = said mode (code "O") p found h refl (fours-above (q ∷ qs)) [] (ap isFound (further mode (code "O") p found h refl (fours-above (q ∷ qs))) ∙ fours (q ∷ qs)) refl
+  said-overlaps = said mode (code "O") p found h refl (fours-above (q ∷ qs)) []
+      (ap isFound (further mode (code "O") p found h refl (fours-above (q ∷ qs))) ∙ fours (q ∷ qs)) refl
 
   pub said-arrivals : LineSays mode (code "A") p [] (body (code "A") p found)
-  said-arrivals = said mode (code "A") p found h refl (fours-above (q ∷ qs)) [] (ap isFound (further mode (code "A") p found h refl (fours-above (q ∷ qs))) ∙ fours (q ∷ qs)) refl
+  said-arrivals = said mode (code "A") p found h refl (fours-above (q ∷ qs)) []
+      (ap isFound (further mode (code "A") p found h refl (fours-above (q ∷ qs))) ∙ fours (q ∷ qs)) refl
 
 -- the bytes of `I` and `D`
-bytes-on : Mode → (c p : ℕ) (bs : List ℕ) (fs : List (List ℕ)) → p < 65536 → eqb c 9 ≡ false → allAbove (hexes bs ∷ fs) ≡ true → Small bs → bytesOn (body c p (hexes bs ∷ fs)) ≡ bs
+bytes-on : Mode → (c p : ℕ) (bs : List ℕ) (fs : List (List ℕ)) → p < 65536 → eqb c 9 ≡ false → allAbove (hexes bs ∷ fs) ≡ true → Small bs
+    → bytesOn (body c p (hexes bs ∷ fs)) ≡ bs
 bytes-on mode c p bs fs h n a s = ap (λ (gs : List (List ℕ)). bytesOf (getD gs 2 [])) (cuts mode c p (hexes bs ∷ fs) h n a) ∙ bytes-back bs s
 
 -- `D`
-pub said-data : (mode : Mode) (p : ℕ) (bs : List ℕ) → p < 65536 → Small bs → 1 ≤ length bs → length bs ≤ 16 → LineSays mode (code "D") p bs (body (code "D") p (hexes bs ∷ []))
+pub said-data : (mode : Mode) (p : ℕ) (bs : List ℕ) → p < 65536 → Small bs → 1 ≤ length bs → length bs ≤ 16
+    → LineSays mode (code "D") p bs (body (code "D") p (hexes bs ∷ []))
 said-data mode p bs h s least most =
     let a : allAbove (hexes bs ∷ []) ≡ true = rw (bytes-above bs) in
     said mode (code "D") p (hexes bs ∷ []) h refl a bs
-    (ap isData (further mode (code "D") p (hexes bs ∷ []) h refl a) ∙ sym (few 16 (hexes bs) (length bs) (omega (arith, hexes-length bs)) (omega (arith, hexes-length bs)) (λ e. omega arith) most) ∙ bytes-hex bs)
+    (ap isData (further mode (code "D") p (hexes bs ∷ []) h refl a)
+    ∙ sym (few 16 (hexes bs) (length bs) (omega (arith, hexes-length bs)) (omega (arith, hexes-length bs)) (λ e. omega arith) most) ∙ bytes-hex bs)
     (bytes-on mode (code "D") p bs [] h refl a s)
 
 -- `I`
@@ -92,7 +97,8 @@ unfolding fieldsText
 ended [] = refl
 ended (f ∷ fs) = ap (λ (t : List ℕ). 9 ∷ t) (append-assoc f (tabbed fs) (10 ∷ []) ∙ ap (λ (t : List ℕ). f ++ t) (ended fs))
 
-pub said-code : (mode : Mode) (p : ℕ) (bs name : List ℕ) (fs : List (List ℕ)) → p < 65536 → allAbove (hexes bs ∷ name ∷ fs) ≡ true → Small bs → line (code "I") (hex4 p ∷ hexes bs ∷ name ∷ fs) ≡ codeLine mode p bs
+pub said-code : (mode : Mode) (p : ℕ) (bs name : List ℕ) (fs : List (List ℕ)) → p < 65536 → allAbove (hexes bs ∷ name ∷ fs) ≡ true → Small bs
+    → line (code "I") (hex4 p ∷ hexes bs ∷ name ∷ fs) ≡ codeLine mode p bs
     → LineSays mode (code "I") p bs (body (code "I") p (hexes bs ∷ name ∷ fs))
 unfolding isCode
 said-code mode p bs name fs h a s e =

@@ -70,14 +70,16 @@ module _ (mode : Mode) (image marks : List ℕ) where
       wrote-so : sheetWith sheet l ≡ wrote sheet c p bs
       unfolding sheetWith recordOf
       wrote-so =
-          ap (λ (x : ℕ). wrote sheet x (positionOn l) (listedOn l)) (S .letter) ∙ ap (λ (x : ℕ). wrote sheet c x (listedOn l)) (S .position) ∙ ap (wrote sheet c p) (S .lists)
+          ap (λ (x : ℕ). wrote sheet x (positionOn l) (listedOn l)) (S .letter) ∙ ap (λ (x : ℕ). wrote sheet c x (listedOn l)) (S .position)
+          ∙ ap (wrote sheet c p) (S .lists)
 
       opens : OpenAt p (suc (rankOf c)) (placeAfter place (length l) (recordOf l))
       unfolding placeAfter recordOf
       opens = later (S .position) (subst (λ (b : ℕ). b < suc (rankOf c)) (ap rankOf (sym (S .letter))) (le-refl (suc (rankOf c))))
 
       pub read-line : agree (sheet .cells) p bs ≡ true → reach (length image) p bs ≡ false
-          → ((after : Place) → OpenAt p (suc (rankOf c)) after → Restores mode image marks after (wrote sheet c p bs) ls) → Restores mode image marks place sheet (l ∷ ls)
+          → ((after : Place) → OpenAt p (suc (rankOf c)) after → Restores mode image marks after (wrote sheet c p bs) ls)
+          → Restores mode image marks place sheet (l ∷ ls)
       read-line a f R =
           goes-on
           (both _ _ (both _ _ (S .fits) in-order) (rw (S .position, S .lists) a))

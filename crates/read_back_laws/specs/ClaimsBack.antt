@@ -29,7 +29,8 @@ pub record GivenBack (mode : Mode) (image m : List ℕ) (choice : Arrivals) (roo
 -- for every image and marks of which a listing is made, with or without arrivals
 abbrev pub ListingRestores : Type 0
 ListingRestores =
-    (mode : Mode) (image m : List ℕ) (choice : Arrivals) (room marks : List ℕ) → Bytes image → length image ≤ 65536 → length image ≤ length m → Undamaged image m → length image ≤ length room → length image ≤ length marks
+    (mode : Mode) (image m : List ℕ) (choice : Arrivals) (room marks : List ℕ) → Bytes image → length image ≤ 65536 → length image ≤ length m
+    → Undamaged image m → length image ≤ length room → length image ≤ length marks
     → GivenBack mode image m choice room marks
 
 -- the number and values of the answers tell all cases and all values apart

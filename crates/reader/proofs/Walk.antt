@@ -1,8 +1,10 @@
 -- What the walks of this crate share.
 --     Row                                        the type of a `Reader`, over the lifetimes of a signature of one
---     mode-stays, text-stays, place-stays, reader-stays      a parameter is seen at exit as it was passed.        mode-goes, text-goes, place-goes, reader-goes      the law for it
+-- mode-stays, text-stays, place-stays, reader-stays a parameter is seen at exit as it was passed. mode-goes, text-goes, place-goes, reader-goes the
+-- law for it
 --     mode-val                                   the machine value of a `Mode`: it has no field, and is its tag
---     mode-vals, place-vals, reader-vals         the machine values of a `Mode`, of a `Place` and of a `Reader`.        mode-tells, place-tells, reader-tells      each is related to those alone
+-- mode-vals, place-vals, reader-vals the machine values of a `Mode`, of a `Place` and of a `Reader`. mode-tells, place-tells, reader-tells each is
+-- related to those alone
 --     mode-typed, text-typed, place-typed, reader-typed      a machine value is of its MIR type.        answer-typed      so is that of a `Read`
 --     text-twice, reader-twice                   what a `&[u8]` and a `Reader` own is had twice, for they are Copy
 --     place-is                                   whoever holds a `Reader` knows the facts of its place
@@ -112,10 +114,12 @@ module _ {M : Type 1} (𝓤 : URA M) (H : Heap 𝓤) (A : Atoms 𝓤) (W : Given
   answer-typed = EL.lawful S.the-type S′.the-laws 𝓤 H A W tt .typed
 
   pub text-twice : (κ : Lft) (s : RefT (List ℕ)) (vs : List Val)
-      → ent 𝓤 (sem 𝓤 H A (ShrSlice (named 0) κ u8 .own s vs)) (sep 𝓤 (sem 𝓤 H A (ShrSlice (named 0) κ u8 .own s vs)) (sem 𝓤 H A (ShrSlice (named 0) κ u8 .own s vs)))
+      → ent 𝓤 (sem 𝓤 H A (ShrSlice (named 0) κ u8 .own s vs))
+      (sep 𝓤 (sem 𝓤 H A (ShrSlice (named 0) κ u8 .own s vs)) (sem 𝓤 H A (ShrSlice (named 0) κ u8 .own s vs)))
   text-twice κ = shr-slice-copy 𝓤 H A W (named 0) κ u8 .twice
 
-  pub reader-twice : (κs : Lfts 1) (d : Reader) (vs : List Val) → ent 𝓤 (sem 𝓤 H A (Row κs .own d vs)) (sep 𝓤 (sem 𝓤 H A (Row κs .own d vs)) (sem 𝓤 H A (Row κs .own d vs)))
+  pub reader-twice : (κs : Lfts 1) (d : Reader) (vs : List Val)
+      → ent 𝓤 (sem 𝓤 H A (Row κs .own d vs)) (sep 𝓤 (sem 𝓤 H A (Row κs .own d vs)) (sem 𝓤 H A (Row κs .own d vs)))
   reader-twice κs = LL.copy (T.the-type (namedLft 1 0 tt κs)) (T′.the-copy (namedLft 1 0 tt κs)) 𝓤 H A W .twice
 
 module _ {M : Type 1} (𝓤 : URA M) (H : Heap 𝓤) (A : Atoms 𝓤) where

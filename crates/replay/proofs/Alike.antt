@@ -26,7 +26,8 @@ module _ (mode : Mode) (image m : List ℕ) (f g : ℕ → Bool) (agree : (p : �
   move-like : (l : Log) (p : ℕ) → p < 65536 → moveNow mode image m f l p ≡ moveNow mode image m g l p
   unfolding moveNow moveBy
   move-like l p h =
-      ap (λ (b : Bool). cond (eqb (l .lines) 0) Target (cond (arrives mode image m p (l .last)) Target (cond b Interrupt (cond (freeAfter image m (l .last)) Free Forbidden))))
+      ap (λ (b : Bool). cond (eqb (l .lines) 0) Target
+      (cond (arrives mode image m p (l .last)) Target (cond b Interrupt (cond (freeAfter image m (l .last)) Free Forbidden))))
       (agree p h)
 
   -- by how control comes there
@@ -51,8 +52,10 @@ module _ (mode : Mode) (image m : List ℕ) (f g : ℕ → Bool) (agree : (p : �
   unfolding linesOf
   lines-like zero s text = refl
   lines-like (suc k) s text =
-      ap (λ (t : State). cond (eqb (t .log .refusal) 0) (linesOf mode image m f k t (drop 7 text)) t) (taken-like s (positionOf (take 7 text)) (position-le (take 7 text)))
-      ∙ ap (λ (x : State). cond (eqb (takenAt mode image m g s (positionOf (take 7 text)) .log .refusal) 0) x (takenAt mode image m g s (positionOf (take 7 text))))
+      ap (λ (t : State). cond (eqb (t .log .refusal) 0) (linesOf mode image m f k t (drop 7 text)) t)
+      (taken-like s (positionOf (take 7 text)) (position-le (take 7 text)))
+      ∙ ap (λ (x : State). cond (eqb (takenAt mode image m g s (positionOf (take 7 text)) .log .refusal) 0) x
+      (takenAt mode image m g s (positionOf (take 7 text))))
       (lines-like k (takenAt mode image m g s (positionOf (take 7 text))) (drop 7 text))
 
   pub block-like : (s : State) (text : List ℕ) → blockOf mode image m f s text ≡ blockOf mode image m g s text

@@ -24,7 +24,8 @@ module _ (text : List ℕ) (k : ℕ) (h : 0 < k) where
 
   pub back-told : (q n : ℕ) → n ≡ 7 → q ≡ positionOf (take n (drop ((k - 1) * 7) text)) → q ≡ p
   back-told q n e f =
-      f ∙ ap (λ (j : ℕ). positionOf (take j (drop ((k - 1) * 7) text))) e ∙ ap (λ (j : ℕ). positionOf (take 7 (drop j text))) (let g : (k - 1) * 7 ≡ 7 * (k - 1) = omega arith in g)
+      f ∙ ap (λ (j : ℕ). positionOf (take j (drop ((k - 1) * 7) text))) e
+      ∙ ap (λ (j : ℕ). positionOf (take 7 (drop j text))) (let g : (k - 1) * 7 ≡ 7 * (k - 1) = omega arith in g)
 
 pub back-end : (text c t : List ℕ) (k : ℕ) → k ≤ 0 → takenBack text k c ≡ t → c ≡ t
 unfolding takenBack

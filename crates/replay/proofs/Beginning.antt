@@ -24,7 +24,8 @@ partial-length l = bytes-length (min (l .held) 6) (l .part)
 sets-append : (l a b : List ℕ) (i : ℕ) → sets l i (a ++ b) ≡ sets (sets l i a) (i + length a) b
 sets-append l [] b i = ap (λ (k : ℕ). sets l k b) (let e : i ≡ i + 0 = omega arith in e)
 sets-append l (x ∷ a) b i =
-    sets-append (set l i x) a b (suc i) ∙ ap (λ (k : ℕ). sets (sets (set l i x) (suc i) a) k b) (let e : suc i + length a ≡ i + suc (length a) = omega arith in e)
+    sets-append (set l i x) a b (suc i)
+    ∙ ap (λ (k : ℕ). sets (sets (set l i x) (suc i) a) k b) (let e : suc i + length a ≡ i + suc (length a) = omega arith in e)
 
 take-most : (n : ℕ) (l : List ℕ) → take n l ≡ take (min n (length l)) l
 take-most n l = by (lt-or-le n (length l))

@@ -35,7 +35,8 @@ module _ (l : Log) (mode : Mode) (text image m entries counts : List ℕ) where
         let g : judge (lentRefusals image m counts) noTotals ≡ refused (w .0) (w .1) = sym e ∙ w .2 in
         (w .2 ∙ rw (b, g) refl, (rw (b, g) refl, rw (b, g) refl))
 
-    pub block-fed : isTold c ≡ true → (r : Log) (cs : List ℕ) → state r cs ≡ fed l mode text image m entries counts → (a : Replayed) → replayedOf a ≡ toldOf r → Leaves a r cs
+    pub block-fed : isTold c ≡ true → (r : Log) (cs : List ℕ) → state r cs ≡ fed l mode text image m entries counts → (a : Replayed) → replayedOf a ≡ toldOf r
+        → Leaves a r cs
     unfolding blockAnswer blockLog blockCounts lentAnswer
     block-fed f r cs s a h =
         let b = eq-eqb (l .refusal) 0 z in

@@ -19,7 +19,8 @@ module _ (l : List ℕ) (t : Bool) (i : ℕ) where
   pub ten-here : i < length l → getD l i 0 ≡ 10 → some (eqb 10) (drop i l) ≡ t → true ≡ t
   unfolding some
   ten-here h e f =
-      sym (ap (λ (x : List ℕ). some (eqb 10) x) (drop-cons l i 0 h) ∙ ap (λ (b : Bool). b || some (eqb 10) (drop (suc i) l)) (eq-eqb 10 (getD l i 0) (sym e))) ∙ f
+      sym (ap (λ (x : List ℕ). some (eqb 10) x) (drop-cons l i 0 h)
+      ∙ ap (λ (b : Bool). b || some (eqb 10) (drop (suc i) l)) (eq-eqb 10 (getD l i 0) (sym e))) ∙ f
 
   pub ten-later : i < length l → (getD l i 0 ≡ 10 → ⊥) → some (eqb 10) (drop i l) ≡ t → some (eqb 10) (drop (i + 1) l) ≡ t
   unfolding some

@@ -22,7 +22,8 @@ module _ (mode : Mode) (image m : List ℕ) (isEntry : ℕ → Bool) where
       → feedOf mode image m isEntry s text
       ≡ (let t = takenAt mode image m isEntry s (positionOf (take 7 text)) in cond (eqb (t .log .refusal) 0) (feedOf mode image m isEntry t (drop 7 text)) t)
   unfolding feedOf linesOf
-  feed-next s text h = ap (λ (k : ℕ). linesOf mode image m isEntry k s text) (let e : length text / 7 ≡ suc (length (drop 7 text) / 7) = omega (arith, length-drop 7 text) in e)
+  feed-next s text h = ap (λ (k : ℕ). linesOf mode image m isEntry k s text)
+      (let e : length text / 7 ≡ suc (length (drop 7 text) / 7) = omega (arith, length-drop 7 text) in e)
 
   module _ (s t : State) (text : List ℕ) (h : 7 ≤ length text) (e : t ≡ takenAt mode image m isEntry s (positionOf (take 7 text))) where
     pub feed-on : t .log .refusal ≡ 0 → feedOf mode image m isEntry t (drop 7 text) ≡ feedOf mode image m isEntry s text
@@ -62,7 +63,8 @@ module _ (mode : Mode) (image m : List ℕ) (isEntry : ℕ → Bool) where
   -- ---- from a place of the text on
 
   module _ (s total : State) (text : List ℕ) (at : ℕ) (so : feedOf mode image m isEntry s (drop at text) ≡ total) where
-    module _ (r : State) (p k : ℕ) (h : 7 ≤ length text - at) (g : k ≡ 7) (e : p ≡ positionOf (take k (drop at text))) (f : r ≡ takenAt mode image m isEntry s p) where
+    module _ (r : State) (p k : ℕ) (h : 7 ≤ length text - at) (g : k ≡ 7) (e : p ≡ positionOf (take k (drop at text)))
+        (f : r ≡ takenAt mode image m isEntry s p) where
       seven : 7 ≤ length (drop at text)
       seven = omega (arith, length-drop at text)
 
@@ -75,7 +77,8 @@ module _ (mode : Mode) (image m : List ℕ) (isEntry : ℕ → Bool) where
       pub lines-stop : (r .log .refusal ≡ 0 → ⊥) → r ≡ total
       lines-stop z = feed-stop s r (drop at text) seven there z ∙ so
 
-    pub lines-rest : length text - at < 7 → (l : Log) (k : ℕ) → k ≡ length text - at → l ≡ keeping (s .log) (take k (drop at text)) → state l (s .counts) ≡ total
+    pub lines-rest : length text - at < 7 → (l : Log) (k : ℕ) → k ≡ length text - at → l ≡ keeping (s .log) (take k (drop at text))
+        → state l (s .counts) ≡ total
     lines-rest h l k g e =
         ap (λ (x : Log). state x (s .counts)) (e ∙ ap (keeping (s .log)) (take-all k (drop at text) (omega (arith, length-drop at text))))
         ∙ feed-rest s (drop at text) (omega (arith, length-drop at text)) ∙ so

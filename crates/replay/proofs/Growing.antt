@@ -68,7 +68,8 @@ module _ (mode : Mode) (image m : List ℕ) (isEntry : ℕ → Bool) (text c₀ 
       let j : ℕ = s .log .lines in
       let e : oneMore j ≡ suc j = sym (more-next j (omega arith)) ∙ (let y : j + 1 ≡ suc j = omega arith in y) in
       let c : List ℕ = set (s .counts) p (getD (s .counts) p 0 + 1) in
-      let d : c ≡ set (s .counts) (positionAt text j) (getD (s .counts) (positionAt text j) 0 + 1) = ap (λ (q : ℕ). set (s .counts) q (getD (s .counts) q 0 + 1)) f in
+      let d : c ≡ set (s .counts) (positionAt text j) (getD (s .counts) (positionAt text j) 0 + 1) =
+      ap (λ (q : ℕ). set (s .counts) q (getD (s .counts) q 0 + 1)) f in
       let k : positionAt text j < length (s .counts) = subst (λ (q : ℕ). q < length (s .counts)) f h in (
         record {
           within = rw e (omega arith);
@@ -114,7 +115,8 @@ module _ (mode : Mode) (image m : List ℕ) (isEntry : ℕ → Bool) (text c₀ 
   Leads k = (s : State) (rest : List ℕ) → rest ≡ drop (7 * s .log .lines) text → 7 * k ≤ length rest → length image ≤ length (s .counts)
       → Grown text c₀ s → Grown text c₀ (linesOf mode image m isEntry k s rest)
 
-  next-grown : (k : ℕ) → Leads k → (s t : State) (p : ℕ) (rest : List ℕ) → How mode image m isEntry s p t → rest ≡ drop (7 * s .log .lines) text → 7 * suc k ≤ length rest
+  next-grown : (k : ℕ) → Leads k → (s t : State) (p : ℕ) (rest : List ℕ) → How mode image m isEntry s p t → rest ≡ drop (7 * s .log .lines) text
+      → 7 * suc k ≤ length rest
       → length image ≤ length (s .counts) → p ≡ positionAt text (s .log .lines) → Grown text c₀ s
       → Grown text c₀ (cond (eqb (t .log .refusal) 0) (linesOf mode image m isEntry k t (drop 7 rest)) t)
   unfolding refusing going
@@ -123,7 +125,8 @@ module _ (mode : Mode) (image m : List ℕ) (isEntry : ℕ → Bool) (text c₀ 
       let z : 7 * s .log .lines + 7 ≤ length text = (let y = ap length f in omega (arith, length-drop (7 * s .log .lines) text)) in
       let w = more s p (let y = traced-inside image m p a in omega arith) i z G in
       rw e
-      (ih (state (going (s .log) p (moveNow mode image m isEntry (s .log) p)) (set (s .counts) p (getD (s .counts) p 0 + 1))) (drop 7 rest) (next-place s p rest f z)
+      (ih (state (going (s .log) p (moveNow mode image m isEntry (s .log) p)) (set (s .counts) p (getD (s .counts) p 0 + 1))) (drop 7 rest)
+      (next-place s p rest f z)
       (omega (arith, length-drop 7 rest)) (omega (arith, w .1)) (w .0))
 
   -- the lines up to the next place of the text

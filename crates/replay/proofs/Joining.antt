@@ -61,4 +61,5 @@ module _ (mode : Mode) (image m : List ℕ) (isEntry : ℕ → Bool) (l : Log) (
           ∙ feed-on mode image m isEntry s a all long taken u
         where
           rest : drop (7 - c) text ≡ drop 7 all
-          rest = sym (ap (λ (j : ℕ). drop j all) (let w : 7 ≡ length (partial l) + (7 - c) = omega (arith, partial-length l) in w) ∙ drop-append-add (partial l) text (7 - c))
+          rest = sym (ap (λ (j : ℕ). drop j all) (let w : 7 ≡ length (partial l) + (7 - c) = omega (arith, partial-length l) in w)
+              ∙ drop-append-add (partial l) text (7 - c))

@@ -15,6 +15,7 @@ unfolding keeping
 keep-refused l rest e = rw e refl
 
 pub keep-held : (l : Log) (rest : List ℕ) (n : ℕ) → some (eqb 10) rest ≡ false → n ≡ numberOf rest
-    → _≡_ {A = Log} (record { lines = l .lines; interrupts = l .interrupts; free = l .free; last = l .last; refusal = 0; held = length rest; part = n }) (keeping l rest)
+    → _≡_ {A = Log} (record { lines = l .lines; interrupts = l .interrupts; free = l .free; last = l .last; refusal = 0; held = length rest; part = n })
+    (keeping l rest)
 unfolding keeping
 keep-held l rest n e f = rw (e, f) refl

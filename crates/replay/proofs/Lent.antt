@@ -46,10 +46,12 @@ module _ (image m counts : List ℕ) (v : Viewed) (e : viewedOf v ≡ judge (vie
   lent-refused n vs f = sym (early (viewRefusals image m) _ 0 noTotals n vs (sym e ∙ f))
 
   module _ (a : ℕ) (f : viewedOf v ≡ accepted a) where
-    view-passed : _≡_ {A = Answer Totals} (judge (lentRefusals image m counts) noTotals) (judge (refuse (ltb (length counts) (length image)) 11 (pos (length image) ∷ []) ∷ []) noTotals)
+    view-passed : _≡_ {A = Answer Totals} (judge (lentRefusals image m counts) noTotals)
+        (judge (refuse (ltb (length counts) (length image)) 11 (pos (length image) ∷ []) ∷ []) noTotals)
     view-passed = late (viewRefusals image m) _ 0 a noTotals (sym e ∙ f)
 
-    pub short-counts : length counts < length image → _≡_ {A = Answer Totals} (refused 11 (pos (length image) ∷ [])) (judge (lentRefusals image m counts) noTotals)
+    pub short-counts : length counts < length image
+        → _≡_ {A = Answer Totals} (refused 11 (pos (length image) ∷ [])) (judge (lentRefusals image m counts) noTotals)
     unfolding judge
     short-counts h = sym (view-passed ∙ rw (lt-ltb (length counts) (length image) h) refl)
 

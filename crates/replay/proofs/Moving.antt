@@ -59,7 +59,8 @@ module _ (image m : List ℕ) (q : ℕ) where
       module _ (g : x ≡ 0xB0 → ⊥) where
         pub free-other : (x ≡ 0x21 → ⊥) → false ≡ freeAfter image m q
         free-other k =
-            free-by true false false false _ e (ret-by-byte x h ∙ ne-eqb x 0xA0 f) (reti-by-byte x h ∙ ne-eqb x 0xB0 g) (jmpf-by-byte x h ∙ ne-eqb x 0x21 k) refl
+            free-by true false false false _ e (ret-by-byte x h ∙ ne-eqb x 0xA0 f) (reti-by-byte x h ∙ ne-eqb x 0xB0 g)
+            (jmpf-by-byte x h ∙ ne-eqb x 0x21 k) refl
 
         pub free-jmpf : x ≡ 0x21 → eqb (getD m q 0) flash ≡ freeAfter image m q
         free-jmpf k =
@@ -95,6 +96,7 @@ module _ (mode : Mode) (image m : List ℕ) (isEntry : ℕ → Bool) (l : Log) (
   unfolding moveNow
   first-move e = rw (eq-eqb (l .lines) 0 e) refl
 
-  pub later-move : (l .lines ≡ 0 → ⊥) → length image ≤ 65536 → (q : ℕ) → q ≡ min (l .last) 65536 → moveBy mode image m isEntry q p ≡ moveNow mode image m isEntry l p
+  pub later-move : (l .lines ≡ 0 → ⊥) → length image ≤ 65536 → (q : ℕ) → q ≡ min (l .last) 65536
+      → moveBy mode image m isEntry q p ≡ moveNow mode image m isEntry l p
   unfolding moveNow
   later-move e h q f = same-last mode image m isEntry (l .last) q p h f ∙ rw (ne-eqb (l .lines) 0 e) refl

@@ -50,7 +50,8 @@ unfolding withEntries some
 entries-more [] f = map-same 65536 f (λ (i : ℕ). f i || false) (λ i h. sym (or-false (f i)))
 entries-more (q ∷ es) f =
     ap (withEntries es) (entry-more f q) ∙ entries-more es (λ (i : ℕ). f i || eqb i q)
-    ∙ map-same 65536 (λ (i : ℕ). (f i || eqb i q) || some (eqb i) es) (λ (i : ℕ). f i || (eqb i q || some (eqb i) es)) (λ i h. or-assoc (f i) (eqb i q) (some (eqb i) es))
+    ∙ map-same 65536 (λ (i : ℕ). (f i || eqb i q) || some (eqb i) es) (λ (i : ℕ). f i || (eqb i q || some (eqb i) es))
+    (λ i h. or-assoc (f i) (eqb i q) (some (eqb i) es))
 
 bit-of : (f : ℕ → Bool) (q : ℕ) → q < 65536 → codeAt (mapBy 65536 f) q ≡ f q
 unfolding codeAt inside

@@ -50,7 +50,8 @@ module _ (mode : Mode) (image m : List ℕ) (isEntry : ℕ → Bool) (l : Log) (
         pub full : (r : Log) → r ≡ refusing l 21 → getD counts p 0 ≡ top → state r counts ≡ takenAt mode image m isEntry s p
         full r e h = stopped r 21 e refl (fault-by false true false true (ne-eqb p 65536 g) t f (eq-eqb (getD counts p 0) top h))
 
-        pub counted : (r : Log) → r ≡ going l p by → (getD counts p 0 ≡ top → ⊥) → state r (set counts p (getD counts p 0 + 1)) ≡ takenAt mode image m isEntry s p
+        pub counted : (r : Log) → r ≡ going l p by → (getD counts p 0 ≡ top → ⊥)
+            → state r (set counts p (getD counts p 0 + 1)) ≡ takenAt mode image m isEntry s p
         unfolding takenAt
         counted r e h = rw (e, fault-by false true false false (ne-eqb p 65536 g) t f (ne-eqb (getD counts p 0) top h)) refl
 
@@ -59,7 +60,8 @@ module _ (mode : Mode) (image m : List ℕ) (isEntry : ℕ → Bool) (l : Log) (
   unfolding takenAt
   taken-length r cs e = ap (λ (x : State). length (x .counts)) e ∙ by (eqb (faultAt mode image m isEntry s p) 0)
     where
-      by : (b : Bool) → length ((cond b (state (going l p (moveNow mode image m isEntry l p)) (set counts p (getD counts p 0 + 1))) (state (refusing l (faultAt mode image m isEntry s p)) counts)) .counts) ≡ length counts
+      by : (b : Bool) → length ((cond b (state (going l p (moveNow mode image m isEntry l p)) (set counts p (getD counts p 0 + 1)))
+          (state (refusing l (faultAt mode image m isEntry s p)) counts)) .counts) ≡ length counts
       by true = length-set counts p _
       by false = refl
 

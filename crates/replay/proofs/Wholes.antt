@@ -29,7 +29,8 @@ module _ (mode : Mode) (text image m entries counts : List ℕ) (c : Replayed) (
       let g : judge (lentRefusals image m counts) noTotals ≡ refused (w .0) (w .1) = sym e ∙ w .2 in
       (w .2 ∙ rw g refl, rw g refl)
 
-  module _ (f : isTold c ≡ true) (new r : Log) (cs : List ℕ) (n : new ≡ begun) (s : state r cs ≡ blockOf mode image m (isEntryOf entries) (state new counts) text) where
+  module _ (f : isTold c ≡ true) (new r : Log) (cs : List ℕ) (n : new ≡ begun)
+      (s : state r cs ≡ blockOf mode image m (isEntryOf entries) (state new counts) text) where
     is-replayed : state r cs ≡ replayed mode text image m entries counts
     is-replayed = s ∙ ap (λ (l : Log). blockOf mode image m (isEntryOf entries) (state l counts) text) n
 
@@ -51,7 +52,8 @@ module _ (mode : Mode) (text image m entries counts : List ℕ) (c : Replayed) (
           let g : replayAnswer mode text image m entries counts ≡ accepted (w .0) = sym answer-is ∙ w .1 in
           (answer-is, ap (λ (x : State). x .counts) is-replayed ∙ rw g refl)
 
-      pub whole-refused : isTold a ≡ false → length text < 18446744073709551616 → length image ≤ length counts → (back : List ℕ) → back ≡ takenBack text (r .lines) cs → Leaves a back
+      pub whole-refused : isTold a ≡ false → length text < 18446744073709551616 → length image ≤ length counts → (back : List ℕ)
+          → back ≡ takenBack text (r .lines) cs → Leaves a back
       unfolding replayCounts
       whole-refused t i j back k =
           let w = refused-is a t in

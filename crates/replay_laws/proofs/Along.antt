@@ -27,11 +27,14 @@ module _ (mode : Mode) (image m : List ℕ) (isEntry : ℕ → Bool) where
     pub room : getD (s .counts) p 0 ≡ top → ⊥
 
   module _ (P : ℕ → State → List ℕ → Type 0) (Q : State → Type 0)
-      (next : (k : ℕ) (s : State) (rest : List ℕ) → P (suc k) s rest → Fine s (positionOf (take 7 rest)) → P k (onward s (positionOf (take 7 rest))) (drop 7 rest))
-      (stop : (k : ℕ) (s : State) (rest : List ℕ) (n : ℕ) → P (suc k) s rest → (n ≡ 0 → ⊥) → takenAt mode image m isEntry s (positionOf (take 7 rest)) ≡ state (refusing (s .log) n) (s .counts)
+      (next : (k : ℕ) (s : State) (rest : List ℕ) → P (suc k) s rest → Fine s (positionOf (take 7 rest))
+      → P k (onward s (positionOf (take 7 rest))) (drop 7 rest))
+      (stop : (k : ℕ) (s : State) (rest : List ℕ) (n : ℕ) → P (suc k) s rest → (n ≡ 0 → ⊥)
+      → takenAt mode image m isEntry s (positionOf (take 7 rest)) ≡ state (refusing (s .log) n) (s .counts)
       → Q (state (refusing (s .log) n) (s .counts)))
       (end : (s : State) (rest : List ℕ) → P 0 s rest → Q (state (keeping (s .log) rest) (s .counts))) where
-    step : (k : ℕ) (s t : State) (rest : List ℕ) → t ≡ takenAt mode image m isEntry s (positionOf (take 7 rest)) → How mode image m isEntry s (positionOf (take 7 rest)) t → P (suc k) s rest
+    step : (k : ℕ) (s t : State) (rest : List ℕ) → t ≡ takenAt mode image m isEntry s (positionOf (take 7 rest))
+        → How mode image m isEntry s (positionOf (take 7 rest)) t → P (suc k) s rest
         → ((u : State) → P k u (drop 7 rest) → Q (linesOf mode image m isEntry k u (drop 7 rest)))
         → Q (cond (eqb (t .log .refusal) 0) (linesOf mode image m isEntry k t (drop 7 rest)) t)
     unfolding refusing going

@@ -34,7 +34,8 @@ use Rattle.replay_laws.proofs.ClaimsBlocksCut.{fed-is}
 use Rattle.replay_laws.proofs.Cutting.{Parts, two-blocks, block-append}
 use Rattle.replay_laws.proofs.Held.{bytes-take}
 
-module _ (mode : Mode) (image m : List ℕ) (isEntry : ℕ → Bool) (text c₀ : List ℕ) (B : Bytes text) (long : length text < highest) (small : length image ≤ 65536) where
+module _ (mode : Mode) (image m : List ℕ) (isEntry : ℕ → Bool) (text c₀ : List ℕ) (B : Bytes text) (long : length text < highest)
+    (small : length image ≤ 65536) where
   abbrev block : State → List ℕ → State
   block = blockOf mode image m isEntry
 
@@ -71,7 +72,8 @@ module _ (mode : Mode) (image m : List ℕ) (isEntry : ℕ → Bool) (text c₀ 
     seven = let w = S .within in let z = ap length (S .here) in omega (arith, length-drop (7 * s .log .lines) text)
 
     taken : u ≡ takenAt mode image m isEntry s p
-    taken = counted mode image m isEntry (s .log) (s .counts) p (λ z. (let i = traced-inside image m p (F .traced) in omega arith)) (F .traced) (F .allowed) _ refl (F .room)
+    taken = counted mode image m isEntry (s .log) (s .counts) p (λ z. (let i = traced-inside image m p (F .traced) in omega arith)) (F .traced)
+        (F .allowed) _ refl (F .room)
 
     -- one line alone
     rested : feedOf mode image m isEntry u [] ≡ u
@@ -109,7 +111,8 @@ module _ (mode : Mode) (image m : List ℕ) (isEntry : ℕ → Bool) (text c₀ 
         let P = two-blocks mode image m isEntry (state begun c₀) x (take 7 rest) (bytes-take (7 * n) text B) in
         let Q = subst (Parts mode image m isEntry (state begun c₀) (partial begun ++ x) (take 7 rest)) (S .alone) P in
         ap (block (state begun c₀))
-        (ap (λ (j : ℕ). take j text) (let z : 7 * (n + 1) ≡ 7 * n + 7 = omega arith in z) ∙ take-add (7 * n) 7 text ∙ ap (λ (l : List ℕ). x ++ take 7 l) (sym (S .here)))
+        (ap (λ (j : ℕ). take j text) (let z : 7 * (n + 1) ≡ 7 * n + 7 = omega arith in z) ∙ take-add (7 * n) 7 text
+        ∙ ap (λ (l : List ℕ). x ++ take 7 l) (sym (S .here)))
         ∙ block-append mode image m isEntry (state begun c₀) x (take 7 rest) ∙ Q .on (S .refusal)
         ∙ ap (λ (l : List ℕ). feedOf mode image m isEntry s (l ++ take 7 rest)) (nothing-held s (S .held)) ∙ one-line
 
@@ -117,7 +120,8 @@ module _ (mode : Mode) (image m : List ℕ) (isEntry : ℕ → Bool) (text c₀ 
     on =
         let w = S .within in
         record {
-          here = rw counts-line (ap (drop 7) (S .here) ∙ drop-drop 7 (7 * s .log .lines) text ∙ ap (λ (j : ℕ). drop j text) (let z : 7 * s .log .lines + 7 ≡ 7 * (s .log .lines + 1) = omega arith in z));
+          here = rw counts-line (ap (drop 7) (S .here) ∙ drop-drop 7 (7 * s .log .lines) text
+              ∙ ap (λ (j : ℕ). drop j text) (let z : 7 * s .log .lines + 7 ≡ 7 * (s .log .lines + 1) = omega arith in z));
           within = rw counts-line (omega arith);
           alone = ap first counts-line ∙ next-first;
           refusal = no-refusal;
@@ -175,13 +179,15 @@ line-number : (l : Log) (number n : ℕ) → closedOf l ≡ refused number (pos 
 unfolding closedOf toldOf
 line-number l number n e = by (eqb (l .refusal) 0) (eqb (l .held) 0) e
   where
-    by : (a b : Bool) → cond (a && not b) (refused 18 (pos (oneMore (l .lines)) ∷ [])) (cond a (accepted (totalsOf l)) (refused (numberHeld (l .refusal)) (pos (oneMore (l .lines)) ∷ []))) ≡ refused number (pos n ∷ [])
+    by : (a b : Bool) → cond (a && not b) (refused 18 (pos (oneMore (l .lines)) ∷ []))
+        (cond a (accepted (totalsOf l)) (refused (numberHeld (l .refusal)) (pos (oneMore (l .lines)) ∷ []))) ≡ refused number (pos n ∷ [])
         → n ≡ oneMore (l .lines)
     by true true f = absurd (differ (sym f))
     by true false f = same f
     by false b f = same f
 
-module _ (mode : Mode) (text image m entries counts : List ℕ) (B : Bytes text) (long : length text < highest) (lent : lentAnswer image m counts ≡ accepted noTotals) where
+module _ (mode : Mode) (text image m entries counts : List ℕ) (B : Bytes text) (long : length text < highest)
+    (lent : lentAnswer image m counts ≡ accepted noTotals) where
   abbrev r : State
   r = replayed mode text image m entries counts
 

@@ -36,7 +36,8 @@ unfolding lentAnswer
 lent-same image m c c′ e = ap (λ (n : ℕ). judge (viewRefusals image m ++ refuse (ltb n (length image)) 11 (pos (length image) ∷ []) ∷ []) noTotals) e
 
 -- the counts stay as long
-pub block-length : (mode : Mode) (image m : List ℕ) (isEntry : ℕ → Bool) (s : State) (text : List ℕ) → length (blockOf mode image m isEntry s text .counts) ≡ length (s .counts)
+pub block-length : (mode : Mode) (image m : List ℕ) (isEntry : ℕ → Bool) (s : State) (text : List ℕ)
+    → length (blockOf mode image m isEntry s text .counts) ≡ length (s .counts)
 unfolding blockOf feedOf
 block-length mode image m isEntry s text =
     along mode image m isEntry (λ k t rest. length (t .counts) ≡ length (s .counts)) (λ t. length (t .counts) ≡ length (s .counts))
@@ -93,7 +94,8 @@ module _ (mode : Mode) (image m entries : List ℕ) where
     begun-empty = refl
 
     -- the record and the counts after the blocks
-    pub fed-is : (xs : List (List ℕ)) → Bytes (claims.joined xs) → claims.fed mode image m entries counts xs ≡ replayed mode (claims.joined xs) image m entries counts
+    pub fed-is : (xs : List (List ℕ)) → Bytes (claims.joined xs)
+        → claims.fed mode image m entries counts xs ≡ replayed mode (claims.joined xs) image m entries counts
     unfolding claims.fedAll
     fed-is xs B =
         ap (λ (t : State). claims.fedAll mode image m entries t xs) (sym (step-is (state begun counts) [] refl lent ∙ begun-empty))
@@ -106,7 +108,8 @@ cut-anywhere mode image m entries counts xs ys B lent e =
 
 pub closed-as-whole : claims.ClosedAsWhole
 closed-as-whole mode image m entries counts xs B lent =
-    ap (λ (s : State). closedOf (s .log)) (fed-is mode image m entries counts lent xs B) ∙ sym (answer-is mode (claims.joined xs) image m entries counts noTotals lent)
+    ap (λ (s : State). closedOf (s .log)) (fed-is mode image m entries counts lent xs B)
+    ∙ sym (answer-is mode (claims.joined xs) image m entries counts noTotals lent)
 
 pub counts-as-whole : claims.CountsAsWhole
 counts-as-whole mode image m entries counts xs t B lent e =

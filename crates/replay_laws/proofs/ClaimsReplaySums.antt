@@ -136,11 +136,16 @@ replay-accepted mode text image m entries counts t long e =
     let w = E .within in
     let f = E .few in
     let l : t .lines ≡ replayed mode text image m entries counts .log .lines =
-    sym (ap (λ (x : Totals). x .lines) (C .totals)) ∙ (let g : min (replayed mode text image m entries counts .log .lines) highest ≡ replayed mode text image m entries counts .log .lines = omega arith in g) in
+    sym (ap (λ (x : Totals). x .lines) (C .totals))
+    ∙ (let g : min (replayed mode text image m entries counts .log .lines) highest
+    ≡ replayed mode text image m entries counts .log .lines = omega arith in g) in
     let i : t .interrupts ≡ replayed mode text image m entries counts .log .interrupts =
-    sym (ap (λ (x : Totals). x .interrupts) (C .totals)) ∙ (let g : min (replayed mode text image m entries counts .log .interrupts) highest ≡ replayed mode text image m entries counts .log .interrupts = omega arith in g) in
+    sym (ap (λ (x : Totals). x .interrupts) (C .totals))
+    ∙ (let g : min (replayed mode text image m entries counts .log .interrupts) highest
+    ≡ replayed mode text image m entries counts .log .interrupts = omega arith in g) in
     let r : t .free ≡ replayed mode text image m entries counts .log .free =
-    sym (ap (λ (x : Totals). x .free) (C .totals)) ∙ (let g : min (replayed mode text image m entries counts .log .free) highest ≡ replayed mode text image m entries counts .log .free = omega arith in g) in
+    sym (ap (λ (x : Totals). x .free) (C .totals))
+    ∙ (let g : min (replayed mode text image m entries counts .log .free) highest ≡ replayed mode text image m entries counts .log .free = omega arith in g) in
     record {
       sums = rw (counts-are mode text image m entries counts t e, l) (E .sums);
       few = ((λ h. omega (arith, l, i, r)), λ h. omega (arith, l, i, r));

@@ -84,7 +84,8 @@ module _ (mode : Mode) (image m : List ℕ) (isEntry : ℕ → Bool) (text : Lis
             let e : suc j ≡ s .log .lines = omega arith in
             let f : arrives mode image m (positionAt text (suc j)) (positionAt text j) ≡ true = W .follows j (omega (arith, inside)) in
             let g : arrives mode image m p (s .log .last) ≡ true =
-            ap (λ (x : ℕ). arrives mode image m x (s .log .last)) (q ∙ ap (positionAt text) (sym e)) ∙ ap (arrives mode image m (positionAt text (suc j))) (G .last (omega arith)) ∙ f in
+            ap (λ (x : ℕ). arrives mode image m x (s .log .last)) (q ∙ ap (positionAt text) (sym e))
+            ∙ ap (arrives mode image m (positionAt text (suc j))) (G .last (omega arith)) ∙ f in
             arrived (s .log) p z g
 
     on : Going k (onward mode image m isEntry s p) (drop 7 rest)
@@ -95,7 +96,8 @@ module _ (mode : Mode) (image m : List ℕ) (isEntry : ℕ → Bool) (text : Lis
         let t = none-more (s .log .interrupts) (s .log .free) (moveNow mode image m isEntry (s .log) p) by-target in
         record {
           left = rw e (omega (arith, G .left));
-          here = rw e (ap (drop 7) (G .here) ∙ drop-drop 7 (7 * s .log .lines) text ∙ ap (λ (j : ℕ). drop j text) (let z : 7 * s .log .lines + 7 ≡ 7 * (s .log .lines + 1) = omega arith in z));
+          here = rw e (ap (drop 7) (G .here) ∙ drop-drop 7 (7 * s .log .lines) text
+              ∙ ap (λ (j : ℕ). drop j text) (let z : 7 * s .log .lines + 7 ≡ 7 * (s .log .lines + 1) = omega arith in z));
           interrupts = t .0 ∙ G .interrupts;
           free = t .1 ∙ G .free;
           last = λ h. q ∙ ap (positionAt text) (let z : s .log .lines ≡ oneMore (s .log .lines) - 1 = omega arith in z);
@@ -129,7 +131,8 @@ module _ (mode : Mode) (image m : List ℕ) (isEntry : ℕ → Bool) (text : Lis
   came : length image ≤ 65536 → (c₀ : List ℕ) → Outcome (blockOf mode image m isEntry (state begun c₀) text)
   unfolding blockOf feedOf partial bytesIn Outcome refusing
   came small c₀ =
-      along mode image m isEntry Going Outcome (λ k s rest G F. on k s rest G) (λ k s rest j G d e. inr (only-full k s rest G j d small e)) end (length text / 7) (state begun c₀) text
+      along mode image m isEntry Going Outcome (λ k s rest G F. on k s rest G) (λ k s rest j G d e. inr (only-full k s rest G j d small e)) end
+      (length text / 7) (state begun c₀) text
       (record {
         left = (let w = W .whole in omega arith);
         here = refl;

@@ -30,7 +30,8 @@ unfolding closedOf toldOf
 closed l t e = by (eqb (l .refusal) 0) refl (eqb (l .held) 0) refl e
   where
     by : (a : Bool) → eqb (l .refusal) 0 ≡ a → (b : Bool) → eqb (l .held) 0 ≡ b
-        → cond (a && not b) (refused 18 (pos (oneMore (l .lines)) ∷ [])) (cond a (accepted (totalsOf l)) (refused (numberHeld (l .refusal)) (pos (oneMore (l .lines)) ∷ []))) ≡ accepted t
+        → cond (a && not b) (refused 18 (pos (oneMore (l .lines)) ∷ []))
+        (cond a (accepted (totalsOf l)) (refused (numberHeld (l .refusal)) (pos (oneMore (l .lines)) ∷ []))) ≡ accepted t
         → Closed l t
     by true f true g h = record { nothing-refused = eqb-true (l .refusal) 0 f; nothing-held = eqb-true (l .held) 0 g; totals = same h }
     by true f false g h = absurd (differ h)
@@ -53,11 +54,13 @@ module _ (mode : Mode) (text image m entries counts : List ℕ) where
       by (accepted u) f g = ((u, f), closed _ t g)
       by (refused n vs) f g = absurd (differ g)
 
-  pub counts-are : (t : Totals) → replayAnswer mode text image m entries counts ≡ accepted t → replayCounts mode text image m entries counts ≡ replayed mode text image m entries counts .counts
+  pub counts-are : (t : Totals) → replayAnswer mode text image m entries counts ≡ accepted t
+      → replayCounts mode text image m entries counts ≡ replayed mode text image m entries counts .counts
   unfolding replayCounts
   counts-are t e = ap (λ (a : Answer Totals). after a (replayed mode text image m entries counts .counts) counts) e
 
   -- where nothing lent is refused, the answer is the closed record's
-  pub answer-is : (u : Totals) → lentAnswer image m counts ≡ accepted u → replayAnswer mode text image m entries counts ≡ closedOf (replayed mode text image m entries counts .log)
+  pub answer-is : (u : Totals) → lentAnswer image m counts ≡ accepted u
+      → replayAnswer mode text image m entries counts ≡ closedOf (replayed mode text image m entries counts .log)
   unfolding replayAnswer
   answer-is u e = ap (λ (a : Answer Totals). orElse a (closedOf (replayed mode text image m entries counts .log))) e

@@ -68,7 +68,8 @@ module _ (mode : Mode) (image m : List ℕ) (isEntry : ℕ → Bool) where
         by : (b : Bool) → some (eqb 10) x ≡ b → Parts s x y (feed s x)
         by true e =
             subst (Parts s x y) (ap (λ (k : Log). state k c) (keep-refused l x e) ∙ f) (record { on = λ z. absurd (number z); stop = λ z. refused e })
-        by false e = subst (Parts s x y) (ap (λ (k : Log). state k c) (keep-held l x _ e refl) ∙ f) (record { on = λ z. held-on B; stop = λ z. absurd (z refl) })
+        by false e = subst (Parts s x y) (ap (λ (k : Log). state k c) (keep-held l x _ e refl) ∙ f)
+            (record { on = λ z. held-on B; stop = λ z. absurd (z refl) })
 
   -- ---- line by line
 
@@ -102,7 +103,8 @@ module _ (mode : Mode) (image m : List ℕ) (isEntry : ℕ → Bool) where
       (parts k (takenAt mode image m isEntry s (positionOf (take 7 x))) (drop 7 x) y (omega (arith, length-drop 7 x)) (bytes-drop 7 x B))
     where
       by : Decided (takenAt mode image m isEntry s (positionOf (take 7 x)) .log .refusal ≡ 0)
-          → Parts (takenAt mode image m isEntry s (positionOf (take 7 x))) (drop 7 x) y (feed (takenAt mode image m isEntry s (positionOf (take 7 x))) (drop 7 x))
+          → Parts (takenAt mode image m isEntry s (positionOf (take 7 x))) (drop 7 x) y
+          (feed (takenAt mode image m isEntry s (positionOf (take 7 x))) (drop 7 x))
           → Parts s x y (feed s x)
       by (inl z) ih = line-on s x y (omega arith) z ih
       by (inr z) ih = line-stop s x y (omega arith) z
@@ -110,7 +112,8 @@ module _ (mode : Mode) (image m : List ℕ) (isEntry : ℕ → Bool) where
   -- blocks: one after the other, or both at once
   pub two-blocks : (s : State) (x y : List ℕ) → Bytes x → Parts s (partial (s .log) ++ x) y (block s x)
   unfolding blockOf
-  two-blocks s x y B = parts (length (partial (s .log) ++ x) / 7) s (partial (s .log) ++ x) y refl (bytes-append (partial (s .log)) x (partial-bytes (s .log)) B)
+  two-blocks s x y B = parts (length (partial (s .log) ++ x) / 7) s (partial (s .log) ++ x) y refl
+      (bytes-append (partial (s .log)) x (partial-bytes (s .log)) B)
 
   pub block-append : (s : State) (x y : List ℕ) → block s (x ++ y) ≡ feed s ((partial (s .log) ++ x) ++ y)
   unfolding blockOf

@@ -41,4 +41,5 @@ module _ (image entries b o : List ℕ) (e : b ≡ lentRoom image) (f : o ≡ le
     pub sound-run : length image ≤ 16384 → length m ≡ length b → Sound image m
     sound-run h l =
         let q : m ≡ marks room room = k ∙ ap₂ marks e f in
-        subst (Sound image) (sym q) (marks-sound Unwrapped image entries [] (omega (arith, h)) s (sym (g ∙ ap₂ answer e f)) (ap length (sym q) ∙ l ∙ ap length e))
+        subst (Sound image) (sym q) (marks-sound Unwrapped image entries [] (omega (arith, h)) s (sym (g ∙ ap₂ answer e f))
+        (ap length (sym q) ∙ l ∙ ap length e))

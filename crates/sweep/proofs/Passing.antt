@@ -44,7 +44,8 @@ module _ (G : Tracer) where
         let f : p + 1 ≡ suc p = omega arith in
         let s : sweepFrom G (suc k) p m ≡ sweepOnce G m₀ = ap (λ (j : ℕ). sweepFrom G j p m) (sym e) ∙ S .marks-left in
         let t : taken + sweepTakenFrom G (suc k) p m ≡ sweepTaken G m₀ = ap (λ (j : ℕ). taken + sweepTakenFrom G j p m) (sym e) ∙ S .count-left in
-        let c : sweepTakenFrom G k (p + 1) m′ ≡ sweepTakenFrom G k (suc p) (sweptAt G m p) = ap (λ (q : ℕ). sweepTakenFrom G k q m′) f ∙ ap (sweepTakenFrom G k (suc p)) (M .1) in
+        let c : sweepTakenFrom G k (p + 1) m′ ≡ sweepTakenFrom G k (suc p) (sweptAt G m p) =
+        ap (λ (q : ℕ). sweepTakenFrom G k q m′) f ∙ ap (sweepTakenFrom G k (suc p)) (M .1) in
         record {
           inside = omega arith;
           long = ap length (M .1) ∙ length-swept G m p ∙ S .long;

@@ -25,7 +25,8 @@ use Rattle.sweep.specs.declared.sweep.Tally.{Tally}
 use Rattle.sweep.proofs.Sweeping.{Ended}
 
 -- what the inner function answers and leaves is where the sweeps end
-pub told : (mode : Mode) (image m m′ : List ℕ) (sweeps steps : ℕ) (t : Tally) → (t .sweeps ≡ sweeps) × (t .steps ≡ steps) → Ended (tracerOf mode image) m m′ sweeps steps → (tallyOf t ≡ sweepResult mode image m) × (m′ ≡ sweptMarks (tracerOf mode image) m)
+pub told : (mode : Mode) (image m m′ : List ℕ) (sweeps steps : ℕ) (t : Tally) → (t .sweeps ≡ sweeps) × (t .steps ≡ steps)
+    → Ended (tracerOf mode image) m m′ sweeps steps → (tallyOf t ≡ sweepResult mode image m) × (m′ ≡ sweptMarks (tracerOf mode image) m)
 told mode image m m′ sweeps steps t h E =
     let a = h .0 ∙ E .sweeps-are in let b = h .1 ∙ E .steps-are in (rw (a, b), E .marks-are)
 
@@ -40,11 +41,15 @@ module _ (mode : Mode) (image marks entries pins : List ℕ) where
   Is a m = (a ≡ sweepAnswer mode image marks entries pins) × (m ≡ sweepLeaves mode image marks entries pins)
 
   -- a refusal of start is one here, and changes nothing
-  pub refused-too : (k : ℕ) (vs : List ℤ) (m : List ℕ) → refused k vs ≡ startAnswer image marks entries pins → m ≡ startMarks image marks entries pins → Is (refused k vs) m
+  pub refused-too : (k : ℕ) (vs : List ℤ) (m : List ℕ) → refused k vs ≡ startAnswer image marks entries pins → m ≡ startMarks image marks entries pins
+      → Is (refused k vs) m
   unfolding startAnswer startMarks sweepAnswer sweepLeaves
   refused-too k vs m e f =
-      let g = refuses-too (sizeRefusals image marks) set (sweepResult mode image (startMarks image marks entries pins)) k vs (sym e) in
-      (sym g, f ∙ ap (λ (a : Answer ℕ). after a (note n entries (table n pins marks)) marks) (sym e) ∙ ap (λ (a : Answer SweepResult). after a (sweptMarks (tracerOf mode image) (startMarks image marks entries pins)) marks) (sym g))
+      let g = refuses-too (sizeRefusals image marks) set (sweepResult mode image (startMarks image marks entries pins)) k vs (sym e) in (
+        sym g,
+        f ∙ ap (λ (a : Answer ℕ). after a (note n entries (table n pins marks)) marks) (sym e)
+            ∙ ap (λ (a : Answer SweepResult). after a (sweptMarks (tracerOf mode image) (startMarks image marks entries pins)) marks) (sym g),
+      )
 
   module _ (k : ℕ) (e : accepted k ≡ startAnswer image marks entries pins) where
     not-refused : (j : ℕ) (vs : List ℤ) → startAnswer image marks entries pins ≡ refused j vs → ⊥
@@ -76,9 +81,13 @@ module _ (mode : Mode) (image marks entries pins : List ℕ) where
     pub begun-count : count tracedMark (take n (startMarks image marks entries pins)) ≡ 0
     begun-count = rw begun (start-count (tracerOf mode image) entries (table n pins marks) (table-base (tracerOf mode image) pins marks room))
 
-    pub swept : (t : Tally) (m m′ : List ℕ) → m ≡ startMarks image marks entries pins → (tallyOf t ≡ sweepResult mode image m) × (m′ ≡ sweptMarks (tracerOf mode image) m) → Is (accepted (tallyOf t)) m′
+    pub swept : (t : Tally) (m m′ : List ℕ) → m ≡ startMarks image marks entries pins
+        → (tallyOf t ≡ sweepResult mode image m) × (m′ ≡ sweptMarks (tracerOf mode image) m) → Is (accepted (tallyOf t)) m′
     unfolding sweepAnswer sweepLeaves
     swept t m m′ f S =
         let s = startMarks image marks entries pins in
-        let g = right-sizes image marks [] (sweepResult mode image s) small room ∙ done (sweepResult mode image s) in
-        (ap accepted (S .0 ∙ ap (sweepResult mode image) f) ∙ sym g, S .1 ∙ ap (sweptMarks (tracerOf mode image)) f ∙ ap (λ (a : Answer SweepResult). after a (sweptMarks (tracerOf mode image) s) marks) (sym g))
+        let g = right-sizes image marks [] (sweepResult mode image s) small room ∙ done (sweepResult mode image s) in (
+          ap accepted (S .0 ∙ ap (sweepResult mode image) f) ∙ sym g,
+          S .1 ∙ ap (sweptMarks (tracerOf mode image)) f
+              ∙ ap (λ (a : Answer SweepResult). after a (sweptMarks (tracerOf mode image) s) marks) (sym g),
+        )

@@ -89,7 +89,8 @@ module _ (G : Tracer) where
         sweeping-next h l =
             let b = ne-eqb (sweepTaken G m) 0 (λ e. h (C .0 ∙ e)) in
             let f : sweepMarks G left (sweepOnce G m) ≡ sweptMarks G m₀ = ap (λ (x : Bool). cond x m (sweepMarks G left (sweepOnce G m))) (sym b) ∙ marks-now in
-            let g : sweeps + suc (sweepCount G left (sweepOnce G m)) ≡ spec.sweeps G m₀ = ap (λ (x : Bool). sweeps + suc (cond x 0 (sweepCount G left (sweepOnce G m)))) (sym b) ∙ count-now in
+            let g : sweeps + suc (sweepCount G left (sweepOnce G m)) ≡ spec.sweeps G m₀ =
+            ap (λ (x : Bool). sweeps + suc (cond x 0 (sweepCount G left (sweepOnce G m)))) (sym b) ∙ count-now in
             record {
               bounded = omega (arith, room);
               long = l ∙ S .long;

@@ -61,12 +61,14 @@ module _ (s : ℕ) where
     where
       go : (length (upTo s t) < length t → cut s last t ≡ upTo s t ∷ cut s last (drop (suc (length (upTo s t))) t))
           → (x : Bool) → length (cond x [] (b ∷ upTo s t)) < suc (length t)
-          → cond x ([] ∷ cut s last t) (before b (cut s last t)) ≡ cond x [] (b ∷ upTo s t) ∷ cut s last (drop (suc (length (cond x [] (b ∷ upTo s t)))) (b ∷ t))
+          → cond x ([] ∷ cut s last t) (before b (cut s last t)) ≡ cond x [] (b ∷ upTo s t)
+          ∷ cut s last (drop (suc (length (cond x [] (b ∷ upTo s t)))) (b ∷ t))
       go r true h = refl
       go r false h = ap (before b) (r (omega arith))
 
   -- the last piece, of a byte or more
-  pub cut-last : (last : List (List ℕ)) → ((b : ℕ) → before b last ≡ (b ∷ []) ∷ []) → (t : List ℕ) → 0 < length t → length (upTo s t) ≡ length t → cut s last t ≡ upTo s t ∷ []
+  pub cut-last : (last : List (List ℕ)) → ((b : ℕ) → before b last ≡ (b ∷ []) ∷ []) → (t : List ℕ) → 0 < length t → length (upTo s t) ≡ length t
+      → cut s last t ≡ upTo s t ∷ []
   unfolding cut upTo
   cut-last last f [] h e = absurd (omega arith)
   cut-last last f (b ∷ []) h e = go (eqb b s) e
@@ -131,7 +133,8 @@ module _ (s : ℕ) (t : List ℕ) (at : ℕ) where
   pieces-end h = rw (drop-of-length-le t h)
 
 -- the line at `at`, and then the lines of the rest
-pub line-next : (t : List ℕ) (at e : ℕ) → e ≡ at + length (upTo 10 (drop at t)) → at < length t → lines (drop at t) ≡ take (e - at) (drop at t) ∷ lines (drop (e + 1) t)
+pub line-next : (t : List ℕ) (at e : ℕ) → e ≡ at + length (upTo 10 (drop at t)) → at < length t
+    → lines (drop at t) ≡ take (e - at) (drop at t) ∷ lines (drop (e + 1) t)
 line-next = piece-next 10
 
 -- no line is left
@@ -142,5 +145,6 @@ lines-end = pieces-end 10
 pub field-last : (t : List ℕ) (at e : ℕ) → e ≡ at + length (upTo 9 (drop at t)) → e ≡ length t → cut 9 ([] ∷ []) (drop at t) ≡ take (e - at) (drop at t) ∷ []
 field-last t at e p g = last-field 9 (drop at t) (to-end 9 t at e p g) ∙ rw (← the-piece 9 t at e p)
 
-pub field-next : (t : List ℕ) (at e : ℕ) → e ≡ at + length (upTo 9 (drop at t)) → e < length t → cut 9 ([] ∷ []) (drop at t) ≡ take (e - at) (drop at t) ∷ cut 9 ([] ∷ []) (drop (e + 1) t)
+pub field-next : (t : List ℕ) (at e : ℕ) → e ≡ at + length (upTo 9 (drop at t)) → e < length t
+    → cut 9 ([] ∷ []) (drop at t) ≡ take (e - at) (drop at t) ∷ cut 9 ([] ∷ []) (drop (e + 1) t)
 field-next t at e p h = piece-more 9 t at e p ([] ∷ []) h

@@ -35,7 +35,8 @@ module _ (f : ℕ → ℕ) where
     put-start = record { ahead = omega arith; same = refl; rest = refl }
 
     module _ (room : List ℕ) (i n : ℕ) (p : Putting digits room₀ at room i n) where
-      pub put-next : i < length digits → (x : ℕ) → x ≡ f (digitOf (getD digits (i - 1) 0) * 16 + digitOf (getD digits i 0)) → Putting digits room₀ at (set room n x) (i + 2) (n + 1)
+      pub put-next : i < length digits → (x : ℕ) → x ≡ f (digitOf (getD digits (i - 1) 0) * 16 + digitOf (getD digits i 0))
+          → Putting digits room₀ at (set room n x) (i + 2) (n + 1)
       put-next k x e =
           let c = pair-next digits i (p .ahead) k in
           record {

@@ -55,8 +55,12 @@ bytes-parts most l e =
     let b = a && leb 1 n in
     let d = b && leb n most in
     let f = first-part d (allHex l) e in
-    let g = first-part b (leb n most) f in
-    (eqb-true (length l) (n * 2) (first-part a (leb 1 n) g), leb-true 1 n (second-part a (leb 1 n) g), leb-true n most (second-part b (leb n most) f), second-part d (allHex l) e)
+    let g = first-part b (leb n most) f in (
+      eqb-true (length l) (n * 2) (first-part a (leb 1 n) g),
+      leb-true 1 n (second-part a (leb 1 n) g),
+      leb-true n most (second-part b (leb n most) f),
+      second-part d (allHex l) e,
+    )
 
 -- the pair whose second digit stands at a place, or no pair left
 module _ (l : List ℕ) (i : ℕ) (h : 1 ≤ i) where

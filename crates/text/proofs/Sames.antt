@@ -19,7 +19,8 @@ unfolding same
 same-true [] [] e = refl
 same-true [] (b ∷ t) e = absurd (never (sym e))
 same-true (a ∷ s) [] e = absurd (never (sym e))
-same-true (a ∷ s) (b ∷ t) e = ap₂ (λ (x : ℕ) (l : List ℕ). x ∷ l) (eqb-true a b (first-part (eqb a b) (same s t) e)) (same-true s t (second-part (eqb a b) (same s t) e))
+same-true (a ∷ s) (b ∷ t) e = ap₂ (λ (x : ℕ) (l : List ℕ). x ∷ l) (eqb-true a b (first-part (eqb a b) (same s t) e))
+    (same-true s t (second-part (eqb a b) (same s t) e))
 
 pub same-false : (s t : List ℕ) → (s ≡ t → ⊥) → same s t ≡ false
 same-false s t n = by (same s t) refl

@@ -67,10 +67,12 @@ module _ (image m ts : List ℕ) (p : ℕ) where
   pub exempted : flashHere image p ≡ true → damaged before ≡ false → tracedMark before ≡ true → Is (accepted tt)
   unfolding exemptHere
   exempted f d t =
-      sound-end (length image) m ∙ rest (not-second (flashHere image p) (damaged before) d) [] (targets-exempt (goingTo image ts) m p (both (flashHere image p) (tracedMark before) f t))
+      sound-end (length image) m ∙ rest (not-second (flashHere image p) (damaged before) d) []
+      (targets-exempt (goingTo image ts) m p (both (flashHere image p) (tracedMark before) f t))
 
   -- no such Jmpf, or p - 2 is neither damaged nor traced
-  pub by-ways : (flashHere image p ≡ false) ⊎ ((flashHere image p ≡ true) × (damaged before ≡ false) × (tracedMark before ≡ false)) → Is (judged (length image) m ts)
+  pub by-ways : (flashHere image p ≡ false) ⊎ ((flashHere image p ≡ true) × (damaged before ≡ false) × (tracedMark before ≡ false))
+      → Is (judged (length image) m ts)
   unfolding exemptHere
   by-ways (inl f) =
       rest (not-first (flashHere image p) (damaged before) f) ts (targets-plain (goingTo image ts) m p (not-first (flashHere image p) (tracedMark before) f))

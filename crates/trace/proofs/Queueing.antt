@@ -29,7 +29,8 @@ module _ (o : List ℕ) (t : ℕ) (o′ : List ℕ) (t′ : ℕ) (ps : List ℕ)
   pub noted-put : {n : ℕ} {ts m m′ : List ℕ} → (ps ≡ fresh n ts m) × (m′ ≡ note n ts m) → Noted n ts m o t m′ o′ t′
   noted-put {n} {ts} {m} a = record { marks-are = a .1; order-is = put-order (fresh n ts m) (a .0); tail-is = put-tail (fresh n ts m) (a .0) }
 
-pub taken-put : (mode : Mode) (image m : List ℕ) (p : ℕ) (r : Taken) (m′ o : List ℕ) (t : ℕ) (o′ : List ℕ) (t′ : ℕ) → TakenUp (tracerOf mode image) m p r m′ → Put o t (placesIn (r .noted)) o′ t′ → queue.TakenInOrder (tracerOf mode image) p m o t m′ o′ t′
+pub taken-put : (mode : Mode) (image m : List ℕ) (p : ℕ) (r : Taken) (m′ o : List ℕ) (t : ℕ) (o′ : List ℕ) (t′ : ℕ) → TakenUp (tracerOf mode image) m p r m′
+    → Put o t (placesIn (r .noted)) o′ t′ → queue.TakenInOrder (tracerOf mode image) p m o t m′ o′ t′
 taken-put mode image m p r m′ o t o′ t′ T P =
     record {
       marks-are = T .marks-are;

@@ -23,7 +23,8 @@ module _ (mode : Mode) (image marks order entries pins : List ℕ) (limit : ℕ)
   later = refuse (ltb (length order) n) 3 (pos (length order) ∷ []) ∷ []
 
   abbrev Is : Answer RunResult → List ℕ → List ℕ → Type 0
-  Is a m o = (a ≡ runAnswer mode image marks order entries pins limit) × (m ≡ runMarks mode image marks order entries pins limit) × (o ≡ runOrder mode image marks order entries pins limit)
+  Is a m o = (a ≡ runAnswer mode image marks order entries pins limit) × (m ≡ runMarks mode image marks order entries pins limit)
+      × (o ≡ runOrder mode image marks order entries pins limit)
 
   -- a refusal changes nothing
   refused-is : (k : ℕ) (vs : List ℤ) → runJudged image marks order ≡ refused k vs → Is (refused k vs) marks order
@@ -42,8 +43,11 @@ module _ (mode : Mode) (image marks order entries pins : List ℕ) (limit : ℕ)
       short-order h =
           refused-is 3 (pos (length order) ∷ []) (sizing.right-sizes image marks later tt fits room ∙ stop _ _ _ (lt-ltb (length order) n h))
 
-      pub ran : n ≤ length order → (r : Ran) (m o : List ℕ) → RanTo mode image marks order entries pins limit r m o → (ranOf r ≡ runAnswer mode image marks order entries pins limit) × (m ≡ runMarks mode image marks order entries pins limit) × (o ≡ runOrder mode image marks order entries pins limit) × StepsTied image r m
+      pub ran : n ≤ length order → (r : Ran) (m o : List ℕ) → RanTo mode image marks order entries pins limit r m o
+          → (ranOf r ≡ runAnswer mode image marks order entries pins limit) × (m ≡ runMarks mode image marks order entries pins limit)
+          × (o ≡ runOrder mode image marks order entries pins limit) × StepsTied image r m
       unfolding runAnswer runMarks runOrder
       ran h r m o R =
-          let e : runJudged image marks order ≡ accepted tt = sizing.right-sizes image marks later tt fits room ∙ pass _ _ _ (le-ltb (length order) n h) ∙ done tt in
+          let e : runJudged image marks order ≡ accepted tt = sizing.right-sizes image marks later tt fits room ∙ pass _ _ _ (le-ltb (length order) n h)
+          ∙ done tt in
           rw e (R .answer-is, R .marks-are, R .order-is, R .tied)

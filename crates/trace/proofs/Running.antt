@@ -37,9 +37,12 @@ pub record Begun (mode : Mode) (image marks order entries pins m₀ o₀ : List 
   pub marks-kept : length m₀ ≡ length marks
   pub order-kept : length o₀ ≡ length order
 
-pub begun-of : (mode : Mode) (image marks order entries pins m o₀ m₀ : List ℕ) (t₀ : ℕ) → (length image ≤ 65536) × (length image ≤ length marks) × (length image ≤ length order) → m ≡ table (length image) pins marks → Noted (length image) entries m order 0 m₀ o₀ t₀ → Begun mode image marks order entries pins m₀ o₀ t₀
+pub begun-of : (mode : Mode) (image marks order entries pins m o₀ m₀ : List ℕ) (t₀ : ℕ)
+    → (length image ≤ 65536) × (length image ≤ length marks) × (length image ≤ length order) → m ≡ table (length image) pins marks
+    → Noted (length image) entries m order 0 m₀ o₀ t₀ → Begun mode image marks order entries pins m₀ o₀ t₀
 begun-of mode image marks order entries pins m o₀ m₀ t₀ s e N′ =
-    let N : Noted (length image) entries (table (length image) pins marks) order 0 m₀ o₀ t₀ = subst (λ (b : List ℕ). Noted (length image) entries b order 0 m₀ o₀ t₀) e N′ in
+    let N : Noted (length image) entries (table (length image) pins marks) order 0 m₀ o₀ t₀ =
+    subst (λ (b : List ℕ). Noted (length image) entries b order 0 m₀ o₀ t₀) e N′ in
     let h : length image ≤ length marks = s .1 in
     let k : length image ≤ length order = s .2 in
     record {
@@ -57,7 +60,8 @@ module _ (mode : Mode) (image marks order entries pins : List ℕ) (limit : ℕ)
   abbrev out : Outcome
   out = runOf limit (tracerOf mode image) entries (table (length image) pins marks)
 
-  ended : (e : End) (r : Ran) (m o : List ℕ) (tail head : ℕ) → Came order out e m o tail head → ranOf r ≡ endOf image e head tail → StepsTied image r m → RanTo mode image marks order entries pins limit r m o
+  ended : (e : End) (r : Ran) (m o : List ℕ) (tail head : ℕ) → Came order out e m o tail head → ranOf r ≡ endOf image e head tail → StepsTied image r m
+      → RanTo mode image marks order entries pins limit r m o
   unfolding outcomeOf
   ended e r m o tail head C a t =
       let x = C .end-is in
@@ -68,15 +72,19 @@ module _ (mode : Mode) (image marks order entries pins : List ℕ) (limit : ℕ)
   -- the steps are the traced marks
   tied : (e : End) (m o : List ℕ) (tail head : ℕ) → Came order out e m o tail head → head ≡ count tracedMark (take (length image) m)
   tied e m o tail head C =
-      C .steps-are ∙ sym (run-takes limit (tracerOf mode image) entries (table (length image) pins marks) B .counted) ∙ ap (λ (x : List ℕ). count tracedMark (take (length image) x)) (sym (C .marks-are))
+      C .steps-are ∙ sym (run-takes limit (tracerOf mode image) entries (table (length image) pins marks) B .counted)
+      ∙ ap (λ (x : List ℕ). count tracedMark (take (length image) x)) (sym (C .marks-are))
 
   module _ (m o : List ℕ) (tail head : ℕ) where
-    pub ran-finished : (c : Counts) → (c .steps ≡ head) × (c .noted ≡ tail) → Came order out finished m o tail head → RanTo mode image marks order entries pins limit (Finished c) m o
+    pub ran-finished : (c : Counts) → (c .steps ≡ head) × (c .noted ≡ tail) → Came order out finished m o tail head
+        → RanTo mode image marks order entries pins limit (Finished c) m o
     ran-finished c h C =
         let x = h .0 in let y = h .1 in ended finished (Finished c) m o tail head C (rw (x, y)) (x ∙ tied finished m o tail head C)
 
-    pub ran-stopped : (c : Counts) → (c .steps ≡ head) × (c .noted ≡ tail) → Came order out stopped m o tail head → RanTo mode image marks order entries pins limit (Stopped c) m o
+    pub ran-stopped : (c : Counts) → (c .steps ≡ head) × (c .noted ≡ tail) → Came order out stopped m o tail head
+        → RanTo mode image marks order entries pins limit (Stopped c) m o
     ran-stopped c h C = let x = h .0 in let y = h .1 in ended stopped (Stopped c) m o tail head C (rw (x, y)) (x ∙ tied stopped m o tail head C)
 
-    pub ran-cut : (p : ℕ) (c : CutOff) → cutValues c ≡ cutValues (cutAt image p) → Came order out (cutOff p) m o tail head → (m′ o′ : List ℕ) → m′ ≡ m → o′ ≡ o → RanTo mode image marks order entries pins limit (Cut c) m′ o′
+    pub ran-cut : (p : ℕ) (c : CutOff) → cutValues c ≡ cutValues (cutAt image p) → Came order out (cutOff p) m o tail head → (m′ o′ : List ℕ) → m′ ≡ m → o′ ≡ o
+        → RanTo mode image marks order entries pins limit (Cut c) m′ o′
     ran-cut p c h C m′ o′ e f = rw (e, f) (ended (cutOff p) (Cut c) m o tail head C (ap (refused 5) h) tt)

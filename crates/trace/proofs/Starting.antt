@@ -18,7 +18,8 @@ module _ (image marks entries pins : List ℕ) where
   n = length image
 
   -- what is left to say once the answer is known
-  held : (r : Answer ℕ) → startAnswer image marks entries pins ≡ r → (t : List ℕ) → after r (note n entries (table n pins marks)) marks ≡ t → (r ≡ startAnswer image marks entries pins) × (t ≡ startMarks image marks entries pins)
+  held : (r : Answer ℕ) → startAnswer image marks entries pins ≡ r → (t : List ℕ) → after r (note n entries (table n pins marks)) marks ≡ t
+      → (r ≡ startAnswer image marks entries pins) × (t ≡ startMarks image marks entries pins)
   unfolding startMarks
   held r e t f = (sym e, rw e (sym f))
 
@@ -31,7 +32,8 @@ module _ (image marks entries pins : List ℕ) where
     unfolding startAnswer
     short h = held (refused 2 (pos (length marks) ∷ [])) (sizing.short-marks image marks [] (length (fresh n entries (table n pins marks))) fits h) marks refl
 
-    pub set : n ≤ length marks → (m : List ℕ) → m ≡ table n pins marks → (k : ℕ) (t : List ℕ) → (k ≡ length (fresh n entries m)) × (t ≡ note n entries m) → (accepted k ≡ startAnswer image marks entries pins) × (t ≡ startMarks image marks entries pins)
+    pub set : n ≤ length marks → (m : List ℕ) → m ≡ table n pins marks → (k : ℕ) (t : List ℕ) → (k ≡ length (fresh n entries m)) × (t ≡ note n entries m)
+        → (accepted k ≡ startAnswer image marks entries pins) × (t ≡ startMarks image marks entries pins)
     unfolding startAnswer
     set h m e k t q =
         let p : k ≡ length (fresh n entries (table n pins marks)) = q .0 ∙ ap (λ (l : List ℕ). length (fresh n entries l)) e in

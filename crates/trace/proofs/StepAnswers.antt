@@ -84,19 +84,23 @@ module _ (mode : Mode) (image m : List ℕ) (p : ℕ) where
 
       module _ (inside : p < n) where
         -- what follows the tests of the sizes and of the position
-        begun : stepAnswer mode image m p ≡ judge (refuse (idle v) 4 (pos v ∷ []) ∷ refuse (damaged v) 6 (pos p ∷ []) ∷ refuse (not (fitsHere image p)) 5 (cutValues (cutAt image p)) ∷ damages-here) (stepResult (tracerOf mode image) m p)
+        begun : stepAnswer mode image m p
+            ≡ judge (refuse (idle v) 4 (pos v ∷ []) ∷ refuse (damaged v) 6 (pos p ∷ []) ∷ refuse (not (fitsHere image p)) 5 (cutValues (cutAt image p))
+            ∷ damages-here) (stepResult (tracerOf mode image) m p)
         unfolding stepAnswer stepRefusals
         begun = sizing.right-sizes image m later (stepResult (tracerOf mode image) m p) fits room ∙ pass _ _ _ (lt-leb n p inside)
 
         pub damaged-mark : 4 < v → Is (refused 6 (pos p ∷ [])) m
         damaged-mark h =
-            held (refused 6 (pos p ∷ [])) (begun ∙ pass _ _ _ (not-idle v (λ e. omega arith) (λ e. omega arith) (λ e. omega arith) (λ e. omega arith)) ∙ stop _ _ _ (lt-ltb 4 v h)) m refl
+            held (refused 6 (pos p ∷ [])) (begun ∙ pass _ _ _ (not-idle v (λ e. omega arith) (λ e. omega arith) (λ e. omega arith) (λ e. omega arith))
+            ∙ stop _ _ _ (lt-ltb 4 v h)) m refl
 
         pub not-waiting : v ≤ 4 → (v ≡ 1 → ⊥) → Is (refused 4 (pos v ∷ [])) m
         not-waiting h w = held (refused 4 (pos v ∷ [])) (begun ∙ stop _ _ _ (idle-marks v h w)) m refl
 
         module _ (waits : v ≡ 1) where
-          waiting : stepAnswer mode image m p ≡ judge (refuse (not (fitsHere image p)) 5 (cutValues (cutAt image p)) ∷ damages-here) (stepResult (tracerOf mode image) m p)
+          waiting : stepAnswer mode image m p
+              ≡ judge (refuse (not (fitsHere image p)) 5 (cutValues (cutAt image p)) ∷ damages-here) (stepResult (tracerOf mode image) m p)
           waiting = begun ∙ pass _ _ _ (ap idle waits) ∙ pass _ _ _ (ap damaged waits)
 
           pub cut : (c : CutOff) → (fitsHere image p ≡ false) × (cutValues c ≡ cutValues (cutAt image p)) → Is (refused 5 (cutValues c)) m
@@ -104,4 +108,5 @@ module _ (mode : Mode) (image m : List ℕ) (p : ℕ) where
 
           pub whole : fitsHere image p ≡ true → (r : Answer StepResult) (t : List ℕ) → Inner (tracerOf mode image) image m p r t → Is r t
           unfolding stepMarks
-          whole f r t h = let e : stepAnswer mode image m p ≡ judge (damages-here) (stepResult (tracerOf mode image) m p) = waiting ∙ pass _ _ _ (rw f) in (h .0 ∙ sym e, rw e (h .1))
+          whole f r t h = let e : stepAnswer mode image m p ≡ judge (damages-here) (stepResult (tracerOf mode image) m p) = waiting ∙ pass _ _ _ (rw f) in
+              (h .0 ∙ sym e, rw e (h .1))

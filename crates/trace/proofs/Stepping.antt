@@ -42,12 +42,14 @@ module _ (G : Tracer) (image m : List ℕ) (p : ℕ) where
   abbrev said : ℕ → ℕ → StepResult
   said a b = record { mark = a; waiting = b }
 
-  pub took-said : accepted tt ≡ judge {A = Unit {0}} refusals tt → (r : Taken) (m′ : List ℕ) → TakenUp G m p r m′ → (k : ℕ) → k ≡ length (placesIn (r .noted)) → (s : Advance) → (s .mark ≡ r .mark) × (s .waiting ≡ k) → Inner (steppedOf (Traced s)) m′
+  pub took-said : accepted tt ≡ judge {A = Unit {0}} refusals tt → (r : Taken) (m′ : List ℕ) → TakenUp G m p r m′ → (k : ℕ) → k ≡ length (placesIn (r .noted))
+      → (s : Advance) → (s .mark ≡ r .mark) × (s .waiting ≡ k) → Inner (steppedOf (Traced s)) m′
   took-said e r m′ t k f s g =
       let v : stepResult G m p ≡ said (s .mark) (s .waiting) = ap₂ said (sym (g .0 ∙ t .mark-is)) (sym (g .1 ∙ f ∙ ap length (t .noted-are))) in
       inner-held (steppedOf (Traced s)) (accepts-too refusals tt (stepResult G m p) (sym e) ∙ ap accepted v) m′ (sym (t .marks-are))
 
 -- where these are the targets of the instruction at p, it is the image's own tracer
-pub inner-ways : (mode : Mode) (image ts m : List ℕ) (p : ℕ) (r : Answer StepResult) (t : List ℕ) → ts ≡ waysHere mode image p → Inner (goingTo image ts) image m p r t → Inner (tracerOf mode image) image m p r t
+pub inner-ways : (mode : Mode) (image ts m : List ℕ) (p : ℕ) (r : Answer StepResult) (t : List ℕ) → ts ≡ waysHere mode image p
+    → Inner (goingTo image ts) image m p r t → Inner (tracerOf mode image) image m p r t
 unfolding targets mark took found
 inner-ways mode image ts m p r t e h = subst (λ (us : List ℕ). Inner (goingTo image us) image m p r t) e h

@@ -16,7 +16,8 @@ use Rattle.targets.specs.At.{fitsHere}
 use Rattle.trace.specs.declared.run.TookNext.the-variants.{On, Off}
 
 module _ (mode : Mode) (image m o : List ℕ) (p tail : ℕ) where
-  pub turned-on : (t : ℕ) (m′ o′ : List ℕ) → fitsHere image p ≡ true → TakenInOrder (tracerOf mode image) p m o tail m′ o′ t → NextTaken mode image m o p tail (On t) m′ o′
+  pub turned-on : (t : ℕ) (m′ o′ : List ℕ) → fitsHere image p ≡ true → TakenInOrder (tracerOf mode image) p m o tail m′ o′ t
+      → NextTaken mode image m o p tail (On t) m′ o′
   turned-on t m′ o′ f T =
       record {
         on = λ u e. (f, (let g : t ≡ u = cc in subst (λ (k : ℕ). TakenInOrder (tracerOf mode image) p m o tail m′ o′ k) g T));

@@ -71,12 +71,16 @@ module _ (mode : Mode) (image m : List ℕ) (S : Sound image m) where
       by true e = not-second (ltb t (length image)) (damaged (getD m t 0)) (le-ltb 4 (getD m t 0) (S t (ltb-true t (length image) e)))
       by false e = rw e
 
-  sound-said : (p : ℕ) → p < length image → judge (damageRefusals image m p (targets (tracerOf mode image) m p)) (stepResult (tracerOf mode image) m p) ≡ accepted (stepResult (tracerOf mode image) m p)
+  sound-said : (p : ℕ) → p < length image → judge (damageRefusals image m p (targets (tracerOf mode image) m p)) (stepResult (tracerOf mode image) m p)
+      ≡ accepted (stepResult (tracerOf mode image) m p)
   unfolding damageRefusals
   sound-said p h =
       let k : p - 2 < length image = omega arith in
-      pass _ _ _ (not-second (flashHere image p) (damaged (getD m (p - 2) 0)) (le-ltb 4 (getD m (p - 2) 0) (S (p - 2) k))) ∙ no-damage (stepResult (tracerOf mode image) m p) (targets (tracerOf mode image) m p)
+      pass _ _ _ (not-second (flashHere image p) (damaged (getD m (p - 2) 0)) (le-ltb 4 (getD m (p - 2) 0) (S (p - 2) k)))
+      ∙ no-damage (stepResult (tracerOf mode image) m p) (targets (tracerOf mode image) m p)
 
-  pub ready-accepted : length image ≤ 65536 → length image ≤ length m → (p : ℕ) → Ready (tracerOf mode image) m p → stepAnswer mode image m p ≡ accepted (stepResult (tracerOf mode image) m p)
+  pub ready-accepted : length image ≤ 65536 → length image ≤ length m → (p : ℕ) → Ready (tracerOf mode image) m p
+      → stepAnswer mode image m p ≡ accepted (stepResult (tracerOf mode image) m p)
   ready-accepted s l p r =
-      sym (whole mode image m p s l (r .inside) (r .waits) (r .whole) (accepted (stepResult (tracerOf mode image) m p)) _ (sym (sound-said p (r .inside)), refl) .0)
+      sym (whole mode image m p s l (r .inside) (r .waits) (r .whole) (accepted (stepResult (tracerOf mode image) m p)) _
+      (sym (sound-said p (r .inside)), refl) .0)

@@ -84,7 +84,8 @@ short-back Wrapping base z inside high =
 
 -- where the refusals of an operand and those behind them let a call through, its field names the address, and those behind let it through
 module _ (mode : Mode) {A : Type 0} (base n : ℕ) (z : ℤ) (rs : List Refusal) (a : A) {b : A} (low : 1 ≤ base) (high : base ≤ 65536) where
-  pub address-back : (k : Kind) → judge (operandRefusals mode base n k z ++ rs) a ≡ accepted b → (addressOf mode base k (used k (fieldOf mode base k z)) ≡ used k z) × (judge rs a ≡ accepted b)
+  pub address-back : (k : Kind) → judge (operandRefusals mode base n k z ++ rs) a ≡ accepted b
+      → (addressOf mode base k (used k (fieldOf mode base k z)) ≡ used k z) × (judge rs a ≡ accepted b)
   unfolding operandRefusals fieldOf addressOf
   address-back Absent e = (refl, e)
   address-back Immediate e = (refl, passed _ _ _ e .1)

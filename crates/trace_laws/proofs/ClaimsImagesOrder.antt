@@ -52,7 +52,8 @@ module _ (mode : Mode) (image : List ℕ) where
       by (called e f g i) = rw i (omega arith)
 
   start-sound : (marks entries pins : List ℕ) → length image ≤ length marks → Sound image (note (length image) entries (table (length image) pins marks))
-  start-sound marks entries pins l q k = by (noticed (length image) entries (table (length image) pins marks) q (omega (arith, length-table (length image) pins marks l)))
+  start-sound marks entries pins l q k =
+      by (noticed (length image) entries (table (length image) pins marks) q (omega (arith, length-table (length image) pins marks l)))
     where
       by : Noticed (length image) entries (table (length image) pins marks) q → getD (note (length image) entries (table (length image) pins marks)) q 0 ≤ 4
       by (as-before f e) = rw e (table-small (length image) pins marks q l k)
@@ -81,21 +82,30 @@ began image marks entries pins k e =
       marks-are = ap (λ (r : Answer ℕ). after r (note (length image) entries (table (length image) pins marks)) marks) e;
     }
 
-pub to-end : (mode : Mode) (image marks entries pins m : List ℕ) → claims.StepsToEnd mode image marks entries pins m → ToEnd (tracerOf mode image) (table (length image) pins marks) entries m
+pub to-end : (mode : Mode) (image marks entries pins m : List ℕ) → claims.StepsToEnd mode image marks entries pins m
+    → ToEnd (tracerOf mode image) (table (length image) pins marks) entries m
 to-end mode image marks entries pins m T =
     let s = began image marks entries pins (T .count) (T .started) in
-    let t : Takes (tracerOf mode image) (note (length image) entries (table (length image) pins marks)) (T .order) m = subst (λ (x : List ℕ). Takes (tracerOf mode image) x (T .order) m) (s .marks-are) (takes mode image (T .steps)) in
-    let l : length image ≤ length (note (length image) entries (table (length image) pins marks)) = omega (arith, length-note (length image) entries (table (length image) pins marks), length-table (length image) pins marks (s .room), s .room) in
+    let t : Takes (tracerOf mode image) (note (length image) entries (table (length image) pins marks)) (T .order) m =
+    subst (λ (x : List ℕ). Takes (tracerOf mode image) x (T .order) m) (s .marks-are) (takes mode image (T .steps)) in
+    let l : length image ≤ length (note (length image) entries (table (length image) pins marks)) =
+    omega (arith, length-note (length image) entries (table (length image) pins marks), length-table (length image) pins marks (s .room), s .room) in
     let z = sound-along mode image t l (start-sound mode image marks entries pins (s .room)) in
-    record { order = T .order; takes = t; ended = λ p r. T .still p (stepResult (tracerOf mode image) m p) (ready-accepted mode image m (z .1) (s .small) (z .0) p r) }
+    record {
+      order = T .order;
+      takes = t;
+      ended = λ p r. T .still p (stepResult (tracerOf mode image) m p) (ready-accepted mode image m (z .1) (s .small) (z .0) p r);
+    }
 
 pub image-any-order : claims.ImageAnyOrder
 image-any-order mode image marks entries pins m B C T =
-    any-order (tracerOf mode image) (plain mode image B C) (table (length image) pins marks) entries m (table-base (tracerOf mode image) pins marks (began image marks entries pins (T .count) (T .started) .room)) (to-end mode image marks entries pins m T)
+    any-order (tracerOf mode image) (plain mode image B C) (table (length image) pins marks) entries m
+    (table-base (tracerOf mode image) pins marks (began image marks entries pins (T .count) (T .started) .room)) (to-end mode image marks entries pins m T)
 
 pub image-same-marks : claims.ImageSameMarks
 image-same-marks mode image marks entries pins m m′ B C T U =
-    one-final (tracerOf mode image) (table (length image) pins marks) entries m m′ (image-any-order mode image marks entries pins m B C T) (image-any-order mode image marks entries pins m′ B C U)
+    one-final (tracerOf mode image) (table (length image) pins marks) entries m m′ (image-any-order mode image marks entries pins m B C T)
+    (image-any-order mode image marks entries pins m′ B C U)
 
 pub image-steps-bound : claims.ImageStepsBound
 image-steps-bound mode image m m′ ps l S = takes-bound (tracerOf mode image) m m′ ps l (takes mode image S)

@@ -51,7 +51,9 @@ step-missing mode image m p vs bytes e =
     let c = other-passed _ _ _ 5 vs (b .1) (λ f. let g : _≡_ {A = ℕ} 4 5 = f in omega arith) in
     let d = other-passed _ _ _ 5 vs (c .1) (λ f. let g : _≡_ {A = ℕ} 4 5 = f in omega arith) in
     let h = other-passed _ _ _ 5 vs (d .1) (λ f. let g : _≡_ {A = ℕ} 6 5 = f in omega arith) in
-    let k = this-spoke _ _ _ 5 vs (h .1) (λ f. only-six (length image) m (targets (tracerOf mode image) m p) _ vs (other-passed _ _ _ 5 vs f (λ l. let g : _≡_ {A = ℕ} 6 5 = l in omega arith) .1)) in
+    let k = this-spoke _ _ _ 5 vs (h .1)
+    (λ f. only-six (length image) m (targets (tracerOf mode image) m p) _ vs
+    (other-passed _ _ _ 5 vs f (λ l. let g : _≡_ {A = ℕ} 6 5 = l in omega arith) .1)) in
     subst OneOrTwo (k .1) (few image p bytes (leb-false (length image) p (c .0)) (cut-short (fitsHere image p) (k .0)))
 
 -- sizes that are right are not refused
@@ -66,11 +68,13 @@ pub run-missing : RunMissing
 unfolding runAnswer outcomeOf
 run-missing mode image marks order entries pins limit vs bytes e = by (runJudged image marks order) refl
   where
-    ends : length image ≤ length marks → (d : End) → outcomeOf mode image marks entries pins limit .end ≡ d → (s n : ℕ) → endOf image d s n ≡ refused 5 vs → OneOrTwo vs
+    ends : length image ≤ length marks → (d : End) → outcomeOf mode image marks entries pins limit .end ≡ d → (s n : ℕ) → endOf image d s n ≡ refused 5 vs
+        → OneOrTwo vs
     ends room finished f s n g = absurd (let z : _≡_ {A = ℕ} 0 1 = cc in omega arith)
     ends room stopped f s n g = absurd (let z : _≡_ {A = ℕ} 0 1 = cc in omega arith)
     ends room (cutOff p) f s n g =
-        let c = run-ending limit (tracerOf mode image) entries (table (length image) pins marks) (table-base (tracerOf mode image) pins marks room) .when-cut p f in
+        let c = run-ending limit (tracerOf mode image) entries (table (length image) pins marks)
+        (table-base (tracerOf mode image) pins marks room) .when-cut p f in
         let h : cutValues (cutAt image p) ≡ vs = cc in subst OneOrTwo h (few image p bytes (c .inside) (c .cut))
 
     by : (j : Answer (Unit {0})) → runJudged image marks order ≡ j → OneOrTwo vs
@@ -81,5 +85,7 @@ run-missing mode image marks order entries pins limit vs bytes e = by (runJudged
         let g : ranAnswer image out ≡ refused 5 vs = ap (λ (j : Answer (Unit {0})). andThen j (ranAnswer image out)) (sym f) ∙ e in
         ends (ltb-false (length marks) (length image) (b .0)) (out .end) refl (steps out) (length (noted out)) g
     by (refused n ws) f =
-        let g : refused n ws ≡ refused 5 vs = ap (λ (j : Answer (Unit {0})). andThen j (ranAnswer image (outcomeOf mode image marks entries pins limit))) (sym f) ∙ e in
-        let h : n ≡ 5 = cc in let k : ws ≡ vs = cc in absurd (judged image marks order vs (f ∙ (let l : _≡_ {A = Answer (Unit {0})} (refused n ws) (refused 5 vs) = cc in l)))
+        let g : refused n ws ≡ refused 5 vs =
+        ap (λ (j : Answer (Unit {0})). andThen j (ranAnswer image (outcomeOf mode image marks entries pins limit))) (sym f) ∙ e in
+        let h : n ≡ 5 = cc in let k : ws ≡ vs = cc in
+        absurd (judged image marks order vs (f ∙ (let l : _≡_ {A = Answer (Unit {0})} (refused n ws) (refused 5 vs) = cc in l)))

@@ -95,5 +95,6 @@ targets-alike position i h =
     (same-targets (nextOf position i) i h)
 
 pub modes-targets : ModesTargets
-unfolding judge decodeAnswer fieldsIn forms formAt formOf formNamed kindsOf partsOf madeOf pattern patternBytes onto bitsGiven nextBracket targetsAnswer targetsIn addressIn addressOf unfit flowOf stops jumps branches
+unfolding judge decodeAnswer fieldsIn forms formAt formOf formNamed kindsOf partsOf madeOf pattern patternBytes onto bitsGiven nextBracket targetsAnswer
+    targetsIn addressIn addressOf unfit flowOf stops jumps branches
 modes-targets = (refl, refl, refl, refl, refl, refl, refl)

@@ -49,7 +49,8 @@ module _ (G : Tracer) (m : List ℕ) (p q : ℕ) (l : G .size ≤ length m) (h :
       by (kept x f g) = sym g ∙ e
       by (called x f o g) = absurd (let y = sym g ∙ e in omega arith)
 
-along : (G : Tracer) (q : ℕ) {m ps m′ : List ℕ} → Takes G m ps m′ → G .size ≤ length m → (getD m q 0 ≡ pinned → getD m′ q 0 ≡ pinned) × (getD m′ q 0 ≡ pinned → getD m q 0 ≡ pinned)
+along : (G : Tracer) (q : ℕ) {m ps m′ : List ℕ} → Takes G m ps m′ → G .size ≤ length m
+    → (getD m q 0 ≡ pinned → getD m′ q 0 ≡ pinned) × (getD m′ q 0 ≡ pinned → getD m q 0 ≡ pinned)
 along G q stay l = (λ e. e, λ e. e)
 along G q (up {m = m} {p = p} R rest) l =
     let t = along G q rest (let k = length-took G m p in omega arith) in
@@ -90,7 +91,8 @@ unfolding outcomeOf
 run-fours mode image marks order entries pins limit j =
     let l = covered mode image marks order entries pins limit j in
     subst (FoursAt image pins) (sym (marks-left mode image marks order entries pins limit j))
-    (after-fours image marks entries pins l mode (run-takes limit (tracerOf mode image) entries (table (length image) pins marks) (table-base (tracerOf mode image) pins marks l) .takes))
+    (after-fours image marks entries pins l mode
+    (run-takes limit (tracerOf mode image) entries (table (length image) pins marks) (table-base (tracerOf mode image) pins marks l) .takes))
 
 pub sweep-fours : SweepFours
 sweep-fours mode image marks entries pins s e =

@@ -63,9 +63,11 @@ module _ (mode : Mode) (image marks entries pins : List ℕ) (small : length ima
       let e = ap length start-is in
       omega (arith, e, length-note (length image) entries (table (length image) pins marks), length-table (length image) pins marks room)
 
-  each : EachTakes (tracerOf mode image) (startMarks image marks entries pins) (sweepLeaves mode image marks entries pins) (sweeps (tracerOf mode image) (startMarks image marks entries pins))
+  each : EachTakes (tracerOf mode image) (startMarks image marks entries pins) (sweepLeaves mode image marks entries pins)
+      (sweeps (tracerOf mode image) (startMarks image marks entries pins))
   each =
-      subst (λ (m : List ℕ). EachTakes (tracerOf mode image) (startMarks image marks entries pins) m (sweeps (tracerOf mode image) (startMarks image marks entries pins)))
+      subst (λ (m : List ℕ). EachTakes (tracerOf mode image) (startMarks image marks entries pins) m
+      (sweeps (tracerOf mode image) (startMarks image marks entries pins)))
       (sym leaves) (sweeps-each (tracerOf mode image) (startMarks image marks entries pins) start-long)
 
 -- ---- what an accepted call says
@@ -108,7 +110,8 @@ image-sweep-run mode image marks order entries pins limit s B C a f =
     (table-base (tracerOf mode image) pins marks room) (omega arith) (finish.ended mode image marks order entries pins limit s a f)
     ∙ sym (finish.marks-are mode image marks order entries pins limit s a)
 
-module _ (mode : Mode) (image marks order entries pins : List ℕ) (limit : ℕ) (small : length image ≤ 65536) (room : length image ≤ length marks) (places : length image ≤ length order) where
+module _ (mode : Mode) (image marks order entries pins : List ℕ) (limit : ℕ) (small : length image ≤ 65536) (room : length image ≤ length marks)
+    (places : length image ≤ length order) where
   pub judged : runJudged image marks order ≡ accepted tt
   judged =
       pass _ _ tt (le-ltb 65536 (length image) small) ∙ pass _ _ tt (le-ltb (length marks) (length image) room)
@@ -119,13 +122,19 @@ module _ (mode : Mode) (image marks order entries pins : List ℕ) (limit : ℕ)
   answer-is = ap (λ (q : Answer (Unit {0})). andThen q (ranAnswer image (outcomeOf mode image marks entries pins limit))) judged
 
   cut-five : (p : ℕ) → outcomeOf mode image marks entries pins limit .end ≡ cutOff p → claims.EndsInFive mode image marks order entries pins limit
-  cut-five p e =
-      (cutValues (cutAt image p), answer-is ∙ ap (λ (x : End). endOf image x (steps (outcomeOf mode image marks entries pins limit)) (length (noted (outcomeOf mode image marks entries pins limit)))) e)
+  cut-five p e = (
+    cutValues (cutAt image p),
+    answer-is
+        ∙ ap (λ (x : End). endOf image x (steps (outcomeOf mode image marks entries pins limit))
+        (length (noted (outcomeOf mode image marks entries pins limit)))) e,
+  )
 
   five-cut : claims.EndsInFive mode image marks order entries pins limit → (p : ℕ) × (outcomeOf mode image marks entries pins limit .end ≡ cutOff p)
   five-cut w = by (outcomeOf mode image marks entries pins limit .end) refl (sym answer-is ∙ w .1)
     where
-      by : (x : End) → outcomeOf mode image marks entries pins limit .end ≡ x → endOf image x (steps (outcomeOf mode image marks entries pins limit)) (length (noted (outcomeOf mode image marks entries pins limit))) ≡ refused 5 (w .0) → (p : ℕ) × (outcomeOf mode image marks entries pins limit .end ≡ cutOff p)
+      by : (x : End) → outcomeOf mode image marks entries pins limit .end ≡ x
+          → endOf image x (steps (outcomeOf mode image marks entries pins limit)) (length (noted (outcomeOf mode image marks entries pins limit)))
+          ≡ refused 5 (w .0) → (p : ℕ) × (outcomeOf mode image marks entries pins limit .end ≡ cutOff p)
       by finished e f = absurd (differ (sym f))
       by stopped e f = absurd (differ (sym f))
       by (cutOff p) e f = (p, e)

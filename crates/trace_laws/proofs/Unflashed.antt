@@ -25,8 +25,11 @@ module _ (image : List ℕ) (B : Bytes image) (C : Clean image) (p : ℕ) where
   found e =
       let r = second-part (leb 2 p) _ e in
       let j = first-part (eqb (formHere image p) (formNamed "Jmpf")) _ r in
-      let s = second-part (eqb (formHere image p) (formNamed "Jmpf")) _ r in
-      (eqb-true (getD image p 0) 0x21 (sym (jmpf-by-byte (getD image p 0) (B p)) ∙ j), eqb-true (getD image (p - 2) 0) 0xB8 (first-part _ _ s), eqb-true (getD image (p - 1) 0) 0x0D (second-part (eqb (getD image (p - 2) 0) 0xB8) _ s))
+      let s = second-part (eqb (formHere image p) (formNamed "Jmpf")) _ r in (
+        eqb-true (getD image p 0) 0x21 (sym (jmpf-by-byte (getD image p 0) (B p)) ∙ j),
+        eqb-true (getD image (p - 2) 0) 0xB8 (first-part _ _ s),
+        eqb-true (getD image (p - 1) 0) 0x0D (second-part (eqb (getD image (p - 2) 0) 0xB8) _ s),
+      )
 
   inside : getD image p 0 ≡ 0x21 → p < length image
   inside e = by (ltb p (length image)) refl

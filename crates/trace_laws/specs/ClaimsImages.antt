@@ -24,7 +24,8 @@ Clean image =
 -- steps at the positions ps, one after the other, each accepted, lead from the marks m to the marks m′
 pub data Steps (mode : Mode) (image : List ℕ) : List ℕ → List ℕ → List ℕ → Type 0 where
   stay : {m : List ℕ} → Steps mode image m [] m
-  further : {m m′ ps : List ℕ} {p : ℕ} {s : StepResult} → stepAnswer mode image m p ≡ accepted s → Steps mode image (stepMarks mode image m p) ps m′ → Steps mode image m (p ∷ ps) m′
+  further : {m m′ ps : List ℕ} {p : ℕ} {s : StepResult} → stepAnswer mode image m p ≡ accepted s → Steps mode image (stepMarks mode image m p) ps m′
+      → Steps mode image m (p ∷ ps) m′
 
 -- no step is accepted
 abbrev pub Still : Mode → List ℕ → List ℕ → Type 0
@@ -42,12 +43,14 @@ pub record StepsToEnd (mode : Mode) (image marks entries pins m : List ℕ) : Ty
 -- ones, the rest untouched. Reachable is `Reach`, crates/reach/specs/Reach.antt
 abbrev pub ImageAnyOrder : Type 0
 ImageAnyOrder =
-    (mode : Mode) (image marks entries pins m : List ℕ) → Bytes image → Clean image → StepsToEnd mode image marks entries pins m → Final (tracerOf mode image) (table (length image) pins marks) entries m
+    (mode : Mode) (image marks entries pins m : List ℕ) → Bytes image → Clean image → StepsToEnd mode image marks entries pins m
+    → Final (tracerOf mode image) (table (length image) pins marks) entries m
 
 -- so any two orders end in the same marks
 abbrev pub ImageSameMarks : Type 0
 ImageSameMarks =
-    (mode : Mode) (image marks entries pins m m′ : List ℕ) → Bytes image → Clean image → StepsToEnd mode image marks entries pins m → StepsToEnd mode image marks entries pins m′ → m ≡ m′
+    (mode : Mode) (image marks entries pins m m′ : List ℕ) → Bytes image → Clean image → StepsToEnd mode image marks entries pins m
+    → StepsToEnd mode image marks entries pins m′ → m ≡ m′
 
 -- every sequence of accepted steps ends: it is at most as long as the image
 abbrev pub ImageStepsBound : Type 0
@@ -60,5 +63,6 @@ ImageCanEnd = (mode : Mode) (image m : List ℕ) → (ps : List ℕ) × (m′ : 
 -- a finished run's marks are these too
 abbrev pub ImageRunFinal : Type 0
 ImageRunFinal =
-    (mode : Mode) (image marks entries pins : List ℕ) (limit : ℕ) → Bytes image → Clean image → length image ≤ length marks → outcomeOf mode image marks entries pins limit .end ≡ finished
+    (mode : Mode) (image marks entries pins : List ℕ) (limit : ℕ) → Bytes image → Clean image → length image ≤ length marks
+    → outcomeOf mode image marks entries pins limit .end ≡ finished
     → Final (tracerOf mode image) (table (length image) pins marks) entries (outcomeOf mode image marks entries pins limit .marks)

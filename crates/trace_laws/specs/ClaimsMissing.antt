@@ -16,4 +16,5 @@ StepMissing = (mode : Mode) (image m : List ℕ) (p : ℕ) (vs : List ℤ) → B
 
 abbrev pub RunMissing : Type 0
 RunMissing =
-    (mode : Mode) (image marks order entries pins : List ℕ) (limit : ℕ) (vs : List ℤ) → Bytes image → runAnswer mode image marks order entries pins limit ≡ refused 5 vs → OneOrTwo vs
+    (mode : Mode) (image marks order entries pins : List ℕ) (limit : ℕ) (vs : List ℤ) → Bytes image
+    → runAnswer mode image marks order entries pins limit ≡ refused 5 vs → OneOrTwo vs

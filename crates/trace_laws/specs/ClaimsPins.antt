@@ -27,7 +27,8 @@ FoursAt image pins m = (q : ℕ) → q < length image → (Among q pins → getD
 
 -- so it is after start, a run, also one that was stopped or cut off, and sweeps; a 4 that was lent and is not pinned again is gone
 abbrev pub StartFours : Type 0
-StartFours = (image marks entries pins : List ℕ) (k : ℕ) → startAnswer image marks entries pins ≡ accepted k → FoursAt image pins (startMarks image marks entries pins)
+StartFours = (image marks entries pins : List ℕ) (k : ℕ) → startAnswer image marks entries pins ≡ accepted k
+    → FoursAt image pins (startMarks image marks entries pins)
 
 abbrev pub RunFours : Type 0
 RunFours =
@@ -43,7 +44,8 @@ SweepFours =
 abbrev pub StepFours : Type 0
 StepFours =
     (mode : Mode) (image m : List ℕ) (p : ℕ) (s : StepResult) → stepAnswer mode image m p ≡ accepted s
-    → (q : ℕ) → q < length image → (getD m q 0 ≡ pinned → getD (stepMarks mode image m p) q 0 ≡ pinned) × (getD (stepMarks mode image m p) q 0 ≡ pinned → getD m q 0 ≡ pinned)
+    → (q : ℕ) → q < length image → (getD m q 0 ≡ pinned → getD (stepMarks mode image m p) q 0 ≡ pinned)
+    × (getD (stepMarks mode image m p) q 0 ≡ pinned → getD m q 0 ≡ pinned)
 
 -- a pinned position, entry or target, is not reachable, whatever the targets are
 abbrev pub PinnedUnreached : Type 0

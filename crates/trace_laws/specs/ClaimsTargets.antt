@@ -27,6 +27,8 @@ lastIn i = lastOf (formIn i .shape) (partsOf i .a) (partsOf i .b) (partsOf i .c)
 -- address written in i is the first target of j at the position whose next is the base
 pub record TargetsUndoResolve (mode : Mode) : Type 0 where
   -- Br, Brf, Jmp, Jmpf: it alone
-  pub jump : (i : Instr) (base : ℕ) (j : Instr) → flowOf (partsOf i .form) ≡ Jump → sizeOf (formIn i) ≤ base → resolveAnswer mode i base ≡ accepted j → targetsAnswer mode (base - sizeOf (formIn i)) j ≡ accepted (lastIn i ∷ [])
+  pub jump : (i : Instr) (base : ℕ) (j : Instr) → flowOf (partsOf i .form) ≡ Jump → sizeOf (formIn i) ≤ base → resolveAnswer mode i base ≡ accepted j
+      → targetsAnswer mode (base - sizeOf (formIn i)) j ≡ accepted (lastIn i ∷ [])
   -- the conditional branches and the calls: it, then next as the mode takes it
-  pub branch : (i : Instr) (base : ℕ) (j : Instr) → flowOf (partsOf i .form) ≡ Branch → sizeOf (formIn i) ≤ base → resolveAnswer mode i base ≡ accepted j → targetsAnswer mode (base - sizeOf (formIn i)) j ≡ accepted (lastIn i ∷ inMode mode (pos base) ∷ [])
+  pub branch : (i : Instr) (base : ℕ) (j : Instr) → flowOf (partsOf i .form) ≡ Branch → sizeOf (formIn i) ≤ base → resolveAnswer mode i base ≡ accepted j
+      → targetsAnswer mode (base - sizeOf (formIn i)) j ≡ accepted (lastIn i ∷ inMode mode (pos base) ∷ [])

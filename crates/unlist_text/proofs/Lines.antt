@@ -34,7 +34,8 @@ unfolding imageText linesOf
 lines-more [] h = absurd (omega arith)
 lines-more (b ∷ l) h =
     let e = length-drop 32 (b ∷ l) in
-    ap (λ (t : List ℕ). hexes (take 32 (b ∷ l)) ++ 10 ∷ t) (lines-any (length l) (length (drop 32 (b ∷ l))) (drop 32 (b ∷ l)) (omega arith) (omega arith)) ∙ sym (append-snoc (hexes (take 32 (b ∷ l))) 10 (imageText (drop 32 (b ∷ l))))
+    ap (λ (t : List ℕ). hexes (take 32 (b ∷ l)) ++ 10 ∷ t) (lines-any (length l) (length (drop 32 (b ∷ l))) (drop 32 (b ∷ l)) (omega arith) (omega arith))
+    ∙ sym (append-snoc (hexes (take 32 (b ∷ l))) 10 (imageText (drop 32 (b ∷ l))))
 
 pub lines-none : (l : List ℕ) → length l ≤ 0 → imageText l ≡ []
 unfolding imageText linesOf

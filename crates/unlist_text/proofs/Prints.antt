@@ -39,11 +39,13 @@ module _ (text : List ℕ) (n : ℕ) (x y : List ℕ) (e : length x ≡ 65536) (
   unfolding unlistedOf
   refused-print r v g = ap (λ (a : Answer ℕ). printed (backImage Unwrapped text n room room) a) (g ∙ answer-is)
 
-  pub accepted-print : (k : ℕ) → accepted k ≡ backAnswer Unwrapped text n x y → (image bytes : List ℕ) → image ≡ backImage Unwrapped text n x y → bytes ≡ take n image → imageText bytes ≡ unlistedOf text n
+  pub accepted-print : (k : ℕ) → accepted k ≡ backAnswer Unwrapped text n x y → (image bytes : List ℕ) → image ≡ backImage Unwrapped text n x y
+      → bytes ≡ take n image → imageText bytes ≡ unlistedOf text n
   unfolding unlistedOf
   accepted-print k g image bytes i b =
       let a : accepted k ≡ backAnswer Unwrapped text n room room = g ∙ answer-is in
-      let w : take n (backImage Unwrapped text n room room) ≡ backImage Unwrapped text n room room = take-all n _ (omega (arith, back-length Unwrapped text n room room (omega (arith, long)), long)) in
+      let w : take n (backImage Unwrapped text n room room) ≡ backImage Unwrapped text n room room =
+      take-all n _ (omega (arith, back-length Unwrapped text n room room (omega (arith, long)), long)) in
       ap imageText (b ∙ ap (take n) i ∙ put-back Unwrapped text n x y k g ∙ sym (put-back Unwrapped text n room room k a) ∙ w)
       ∙ ap (λ (c : Answer ℕ). printed (backImage Unwrapped text n room room) c) a
 

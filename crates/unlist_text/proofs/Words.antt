@@ -52,7 +52,8 @@ module _ (word : List ℕ) where
     unfolding argumentFrom
     word-stop h e = rw (drop-cons word i 0, e)
 
-    pub word-more : i < length word → isDecimal (getD word i 0) ≡ true → argumentFrom n (drop i word) ≡ argumentFrom (n * 10 + (getD word i 0 - 48)) (drop (i + 1) word)
+    pub word-more : i < length word → isDecimal (getD word i 0) ≡ true
+        → argumentFrom n (drop i word) ≡ argumentFrom (n * 10 + (getD word i 0 - 48)) (drop (i + 1) word)
     unfolding argumentFrom
     word-more h e = rw (add-one, drop-cons word i 0, e)
 

@@ -75,10 +75,12 @@ by-itself image m b p h w =
     sym-not : false ≡ not (fitsHere image p) → fitsHere image p ≡ true
     sym-not e = not-false (fitsHere image p) (sym e)
 
-    fits : (t f : Bool) → f ≡ true → wrongAt image m p ≡ false → (damaged (getD m p 0) || ((t && not f) || (eqb (getD m p 0) flash && not (eqb (getD image p 0) 0x21)))) ≡ false
+    fits : (t f : Bool) → f ≡ true → wrongAt image m p ≡ false
+        → (damaged (getD m p 0) || ((t && not f) || (eqb (getD m p 0) flash && not (eqb (getD image p 0) 0x21)))) ≡ false
     fits true f e w = rw e w
     fits false f e w = w
 
 -- none of the first n positions is wrong, so none is damaged
-pub right : (image m : List ℕ) → Small image → (p : ℕ) → p + 3 ≤ length image → {n : ℕ} → some (wrongAt image m) (upFrom n 0) ≡ false → p < n → damagedHere image m p ≡ false
+pub right : (image m : List ℕ) → Small image → (p : ℕ) → p + 3 ≤ length image → {n : ℕ} → some (wrongAt image m) (upFrom n 0) ≡ false → p < n
+    → damagedHere image m p ≡ false
 right image m b p h {n} e k = by-itself image m b p h (none-some (wrongAt image m) n 0 p (omega arith) (omega arith) e)

@@ -73,7 +73,8 @@ module _ (n : ℕ) (room base : List ℕ) (fits : n ≤ length room) (e : base �
 
   pub clear-at : (t : ℕ) → t < n → getD base t 0 ≡ 0
   clear-at t h =
-      ap (λ (u : List ℕ). getD u t 0) wide ∙ List·getD-append (replicate n 0) (drop n room) 0 t (omega (arith, length-replicate {A = ℕ} n 0)) ∙ getD-replicate n t 0 0 h
+      ap (λ (u : List ℕ). getD u t 0) wide ∙ List·getD-append (replicate n 0) (drop n room) 0 t (omega (arith, length-replicate {A = ℕ} n 0))
+      ∙ getD-replicate n t 0 0 h
 
   pub clear-rest : drop n base ≡ drop n room
   clear-rest = ap (drop n) wide ∙ drop-at (replicate n 0) (drop n room) n (length-replicate {A = ℕ} n 0)
@@ -98,14 +99,16 @@ module _ (mode : Mode) (image m base : List ℕ) where
       more : (t : ℕ) → t < n → getD (labelAt n (namedFrom mode image m p) v) t 0 ≡ bit (some (names mode image m t) (upFrom p 0) || names mode image m t p)
       more t h = by (eqb (namedFrom mode image m p) t) refl (ltb (namedFrom mode image m p) n) refl
         where
-          by : (a : Bool) → eqb (namedFrom mode image m p) t ≡ a → (b : Bool) → ltb (namedFrom mode image m p) n ≡ b → getD (cond b (set v (namedFrom mode image m p) 1) v) t 0 ≡ bit (some (names mode image m t) (upFrom p 0) || a)
+          by : (a : Bool) → eqb (namedFrom mode image m p) t ≡ a → (b : Bool) → ltb (namedFrom mode image m p) n ≡ b
+              → getD (cond b (set v (namedFrom mode image m p) 1) v) t 0 ≡ bit (some (names mode image m t) (upFrom p 0) || a)
           by true e true f =
               ap (λ (k : ℕ). getD (set v k 1) t 0) (eqb-true (namedFrom mode image m p) t e)
               ∙ getD-set-same v t 1 0 (omega (arith, L .long)) ∙ ap bit (sym (or-second (some (names mode image m t) (upFrom p 0)) true refl))
           by true e false f =
               absurd (let g = ltb-false (namedFrom mode image m p) n f in let k = eqb-true (namedFrom mode image m p) t e in omega arith)
           by false e true f =
-              getD-set-other v (namedFrom mode image m p) t 1 0 (λ k. eqb-false (namedFrom mode image m p) t e (sym k)) ∙ L .marked t h ∙ ap bit (sym (or-start (some (names mode image m t) (upFrom p 0)) false refl))
+              getD-set-other v (namedFrom mode image m p) t 1 0 (λ k. eqb-false (namedFrom mode image m p) t e (sym k)) ∙ L .marked t h
+              ∙ ap bit (sym (or-start (some (names mode image m t) (upFrom p 0)) false refl))
           by false e false f = L .marked t h ∙ ap bit (sym (or-start (some (names mode image m t) (upFrom p 0)) false refl))
 
       kept : (b : Bool) → ltb (namedFrom mode image m p) n ≡ b → drop n (cond b (set v (namedFrom mode image m p) 1) v) ≡ drop n v
@@ -117,7 +120,9 @@ module _ (mode : Mode) (image m base : List ℕ) where
           record {
             long = l ∙ L .long;
             marked =
-                λ k h. ap (λ (u : List ℕ). getD u k 0) f ∙ more k h ∙ ap bit (sym (some-snoc (names mode image m k) p 0 ∙ ap (λ (q : ℕ). some (names mode image m k) (upFrom p 0) || names mode image m k q) (zero-add p)));
+                λ k h. ap (λ (u : List ℕ). getD u k 0) f ∙ more k h
+                ∙ ap bit (sym (some-snoc (names mode image m k) p 0
+                ∙ ap (λ (q : ℕ). some (names mode image m k) (upFrom p 0) || names mode image m k q) (zero-add p)));
             rest = ap (drop n) f ∙ kept (ltb (namedFrom mode image m p) n) refl ∙ L .rest;
           }
 

@@ -60,7 +60,8 @@ module _ (image m : List ℕ) where
   unfolding some upFrom
   later b zero q h = refl
   later b (suc k) q h =
-      or-rest (covers image m b q) _ (not-second (tracedAt image m q) (under image b q) (not-first (leb q b) (ltb b (q + sizeHere image q)) (lt-leb q b h))) ∙ later b k (suc q) (omega arith)
+      or-rest (covers image m b q) _ (not-second (tracedAt image m q) (under image b q) (not-first (leb q b) (ltb b (q + sizeHere image q)) (lt-leb q b h)))
+      ∙ later b k (suc q) (omega arith)
 
   -- what is masked from p on, where the code before p ends at e
   pub Masks : ℕ → ℕ → Type 0
@@ -71,7 +72,8 @@ module _ (image m : List ℕ) where
   masks-start b h =
       sym (or-rest (ltb b 0) _ (le-ltb b 0 (omega arith)) ∙ ap (some (covers image m b)) (up-start n))
 
-  here : (p e : ℕ) → p < n → Masks p e → (b : ℕ) → p ≤ b → masked image m b ≡ (ltb b (endWith image m p e) || some (covers image m b) (upFrom (n - (p + 1)) (p + 1)))
+  here : (p e : ℕ) → p < n → Masks p e → (b : ℕ) → p ≤ b
+      → masked image m b ≡ (ltb b (endWith image m p e) || some (covers image m b) (upFrom (n - (p + 1)) (p + 1)))
   unfolding Masks some
   here p e h M b k =
       M b k ∙ ap (λ (ps : List ℕ). ltb b e || some (covers image m b) ps) (up-next n p h)
@@ -85,7 +87,8 @@ module _ (image m : List ℕ) where
   pub masks-here : (p e : ℕ) → p < n → Masks p e → bit (ltb p (endWith image m p e)) ≡ getD (maskOf image m) p 0
   unfolding maskOf
   masks-here p e h M =
-      ap bit (sym (here p e h M p (omega arith) ∙ or-start (ltb p (endWith image m p e)) (some (covers image m p) (upFrom (n - (p + 1)) (p + 1))) (later p (n - (p + 1)) (p + 1) (omega arith))))
+      ap bit (sym (here p e h M p (omega arith)
+      ∙ or-start (ltb p (endWith image m p e)) (some (covers image m p) (upFrom (n - (p + 1)) (p + 1))) (later p (n - (p + 1)) (p + 1) (omega arith))))
       ∙ sym (up-at (λ (b : ℕ). bit (masked image m b)) n 0 p h ∙ ap (λ (b : ℕ). bit (masked image m b)) (zero-add p))
 
   pub mask-length : length (maskOf image m) ≡ n

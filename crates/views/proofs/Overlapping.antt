@@ -39,7 +39,8 @@ module _ (image m : List ℕ) (p : ℕ) where
   unfolding overlapsOf
   untraced e = rw (not-second (leb (length image) 65536) (tracedAt image m p) e)
 
-  module _ (fits : length image ≤ 65536) (t : tracedAt image m p ≡ true) (s : ℕ) (size : s ≡ sizeHere image p) (o : List ℕ) (e : o ≡ taken (fromBefore image m p) (p - 1)) where
+  module _ (fits : length image ≤ 65536) (t : tracedAt image m p ≡ true) (s : ℕ) (size : s ≡ sizeHere image p) (o : List ℕ)
+      (e : o ≡ taken (fromBefore image m p) (p - 1)) where
     all : (l : List ℕ) → kept (tracedAt image m) (upFrom (s - 1) (p + 1)) ≡ l → o ++ l ≡ overlapsOf image m p
     unfolding overlapsOf
     all l k = rw (le-leb (length image) 65536 fits, t, ← size, ← e, k)

@@ -39,5 +39,6 @@ module _ (rs : List Refusal) (out room : List ℕ) where
 
     pub shown-as : (k : ℕ) → length out ≡ k → k ≤ length room → (t : List ℕ) → t ≡ out ++ drop k room → Is (accepted k) t
     shown-as k e h t f =
-        let g : Is (accepted k) (out ++ drop k room) = subst (λ (j : ℕ). Is (accepted j) (out ++ drop j room)) e (shown (subst (λ (j : ℕ). j ≤ length room) (sym e) h)) in
+        let g : Is (accepted k) (out ++ drop k room) =
+        subst (λ (j : ℕ). Is (accepted j) (out ++ drop j room)) e (shown (subst (λ (j : ℕ). j ≤ length room) (sym e) h)) in
         (g .0, f ∙ g .1)

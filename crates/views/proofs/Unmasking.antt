@@ -98,7 +98,8 @@ module _ (image m : List ℕ) (B : Small image) where
       none : U p ≡ false → D p ≡ false → cond (U p) (suc (rest U)) 0 ≡ cond (D p) (suc (rest D)) 0
       none e f = rw (e, f)
 
-      traced : p < n → (t : Bool) → tracedAt image m p ≡ t → (Masks image m (suc p) e → e ≤ suc p → rest U ≡ rest D) → cond (U p) (suc (rest U)) 0 ≡ cond (D p) (suc (rest D)) 0
+      traced : p < n → (t : Bool) → tracedAt image m p ≡ t → (Masks image m (suc p) e → e ≤ suc p → rest U ≡ rest D)
+          → cond (U p) (suc (rest U)) 0 ≡ cond (D p) (suc (rest D)) 0
       traced i true f again =
           none (sym (by-trace image m p i true (sym f))) (data-at p e i M true (lt-ltb p (endWith image m p e) (traced-ends image m p e B f)))
       traced i false f again =
@@ -113,11 +114,13 @@ module _ (image m : List ℕ) (B : Small image) where
       by false f again = none (sym (no-byte image m p (ltb-false p n f))) (rw f)
 
   -- the run by the marks is the data run, or none where p is masked
-  pub run-here : (p e : ℕ) → p < n → Masks image m p e → unmaskedRun image m p (endWith image m p e) ≡ cond (eqb (getD (maskOf image m) p 0) 0) (dataRun image (maskOf image m) p) []
+  pub run-here : (p e : ℕ) → p < n → Masks image m p e
+      → unmaskedRun image m p (endWith image m p e) ≡ cond (eqb (getD (maskOf image m) p 0) 0) (dataRun image (maskOf image m) p) []
   unfolding unmaskedRun untracedLength dataRun runLength
   run-here p e h M = by (ltb p (endWith image m p e)) refl
     where
-      by : (b : Bool) → ltb p (endWith image m p e) ≡ b → unmaskedRun image m p (endWith image m p e) ≡ cond (eqb (getD (maskOf image m) p 0) 0) (dataRun image (maskOf image m) p) []
+      by : (b : Bool) → ltb p (endWith image m p e) ≡ b
+          → unmaskedRun image m p (endWith image m p e) ≡ cond (eqb (getD (maskOf image m) p 0) 0) (dataRun image (maskOf image m) p) []
       by true f = rw (mask-at p e h M true f, f)
       by false f =
           let x = ltb-false p (endWith image m p e) f in
@@ -147,7 +150,8 @@ module _ (image m : List ℕ) (B : Small image) where
       by false f again = subst (λ (q : ℕ). Masks image m q e) (let z : p ≡ p + 0 = omega arith in z) M
 
   -- past the run at p, or past p alone where there is none
-  pub masks-over : (p e : ℕ) → p < n → Masks image m p e → Masks image m (p + (1 + (length (unmaskedRun image m p (endWith image m p e)) - 1))) (endWith image m p e)
+  pub masks-over : (p e : ℕ) → p < n → Masks image m p e
+      → Masks image m (p + (1 + (length (unmaskedRun image m p (endWith image m p e)) - 1))) (endWith image m p e)
   unfolding unmaskedRun untracedLength
   masks-over p e h M = by (ltb p (endWith image m p e)) refl
     where

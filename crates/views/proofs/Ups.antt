@@ -45,7 +45,8 @@ some-snoc f p q = ap (λ (k : ℕ). some f (upFrom k q)) (let e : p + 1 ≡ suc 
     by : (p q : ℕ) → some f (upFrom (suc p) q) ≡ (some f (upFrom p q) || f (q + p))
     by zero q = or-start (f q) false refl ∙ ap f (let e : q ≡ q + 0 = omega arith in e)
     by (suc p) q =
-        ap (λ (b : Bool). f q || b) (by p (suc q)) ∙ or-assoc (f q) (some f (upFrom p (suc q))) (f (suc q + p)) ∙ ap (λ (k : ℕ). some f (upFrom (suc p) q) || f k) (let e : suc q + p ≡ q + suc p = omega arith in e)
+        ap (λ (b : Bool). f q || b) (by p (suc q)) ∙ or-assoc (f q) (some f (upFrom p (suc q))) (f (suc q + p))
+        ∙ ap (λ (k : ℕ). some f (upFrom (suc p) q) || f k) (let e : suc q + p ≡ q + suc p = omega arith in e)
 
 pub some-none : (f : ℕ → Bool) → false ≡ some f (upFrom 0 0)
 unfolding some upFrom

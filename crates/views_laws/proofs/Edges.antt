@@ -27,6 +27,9 @@ use Rattle.views.specs.Labels.{labelled, labelsOf}
 use Rattle.views_laws.specs.Edges.{Edges}
 
 pub edges : Edges
-unfolding pin judge cutAt decodeAnswer fieldsIn resolveAnswer operandRefusals fieldOf instrBytes forms formAt formOf formNamed kindsOf partsOf madeOf pattern patternBytes onto bitsGiven nextBracket targetsAnswer targetsIn addressIn addressOf fitsHere instrHere waysHere flashHere nameHere nameOf exemptHere runMarks runOrder outcomeOf runOf runFrom took found targets mark note fresh isOpen tracedMark cleared labelsOf labelled some upFrom unfit flowOf stops jumps branches
+unfolding pin judge cutAt decodeAnswer fieldsIn resolveAnswer operandRefusals fieldOf instrBytes forms formAt formOf formNamed kindsOf partsOf madeOf pattern
+    patternBytes onto bitsGiven nextBracket targetsAnswer targetsIn addressIn addressOf fitsHere instrHere waysHere flashHere nameHere nameOf exemptHere
+    runMarks runOrder outcomeOf runOf runFrom took found targets mark note fresh isOpen tracedMark cleared labelsOf labelled some upFrom unfit flowOf stops
+    jumps branches
 edges =
     (refl, refl, refl, refl, refl, refl, refl, refl, refl, refl, refl, refl, refl, refl, refl, refl, refl, refl, refl, refl, refl, refl, refl, refl)

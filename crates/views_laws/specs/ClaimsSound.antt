@@ -22,7 +22,8 @@ Undamaged image m = (p : ℕ) → p < length image → damagedHere image m p ≡
 -- for every image, also one with B8 0D 21, from any entries, however the run ends
 abbrev pub RunUndamaged : Type 0
 RunUndamaged =
-    (mode : Mode) (image marks entries pins : List ℕ) (limit : ℕ) → length image ≤ length marks → Undamaged image (outcomeOf mode image marks entries pins limit .marks)
+    (mode : Mode) (image marks entries pins : List ℕ) (limit : ℕ) → length image ≤ length marks
+    → Undamaged image (outcomeOf mode image marks entries pins limit .marks)
 
 -- what start leaves
 abbrev pub StartUndamaged : Type 0

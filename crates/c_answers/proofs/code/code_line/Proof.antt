@@ -56,7 +56,8 @@ returns c =
     let i = z .before .before in
     let a = start (i .before .before) .args in
     let n = a .position + z .size .result in
-    let x = past (a .mode) (a .position) (a .bytes .now) (a .room .now) (i .i .given .0 .0) (found i) n (omega (arith, next z .0)) (omega (arith, c .before .if1 .taken)) in
+    let x = past (a .mode) (a .position) (a .bytes .now) (a .room .now) (i .i .given .0 .0) (found i) n (omega (arith, next z .0))
+    (omega (arith, c .before .if1 .taken)) in
     (told1 (c .one .ensures) (toZ-pos w64 (value z)) ∙ ap (replyOf countValues) (x .0), x .1)
 
 viewed-requires : tie.Need-viewed-requires
@@ -64,7 +65,8 @@ viewed-requires c κs =
     let t = c .before .before in
     let d = t .before .before .before .before .before .before .before in
     let a = start d .args in
-    room-small [] tt (codeLine (a .mode) (a .position) (a .bytes .now)) (a .room .now) (omega (arith, alone-width (a .mode) (a .bytes .now) [] (small d) (a .position))) (t .put-line .result) (t .put-line .ensures .0)
+    room-small [] tt (codeLine (a .mode) (a .position) (a .bytes .now)) (a .room .now)
+    (omega (arith, alone-width (a .mode) (a .bytes .now) [] (small d) (a .position))) (t .put-line .result) (t .put-line .ensures .0)
 
 returns-2 : tie.Need-returns-2
 returns-2 c =
@@ -74,14 +76,16 @@ returns-2 c =
     let i = z .before .before in
     let a = start (i .before .before) .args in
     let n = a .position + z .size .result in
-    let x = within (a .mode) (a .position) (a .bytes .now) (a .room .now) (i .i .given .0 .0) (found i) n (omega (arith, next z .0)) (omega (arith, l .if1 .left)) _ _ (t .put-line .ensures) in
+    let x = within (a .mode) (a .position) (a .bytes .now) (a .room .now) (i .i .given .0 .0) (found i) n (omega (arith, next z .0))
+    (omega (arith, l .if1 .left)) _ _ (t .put-line .ensures) in
     (c .viewed .ensures ∙ ap (replyOf countValues) (x .0), x .1)
 
 returns-3 : tie.Need-returns-3
 returns-3 c =
     let d = c .before .before .before in
     let a = start d .args in
-    let x = undecoded (a .mode) (a .position) (a .bytes .now) (a .room .now) 12 (pos 0 ∷ []) (ap decodedOf (sym (c .before .enum-told .given .1)) ∙ d .decode .ensures) in
+    let x = undecoded (a .mode) (a .position) (a .bytes .now) (a .room .now) 12 (pos 0 ∷ [])
+    (ap decodedOf (sym (c .before .enum-told .given .1)) ∙ d .decode .ensures) in
     (c .one2 .ensures ∙ ap (replyOf countValues) (x .0), x .1)
 
 returns-4 : tie.Need-returns-4
@@ -89,14 +93,16 @@ returns-4 c =
     let t = c .before .before in
     let d = t .before .before in
     let a = start d .args in
-    let x = undecoded (a .mode) (a .position) (a .bytes .now) (a .room .now) 5 (cutValues (t .c .given .0 .0)) (ap decodedOf (sym (t .c .given .1)) ∙ d .decode .ensures) in
+    let x = undecoded (a .mode) (a .position) (a .bytes .now) (a .room .now) 5 (cutValues (t .c .given .0 .0))
+    (ap decodedOf (sym (t .c .given .1)) ∙ d .decode .ensures) in
     (c .cut .ensures ∙ ap (replyOf countValues) (x .0), x .1)
 
 pub code-line-spec : {M : Type 1} → statement M
 code-line-spec =
     tie.close
     (tie.spec
-    (λ c κs. search needs) (λ c. search needs) (λ c κs. search needs) add-next (λ c. search needs) (λ c. record { sfits = value (c .before) }) (λ c κs. search needs) returns
+    (λ c κs. search needs) (λ c. search needs) (λ c κs. search needs) add-next (λ c. search needs) (λ c. record { sfits = value (c .before) })
+    (λ c κs. search needs) returns
     (λ c κs. search needs) viewed-requires
     (λ c. search needs) (λ c κs. search needs)
     (λ c. search needs) (λ c κs. search needs)

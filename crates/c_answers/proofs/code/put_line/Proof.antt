@@ -31,7 +31,8 @@ returns-2 c =
     let l = k .before .before in
     let h = l .before .before in
     let a = start h .args in
-    put-shown (codeLine (a .mode) (a .p) (a .bytes .now)) (a .room .now) _ (h .code-line .result) (long h) (omega (arith, l .if1 .left)) (k .code-line2 .ensures .wrote)
+    put-shown (codeLine (a .mode) (a .p) (a .bytes .now)) (a .room .now) _ (h .code-line .result) (long h) (omega (arith, l .if1 .left))
+    (k .code-line2 .ensures .wrote)
 
 pub put-line-spec : {M : Type 1} → statement M
 put-line-spec = tie.close (tie.spec (λ c. search needs) (λ c κs. search needs) returns (λ c κs. search needs) (λ c. search needs) returns-2)

@@ -30,8 +30,11 @@ encoded-requires c κs =
 
 returns : tie.Need-returns
 returns c =
-    let e = c .before .before .before in
-    (c .encoded .ensures ∙ ap (replyOf countValues) (e .encode .ensures .0 ∙ ap (λ (j : Instr). encodeAnswer j (room e)) (instr e)), e .encode .ensures .1 ∙ ap (λ (j : Instr). encodeRoom j (room e)) (instr e))
+    let e = c .before .before .before in (
+      c .encoded .ensures ∙ ap (replyOf countValues) (e .encode .ensures .0 ∙ ap (λ (j : Instr). encodeAnswer j (room e)) (instr e)),
+      e .encode .ensures .1
+          ∙ ap (λ (j : Instr). encodeRoom j (room e)) (instr e),
+    )
 
 pub encode-spec : {M : Type 1} → statement M
 encode-spec =

@@ -19,4 +19,5 @@ returns-3 c = by-case partsValues decodedPartsOf (c .before .before .d2 .given .
 pub decoded-spec : {M : Type 1} → statement M
 decoded-spec =
     tie.close
-    (tie.spec (λ c. search needs) (λ c κs. search needs) (λ c. search needs) (λ c κs. search needs) (λ c. search needs) (λ c κs. search needs) returns returns-2 returns-3)
+    (tie.spec (λ c. search needs) (λ c κs. search needs) (λ c. search needs) (λ c κs. search needs) (λ c. search needs) (λ c κs. search needs) returns
+    returns-2 returns-3)

@@ -36,5 +36,6 @@ pub parts-spec : {M : Type 1} → statement M
 parts-spec =
     tie.close
     (tie.spec (λ c κs. search needs) (λ c. record { sfits = rw (c .size .ensures) (form-small (c .before .args .v .form)) }) (λ c. search needs)
-    (λ c. widened (start c .args .v .a)) (λ c. widened (start (c .before .before) .args .v .b)) (λ c. widened (start (c .before .before .before .before) .args .v .c))
+    (λ c. widened (start c .args .v .a)) (λ c. widened (start (c .before .before) .args .v .b))
+    (λ c. widened (start (c .before .before .before .before) .args .v .c))
     (λ c κs. search needs) returns)

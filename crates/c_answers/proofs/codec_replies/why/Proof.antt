@@ -27,7 +27,8 @@ returns-3 c =
 
 returns-4 : tie.Need-returns-4
 returns-4 c =
-    by-case instrValues whyOf (c .before .before .before .before .w4 .given .1) (told2 (c .two .ensures) (toZ-pos w64 (search needs)) (toZ-pos w64 (search needs)))
+    by-case instrValues whyOf (c .before .before .before .before .w4 .given .1)
+    (told2 (c .two .ensures) (toZ-pos w64 (search needs)) (toZ-pos w64 (search needs)))
 
 pub why-spec : {M : Type 1} → statement M
 why-spec =

@@ -23,7 +23,9 @@ viewed-requires c κs =
     let s = start h in
     let i : length (s .args .image .now) < 2 ^ 63 = omega (arith, s .good .1 .0 .1) in
     let m : length (s .args .marks .now) < 2 ^ 63 = omega (arith, s .good .1 .1 .0 .1) in
-    limited-small (s .args .image .now) (s .args .marks .now) i m _ (s .args .room .now) (λ k. listing-small (s .args .mode) (s .args .image .now) (s .args .marks .now) (λ n. h .before .before .before .shared-slice-known .given n .fits) k (h .choice .result)) (t .listing-with .result) (t .listing-with .ensures .0)
+    limited-small (s .args .image .now) (s .args .marks .now) i m _ (s .args .room .now)
+    (λ k. listing-small (s .args .mode) (s .args .image .now) (s .args .marks .now) (λ n. h .before .before .before .shared-slice-known .given n .fits) k
+    (h .choice .result)) (t .listing-with .result) (t .listing-with .ensures .0)
 
 returns : tie.Need-returns
 returns c =
@@ -31,8 +33,11 @@ returns c =
     let h = t .before .before in
     let a = start h .args in
     let e = h .choice .ensures in (
-      c .viewed .ensures ∙ ap (replyOf countValues) (t .listing-with .ensures .0 ∙ ap (λ (x : Arrivals). viewAnswer (a .image .now) (a .marks .now) (listingOf (a .mode) (a .image .now) (a .marks .now) x) (a .room .now)) e),
-      t .listing-with .ensures .1 ∙ ap (λ (x : Arrivals). viewRoom (a .image .now) (a .marks .now) (listingOf (a .mode) (a .image .now) (a .marks .now) x) (a .room .now)) e,
+      c .viewed .ensures ∙ ap (replyOf countValues)
+          (t .listing-with .ensures .0 ∙ ap (λ (x : Arrivals). viewAnswer (a .image .now) (a .marks .now)
+          (listingOf (a .mode) (a .image .now) (a .marks .now) x) (a .room .now)) e),
+      t .listing-with .ensures .1 ∙ ap (λ (x : Arrivals). viewRoom (a .image .now) (a .marks .now) (listingOf (a .mode) (a .image .now) (a .marks .now) x)
+          (a .room .now)) e,
     )
 
 pub listing-spec : {M : Type 1} → statement M

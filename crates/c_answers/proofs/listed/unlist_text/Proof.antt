@@ -20,7 +20,8 @@ viewed-requires c κs =
     let a = s .args in
     let l : length (a .text .now) < 2 ^ 63 = omega (arith, s .good .0 .1) in
     let n : a .length < 2 ^ 63 = omega arith in
-    room-small [] tt (unlistedOf (a .text .now) (a .length)) (a .room .now) (omega (arith, unlisted-fits (a .text .now) (a .length) l n)) (t .unlist-text .result) (t .unlist-text .ensures .0)
+    room-small [] tt (unlistedOf (a .text .now) (a .length)) (a .room .now) (omega (arith, unlisted-fits (a .text .now) (a .length) l n))
+    (t .unlist-text .result) (t .unlist-text .ensures .0)
 
 returns : tie.Need-returns
 returns c =

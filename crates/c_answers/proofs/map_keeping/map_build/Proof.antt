@@ -16,7 +16,8 @@ updated-requires c κs =
     let s = t .before .before .before .before .before in
     let i : length (s .args .image .now) < 2 ^ 63 = omega (arith, s .good .0 .1) in
     let m : length (s .args .marks .now) < 2 ^ 63 = omega (arith, s .good .1 .0 .1) in
-    built-small (s .args .image .now) (s .args .marks .now) i m (s .args .words .now) (c .as-updated .result) (c .as-updated .ensures ∙ t .build-map .ensures .0)
+    built-small (s .args .image .now) (s .args .marks .now) i m (s .args .words .now) (c .as-updated .result)
+    (c .as-updated .ensures ∙ t .build-map .ensures .0)
 
 returns : tie.Need-returns
 returns c =

@@ -18,11 +18,13 @@ small p h = rw (← p) h
 
 returns : tie.Need-returns
 returns c =
-    by-case runValues ranOf (c .before .before .before .before .d .given .1) (told3 (c .three .ensures) refl (toZ-pos w64 (search needs)) (toZ-pos w64 (search needs)))
+    by-case runValues ranOf (c .before .before .before .before .d .given .1)
+    (told3 (c .three .ensures) refl (toZ-pos w64 (search needs)) (toZ-pos w64 (search needs)))
 
 returns-2 : tie.Need-returns-2
 returns-2 c =
-    by-case runValues ranOf (c .before .before .before .before .d2 .given .1) (told3 (c .three2 .ensures) refl (toZ-pos w64 (search needs)) (toZ-pos w64 (search needs)))
+    by-case runValues ranOf (c .before .before .before .before .d2 .given .1)
+    (told3 (c .three2 .ensures) refl (toZ-pos w64 (search needs)) (toZ-pos w64 (search needs)))
 
 returns-3 : tie.Need-returns-3
 returns-3 c =

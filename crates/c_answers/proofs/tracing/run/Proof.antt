@@ -18,7 +18,8 @@ ran-requires c κs =
     let i : length (s .args .image .now) < 2 ^ 63 = omega (arith, s .good .1 .0 .1) in
     let m : length (s .args .marks .now) < 2 ^ 63 = omega (arith, s .good .1 .1 .0 .1) in
     let o : length (s .args .order .now) < 2 ^ 63 = omega (arith, s .good .1 .1 .1 .0 .1) in
-    ran-small (s .args .image .now) (s .args .marks .now) i m (s .args .mode) (s .args .order .now) (s .args .entries .now) (s .args .pins .now) (s .args .limit) o (t .run .result) (t .run .ensures .0)
+    ran-small (s .args .image .now) (s .args .marks .now) i m (s .args .mode) (s .args .order .now) (s .args .entries .now) (s .args .pins .now)
+    (s .args .limit) o (t .run .result) (t .run .ensures .0)
 
 returns : tie.Need-returns
 returns c =

@@ -18,7 +18,8 @@ viewed-requires c κs =
     let s = t .before .before .before .before .before in
     let i : length (s .args .image .now) < 2 ^ 63 = omega (arith, s .good .1 .0 .1) in
     let m : length (s .args .marks .now) < 2 ^ 63 = omega (arith, s .good .1 .1 .0 .1) in
-    let o : length (arrivalsOf (s .args .mode) (s .args .image .now) (s .args .marks .now) (s .args .p)) < 2 ^ 63 = omega (arith, i, few (s .args .mode) (s .args .image .now) (s .args .marks .now) (s .args .p)) in
+    let o : length (arrivalsOf (s .args .mode) (s .args .image .now) (s .args .marks .now) (s .args .p)) < 2 ^ 63 =
+    omega (arith, i, few (s .args .mode) (s .args .image .now) (s .args .marks .now) (s .args .p)) in
     viewed-small (s .args .image .now) (s .args .marks .now) i m _ (s .args .room .now) o (t .arrivals .result) (t .arrivals .ensures .0)
 
 returns : tie.Need-returns

@@ -18,7 +18,12 @@ viewed-requires c κs =
     let s = t .before .before .before .before .before in
     let i : length (s .args .image .now) < 2 ^ 63 = omega (arith, s .good .0 .1) in
     let m : length (s .args .marks .now) < 2 ^ 63 = omega (arith, s .good .1 .0 .1) in
-    let o : length (overlapsOf (s .args .image .now) (s .args .marks .now) (s .args .p)) < 2 ^ 63 = omega (arith, overlaps-few (s .args .image .now) (s .args .marks .now) (λ k. t .before .before .before .before .shared-slice-known .given k .fits) (s .args .p)) in
+    let o : length (overlapsOf (s .args .image .now) (s .args .marks .now) (s .args .p)) < 2 ^ 63 =
+    omega (
+      arith,
+      overlaps-few (s .args .image .now) (s .args .marks .now) (λ k. t .before .before .before .before .shared-slice-known .given k .fits)
+          (s .args .p),
+    ) in
     viewed-small (s .args .image .now) (s .args .marks .now) i m _ (s .args .room .now) o (t .find-overlaps .result) (t .find-overlaps .ensures .0)
 
 returns : tie.Need-returns

@@ -18,7 +18,8 @@ viewed-requires c κs =
     let s = t .before .before .before .before .before in
     let i : length (s .args .image .now) < 2 ^ 63 = omega (arith, s .good .1 .0 .1) in
     let m : length (s .args .marks .now) < 2 ^ 63 = omega (arith, s .good .1 .1 .0 .1) in
-    let o : length (labelsOf (s .args .mode) (s .args .image .now) (s .args .marks .now)) < 2 ^ 63 = omega (arith, i, labels-length (s .args .mode) (s .args .image .now) (s .args .marks .now)) in
+    let o : length (labelsOf (s .args .mode) (s .args .image .now) (s .args .marks .now)) < 2 ^ 63 =
+    omega (arith, i, labels-length (s .args .mode) (s .args .image .now) (s .args .marks .now)) in
     viewed-small (s .args .image .now) (s .args .marks .now) i m _ (s .args .room .now) o (t .target-marks .result) (t .target-marks .ensures .0)
 
 returns : tie.Need-returns

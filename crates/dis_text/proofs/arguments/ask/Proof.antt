@@ -85,7 +85,8 @@ returns c =
     let e = ended t in
     let l = looped t in (
       asking-bad (text l) (l .loop .entries) (l .loop .pins) (l .loop .asked) (l .loop .at) (l .loop .k) (l .loop .inv) (e .end .result) (e .end .ensures)
-          (e .before .loop-test .taken) (w .word-of .result) (w .word-of .ensures) _ _ (t .take-word .result) (t .take-word .ensures .0) (c .enum-told .given .1),
+          (e .before .loop-test .taken) (w .word-of .result) (w .word-of .ensures) _ _ (t .take-word .result) (t .take-word .ensures .0)
+          (c .enum-told .given .1),
       tt,
     )
 

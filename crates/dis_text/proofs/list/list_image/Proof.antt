@@ -92,7 +92,8 @@ sized r = sym (ap length (again r) ∙ left-long r)
 refused-shown : (r : tie.After-run) (n : ℕ) (vs : List ℤ) → refused n vs ≡ ranOf (r .run .result) → traced (start r) ≡ refused n vs
 refused-shown r n vs e =
     let a = start r .args in
-    refused-run (a .mode) (a .image .now) (a .entries .now) (a .pins .now) (a .arrivals) (lent-marks (made r)) (lent-order (made r)) (marks-are (made r)) (order-are (made r)) n vs (e ∙ r .run .ensures .0)
+    refused-run (a .mode) (a .image .now) (a .entries .now) (a .pins .now) (a .arrivals) (lent-marks (made r)) (lent-order (made r)) (marks-are (made r))
+    (order-are (made r)) n vs (e ∙ r .run .ensures .0)
 
 -- and of the marks of another
 abbrev marks : tie.After-run → List ℕ
@@ -108,20 +109,24 @@ listed-shown : (r : tie.After-run) (s : RunResult) → accepted s ≡ ranOf (r .
 listed-shown r s e v t p x f =
     let a = start r .args in
     let room = a .room .now in
-    let l = listed-run (a .mode) (a .image .now) (a .entries .now) (a .pins .now) (a .arrivals) (small (made r)) (lent-marks (made r)) (lent-order (made r)) (marks-are (made r)) (order-are (made r)) s (e ∙ r .run .ensures .0) (marks r) (again r ∙ r .run .ensures .1 .0) (ap length (again r) ∙ r .run .kept .1 .1 .0) (viewedOf v) t room p in
+    let l = listed-run (a .mode) (a .image .now) (a .entries .now) (a .pins .now) (a .arrivals) (small (made r)) (lent-marks (made r)) (lent-order (made r))
+    (marks-are (made r)) (order-are (made r)) s (e ∙ r .run .ensures .0) (marks r) (again r ∙ r .run .ensures .1 .0)
+    (ap length (again r) ∙ r .run .kept .1 .1 .0) (viewedOf v) t room p in
     shown-as (traced (start r)) (accepted (listing r)) (l .0) room (shownOf x) t (ap shownOf f ∙ lists (listing r) room v (l .1), l .2)
 
 returns-2 : tie.Need-returns-2
 returns-2 c =
     let w = c .before .before .before in
     let e = w .before .before .before in
-    listed-shown (e .before .before .before .before) _ (ap ranOf (sym (e .enum-told .given .1))) (w .listing-with .result) _ (w .listing-with .ensures) _ (c .listing-in .ensures)
+    listed-shown (e .before .before .before .before) _ (ap ranOf (sym (e .enum-told .given .1))) (w .listing-with .result) _ (w .listing-with .ensures) _
+    (c .listing-in .ensures)
 
 returns-3 : tie.Need-returns-3
 returns-3 c =
     let w = c .before .before .before in
     let e = w .before .before .before in
-    listed-shown (e .before .before .before .before) _ (ap ranOf (sym (e .enum-told2 .given .1))) (w .listing-with2 .result) _ (w .listing-with2 .ensures) _ (c .listing-in2 .ensures)
+    listed-shown (e .before .before .before .before) _ (ap ranOf (sym (e .enum-told2 .given .1))) (w .listing-with2 .result) _ (w .listing-with2 .ensures) _
+    (c .listing-in2 .ensures)
 
 returns-4 : tie.Need-returns-4
 returns-4 c =
@@ -156,8 +161,12 @@ list-image-spec =
     tie.close
     (tie.spec (λ c κs. search needs) (λ c. search needs) returns (λ c κs. search needs) (λ c κs. search needs) (λ c. search needs) (λ c. marks-long (c .before))
     (λ c. search needs) (λ c. order-long (c .before .before)) (λ c. search needs) (λ c κs. search needs)
-    (λ c. search needs) (λ c. within (c .before .before .before .before)) (λ c. sized (c .before .before .before .before .before)) (λ c κs. search needs) (λ c κs. search needs)
-    (λ c. search needs) (λ c. within (c .before .before .before .before)) (λ c. sized (c .before .before .before .before .before)) (λ c κs. search needs) (λ c κs. search needs)
-    (λ c. search needs) (λ c κs. search needs) (λ c. search needs) (λ c κs. search needs) (λ c. search needs) (λ c κs. search needs) (λ c. search needs) (λ c κs. search needs)
-    (λ c. search needs) returns-2 (λ c. search needs) returns-3 (λ c. search needs) returns-4 (λ c. search needs) returns-5 (λ c. search needs) returns-6 (λ c. search needs)
+    (λ c. search needs) (λ c. within (c .before .before .before .before)) (λ c. sized (c .before .before .before .before .before)) (λ c κs. search needs)
+    (λ c κs. search needs)
+    (λ c. search needs) (λ c. within (c .before .before .before .before)) (λ c. sized (c .before .before .before .before .before)) (λ c κs. search needs)
+    (λ c κs. search needs)
+    (λ c. search needs) (λ c κs. search needs) (λ c. search needs) (λ c κs. search needs) (λ c. search needs) (λ c κs. search needs) (λ c. search needs)
+    (λ c κs. search needs)
+    (λ c. search needs) returns-2 (λ c. search needs) returns-3 (λ c. search needs) returns-4 (λ c. search needs) returns-5 (λ c. search needs) returns-6
+    (λ c. search needs)
     returns-7)

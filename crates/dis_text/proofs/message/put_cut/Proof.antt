@@ -42,7 +42,14 @@ returns c =
     let q = p .before .before .before .before .before in
     let r = position q in (
       puts-then (puts-then (puts-then (begun r .put .ensures) (r .put-position .ensures)) (q .put2 .ensures)) (p .put-decimal .ensures .0),
-      omega (arith, p .put-decimal .ensures .1, q .put2 .ensures .next, r .put-position .ensures .next, four (start r .args .c .position), begun r .put .ensures .next),
+      omega (
+        arith,
+        p .put-decimal .ensures .1,
+        q .put2 .ensures .next,
+        r .put-position .ensures .next,
+        four (start r .args .c .position),
+        begun r .put .ensures .next,
+      ),
     )
 
 pub put-cut-spec : {M : Type 1} → statement M

@@ -26,14 +26,18 @@ shown : (k : tie.After-ask) (r : Read) → k .ask .result ≡ r → let a = star
     disOf (a .words .now) (a .image .now) ≡ listedFor (readOf r (k .ask .last .1 .0) (k .ask .last .1 .1 .0)) (a .image .now)
 unfolding disOf
 shown k r e =
-    ap (λ (x : Answer Asked). listedFor x (start k .args .image .now)) (sym (k .ask .ensures .0) ∙ ap (λ (x : Read). readOf x (k .ask .last .1 .0) (k .ask .last .1 .1 .0)) e)
+    ap (λ (x : Answer Asked). listedFor x (start k .args .image .now))
+    (sym (k .ask .ensures .0) ∙ ap (λ (x : Read). readOf x (k .ask .last .1 .0) (k .ask .last .1 .1 .0)) e)
 
 list-asked-requires : tie.Need-list-asked-requires
 list-asked-requires c κs =
     let a = c .before .before .before .before in
     let k = a .before .before .before .before in
-    let n = k .before .before .before in
-    (k .ask .kept .1 .0 ∙ room (n .before .numbers .ensures), k .ask .kept .1 .1 .0 ∙ room (n .numbers2 .ensures), subst CountedRead (a .asked .given .1) (k .ask .ensures .1))
+    let n = k .before .before .before in (
+      k .ask .kept .1 .0 ∙ room (n .before .numbers .ensures),
+      k .ask .kept .1 .1 .0 ∙ room (n .numbers2 .ensures),
+      subst CountedRead (a .asked .given .1) (k .ask .ensures .1),
+    )
 
 returns : tie.Need-returns
 returns c =

@@ -44,7 +44,8 @@ returns c =
     let t = g .before in
     let s = t .before .before .before .before .before in
     let a = s .args in
-    shown-as (from s (asked s)) _ (ap (from s) (none-asked (a .asked .entries) (a .entries .now) (t .if1 .taken) ∙ sym (g .game-entries .ensures))) (a .room .now) _ _ (w .list-image .ensures)
+    shown-as (from s (asked s)) _ (ap (from s) (none-asked (a .asked .entries) (a .entries .now) (t .if1 .taken) ∙ sym (g .game-entries .ensures)))
+    (a .room .now) _ _ (w .list-image .ensures)
 
 returns-2 : tie.Need-returns-2
 returns-2 c =
@@ -52,11 +53,14 @@ returns-2 c =
     let e = w .before .before .before .before in
     let s = e .before .before .before .before .before in
     let a = s .args in
-    shown-as (from s (asked s)) _ (ap (from s) (some-asked (a .asked .entries) (a .entries .now) (entries-in s) (e .if1 .left))) (a .room .now) _ _ (w .list-image2 .ensures)
+    shown-as (from s (asked s)) _ (ap (from s) (some-asked (a .asked .entries) (a .entries .now) (entries-in s) (e .if1 .left))) (a .room .now) _ _
+    (w .list-image2 .ensures)
 
 pub list-asked-spec : {M : Type 1} → statement M
 list-asked-spec =
     tie.close
-    (tie.spec (λ c κs. search needs) (λ c. search needs) (λ c. pins-long (c .before .before .before .before .before .before .before .before)) (λ c κs. search needs)
-    (λ c. search needs) returns (λ c. entries-long (c .before .before .before .before .before .before)) (λ c. pins-long (c .before .before .before .before .before .before .before))
+    (tie.spec (λ c κs. search needs) (λ c. search needs) (λ c. pins-long (c .before .before .before .before .before .before .before .before))
+    (λ c κs. search needs)
+    (λ c. search needs) returns (λ c. entries-long (c .before .before .before .before .before .before))
+    (λ c. pins-long (c .before .before .before .before .before .before .before))
     (λ c κs. search needs) (λ c. search needs) returns-2)

@@ -15,7 +15,8 @@ use Rattle.instruction.proofs.build.build.Tie as tie
 abbrev bits : ℤ → ℤ
 bits z = toZ w32 (ofZ w32 z)
 
-arm : (c : tie.Start) (k : ℕ) → c .args .form ≡ k → formAt k .make (bits (c .args .a)) (bits (c .args .b)) (bits (c .args .c)) ≡ madeOf (record { form = c .args .form; a = c .args .a; b = c .args .b; c = c .args .c })
+arm : (c : tie.Start) (k : ℕ) → c .args .form ≡ k → formAt k .make (bits (c .args .a)) (bits (c .args .b)) (bits (c .args .c))
+    ≡ madeOf (record { form = c .args .form; a = c .args .a; b = c .args .b; c = c .args .c })
 unfolding madeOf
 arm c k e = rw (e, back (c .fits .a), back (c .fits .b), back (c .fits .c))
 

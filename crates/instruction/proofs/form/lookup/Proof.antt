@@ -47,7 +47,8 @@ returns c =
     let x : ℕ = a .before .args .first in
     let h : x < 256 = byte (a .before) in
     let l : a .column .result < 5 = least a in
-    let e = there (16 * a .column .result + x / 16) _ _ (omega arith) (f .forms .ensures) (c .byte-of .ensures) ∙ in-column x (a .column .result) h (a .column .ensures) in
+    let e = there (16 * a .column .result + x / 16) _ _ (omega arith) (f .forms .ensures) (c .byte-of .ensures)
+    ∙ in-column x (a .column .result) h (a .column .ensures) in
     (e, subst (λ (n : ℕ). n < 70) (sym e) (small x h))
 
 pub lookup-spec : {M : Type 1} → statement M

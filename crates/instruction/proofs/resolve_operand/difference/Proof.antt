@@ -15,7 +15,8 @@ abbrev Read : ℤ → Type 0
 Read z = toZ w32 (ofZ w32 z) ≡ z
 
 -- the difference at the mode that the arm has
-at : (c : tie.Start) {o : Mode} → c .args .mode ≡ o → difference o (c .args .address) (c .args .base) ≡ difference (c .args .mode) (c .args .address) (c .args .base)
+at : (c : tie.Start) {o : Mode} → c .args .mode ≡ o
+    → difference o (c .args .address) (c .args .base) ≡ difference (c .args .mode) (c .args .address) (c .args .base)
 at c e = ap (λ (o : Mode). difference o (c .args .address) (c .args .base)) (sym e)
 
 minus-requires : tie.Need-minus-requires

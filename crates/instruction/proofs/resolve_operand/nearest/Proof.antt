@@ -44,7 +44,8 @@ returns c = read (c .before) ∙ near-up (away (c .before)) _ (up (c .before)) (
 returns-2 : tie.Need-returns-2
 returns-2 c =
     let h = low (c .before) in
-    rw (read (c .before)) (toZ-ofZ {w = w32} (diff-fits (c .before .wrapping-sub-u16 .result) 65536 (omega arith) (omega arith)) ∙ near-down (away (c .before)) _ (up (c .before)) (c .if1 .left))
+    rw (read (c .before)) (toZ-ofZ {w = w32} (diff-fits (c .before .wrapping-sub-u16 .result) 65536 (omega arith) (omega arith))
+    ∙ near-down (away (c .before)) _ (up (c .before)) (c .if1 .left))
 
 pub nearest-spec : {M : Type 1} → statement M
 nearest-spec =

@@ -20,10 +20,14 @@ abbrev bits : tie.Start → ℤ
 bits c = toZ w32 (ofZ w32 (c .args .z))
 
 -- an answer at the kind that the arm has is the answer at the operand's kind
-at : (c : tie.Start) {k : Kind} → c .args .kind ≡ k → {r : Answer ℤ} → r ≡ answerOf (c .args .mode) (c .args .base) (c .args .n) k (bits c) → r ≡ answerOf (c .args .mode) (c .args .base) (c .args .n) (c .args .kind) (c .args .z)
+at : (c : tie.Start) {k : Kind} → c .args .kind ≡ k → {r : Answer ℤ} → r ≡ answerOf (c .args .mode) (c .args .base) (c .args .n) k (bits c)
+    → r ≡ answerOf (c .args .mode) (c .args .base) (c .args .n) (c .args .kind) (c .args .z)
 at c e f = rw (e, ← back (c .fits .z)) f
 
-plain : (c : tie.Start) {k : Kind} → c .args .kind ≡ k → {r : Answer ℤ} → r ≡ judge (refuse (unfit (c .args .kind) (bits c)) 7 (pos (c .args .n) ∷ bits c ∷ []) ∷ []) (bits c) → judge (refuse (unfit k (bits c)) 7 (pos (c .args .n) ∷ bits c ∷ []) ∷ []) (bits c) ≡ answerOf (c .args .mode) (c .args .base) (c .args .n) k (bits c) → r ≡ answerOf (c .args .mode) (c .args .base) (c .args .n) (c .args .kind) (c .args .z)
+plain : (c : tie.Start) {k : Kind} → c .args .kind ≡ k → {r : Answer ℤ}
+    → r ≡ judge (refuse (unfit (c .args .kind) (bits c)) 7 (pos (c .args .n) ∷ bits c ∷ []) ∷ []) (bits c)
+    → judge (refuse (unfit k (bits c)) 7 (pos (c .args .n) ∷ bits c ∷ []) ∷ []) (bits c) ≡ answerOf (c .args .mode) (c .args .base) (c .args .n) k (bits c)
+    → r ≡ answerOf (c .args .mode) (c .args .base) (c .args .n) (c .args .kind) (c .args .z)
 plain c e f g = at c e ((rw e at f) ∙ g)
 
 pub operand-spec : {M : Type 1} → statement M

@@ -30,7 +30,8 @@ at c =
     let s = c .before .before .before in
     (rw (back (s .fits .z)) at (c .code .ensures)) ∙ address-is (s .args .z) (inside c)
 
-tops : {t : Tops} {x y x′ y′ : ℕ} {r : Answer ℤ} → (t .base ≡ x) × (t .address ≡ y) → x ≡ x′ → y ≡ y′ → refused 10 (pos x′ ∷ pos y′ ∷ []) ≡ r → refused 10 (pos (t .base) ∷ pos (t .address) ∷ []) ≡ r
+tops : {t : Tops} {x y x′ y′ : ℕ} {r : Answer ℤ} → (t .base ≡ x) × (t .address ≡ y) → x ≡ x′ → y ≡ y′ → refused 10 (pos x′ ∷ pos y′ ∷ []) ≡ r
+    → refused 10 (pos (t .base) ∷ pos (t .address) ∷ []) ≡ r
 tops p q s e = let o = p .0 in let v = p .1 in cc
 
 returns : tie.Need-returns

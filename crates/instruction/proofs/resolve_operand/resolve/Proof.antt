@@ -32,19 +32,29 @@ near : (o : tie.After-operand) → start o .args .base ≤ 65536
 near o = o .before .if1 .left
 
 -- the answers for the three operands, and what is known where one is accepted
-answer1 : (o : tie.After-operand) → operandAnswer (o .operand .result) ≡ answerOf (start o .args .mode) (start o .args .base) 1 (start o .args .kinds .a) (start o .args .a)
+answer1 : (o : tie.After-operand)
+    → operandAnswer (o .operand .result) ≡ answerOf (start o .args .mode) (start o .args .base) 1 (start o .args .kinds .a) (start o .args .a)
 answer1 o = rw (back (start o .fits .a)) at (o .operand .ensures)
 
-is1 : (c : tie.After-x) → accepted (c .x .given .0 .0) ≡ answerOf (start (c .before .before) .args .mode) (start (c .before .before) .args .base) 1 (start (c .before .before) .args .kinds .a) (start (c .before .before) .args .a)
+is1 : (c : tie.After-x) → accepted (c .x .given .0 .0)
+    ≡ answerOf (start (c .before .before) .args .mode) (start (c .before .before) .args .base) 1 (start (c .before .before) .args .kinds .a)
+    (start (c .before .before) .args .a)
 is1 c = ap operandAnswer (sym (c .x .given .1)) ∙ answer1 (c .before .before)
 
-answer2 : (o : tie.After-operand2) → operandAnswer (o .operand2 .result) ≡ answerOf (start (first o) .args .mode) (start (first o) .args .base) 2 (start (first o) .args .kinds .b) (start (first o) .args .b)
+answer2 : (o : tie.After-operand2)
+    → operandAnswer (o .operand2 .result)
+    ≡ answerOf (start (first o) .args .mode) (start (first o) .args .base) 2 (start (first o) .args .kinds .b) (start (first o) .args .b)
 answer2 o = rw (back (start (first o) .fits .b)) at (o .operand2 .ensures)
 
-is2 : (c : tie.After-y) → accepted (c .y .given .0 .0) ≡ answerOf (start (first (c .before .before)) .args .mode) (start (first (c .before .before)) .args .base) 2 (start (first (c .before .before)) .args .kinds .b) (start (first (c .before .before)) .args .b)
+is2 : (c : tie.After-y) → accepted (c .y .given .0 .0)
+    ≡ answerOf (start (first (c .before .before)) .args .mode) (start (first (c .before .before)) .args .base) 2
+    (start (first (c .before .before)) .args .kinds .b) (start (first (c .before .before)) .args .b)
 is2 c = ap operandAnswer (sym (c .y .given .1)) ∙ answer2 (c .before .before)
 
-answer3 : (o : tie.After-operand3) → operandAnswer (o .operand3 .result) ≡ answerOf (start (first (second o)) .args .mode) (start (first (second o)) .args .base) 3 (start (first (second o)) .args .kinds .c) (start (first (second o)) .args .c)
+answer3 : (o : tie.After-operand3)
+    → operandAnswer (o .operand3 .result)
+    ≡ answerOf (start (first (second o)) .args .mode) (start (first (second o)) .args .base) 3 (start (first (second o)) .args .kinds .c)
+    (start (first (second o)) .args .c)
 answer3 o = rw (back (start (first (second o)) .fits .c)) at (o .operand3 .ensures)
 
 returns : tie.Need-returns
@@ -54,7 +64,8 @@ returns-2 : tie.Need-returns-2
 returns-2 c =
     let o = c .before .before .before in
     let a = start o .args in
-    no1 (a .mode) (a .kinds) (a .a) (a .b) (a .c) (a .base) (near o) (c .before .why .given .0 .0) (ap operandAnswer (sym (c .before .why .given .1)) ∙ answer1 o)
+    no1 (a .mode) (a .kinds) (a .a) (a .b) (a .c) (a .base) (near o) (c .before .why .given .0 .0)
+    (ap operandAnswer (sym (c .before .why .given .1)) ∙ answer1 o)
 
 returns-3 : tie.Need-returns-3
 returns-3 c =
@@ -68,7 +79,8 @@ returns-4 c =
     let o = c .before .before .before in
     let p = second o in
     let a = start (first p) .args in
-    no3 (a .mode) (a .kinds) (a .a) (a .b) (a .c) (a .base) (near (first p)) _ (is1 (p .before .before)) _ (is2 (o .before .before)) (c .before .why3 .given .0 .0)
+    no3 (a .mode) (a .kinds) (a .a) (a .b) (a .c) (a .base) (near (first p)) _ (is1 (p .before .before)) _ (is2 (o .before .before))
+    (c .before .why3 .given .0 .0)
     (ap operandAnswer (sym (c .before .why3 .given .1)) ∙ answer3 o)
 
 returns-5 : tie.Need-returns-5
@@ -82,7 +94,8 @@ returns-5 c =
     let fy : Read (y .y .given .0 .0) = search needs in
     let fz : Read (z .z .given .0 .0) = search needs in
     ap accepted (make3 fx fy fz)
-    ∙ yes (a .mode) (a .kinds) (a .a) (a .b) (a .c) (a .base) (near (first (second o))) _ (is1 x) _ (is2 y) _ (ap operandAnswer (sym (z .z .given .1)) ∙ answer3 o)
+    ∙ yes (a .mode) (a .kinds) (a .a) (a .b) (a .c) (a .base) (near (first (second o))) _ (is1 x) _ (is2 y) _
+    (ap operandAnswer (sym (z .z .given .1)) ∙ answer3 o)
 
 pub resolve-spec : {M : Type 1} → statement M
 resolve-spec =

@@ -22,12 +22,16 @@ inside : (c : tie.Else1) → noAddress (c .before .before .args .address) ≡ fa
 inside c = tested (c .before) ∙ c .if1 .left
 
 -- the offset, as the code has it
-offset : (c : tie.After-difference) → toZ w32 (ofZ w32 (c .difference .result)) ≡ difference (c .before .before .before .args .mode) (c .before .before .before .args .address) (c .before .before .before .args .base)
+offset : (c : tie.After-difference)
+    → toZ w32 (ofZ w32 (c .difference .result))
+    ≡ difference (c .before .before .before .args .mode) (c .before .before .before .args .address) (c .before .before .before .args .base)
 offset c =
     let f : toZ w32 (ofZ w32 (c .difference .result)) ≡ c .difference .result = search needs in
     f ∙ (rw (back (c .before .before .before .fits .address)) at (c .difference .ensures))
 
-reached : (c : tie.After-is-outside2) → outside (negsuc 127) (pos 127) (difference (c .before .before .before .before .args .mode) (c .before .before .before .before .args .address) (c .before .before .before .before .args .base)) ≡ c .is-outside2 .result
+reached : (c : tie.After-is-outside2)
+    → outside (negsuc 127) (pos 127) (difference (c .before .before .before .before .args .mode) (c .before .before .before .before .args .address)
+    (c .before .before .before .before .args .base)) ≡ c .is-outside2 .result
 reached c = sym (c .is-outside2 .ensures ∙ ap (outside (negsuc 127) (pos 127)) (offset (c .before)))
 
 returns : tie.Need-returns
@@ -42,7 +46,8 @@ returns-2 : tie.Need-returns-2
 returns-2 c =
     let m = c .before .before in
     let s = m .before .before .before in
-    ap (λ (y : ℤ). refused 9 (y ∷ [])) (offset m) ∙ short-far (s .args .mode) (s .args .base) 0 (s .args .address) (inside (m .before)) (reached (c .before) ∙ c .if2 .taken)
+    ap (λ (y : ℤ). refused 9 (y ∷ [])) (offset m)
+    ∙ short-far (s .args .mode) (s .args .base) 0 (s .args .address) (inside (m .before)) (reached (c .before) ∙ c .if2 .taken)
 
 returns-3 : tie.Need-returns-3
 returns-3 c =

@@ -25,7 +25,11 @@ returns c = rw (toZ-pos w32 {n = c .before .args .p} (omega arith), lt-ltb (c .b
 
 returns-2 : tie.Need-returns-2
 returns-2 c =
-    rw (toZ-pos w32 {n = c .before .args .p} (omega arith), less (c .before .args .p) (omega arith) (omega arith), le-ltb (c .before .args .p) 128 (omega arith))
+    rw (
+      toZ-pos w32 {n = c .before .args .p} (omega arith),
+      less (c .before .args .p) (omega arith) (omega arith),
+      le-ltb (c .before .args .p) 128 (omega arith),
+    )
     (toZ-ofZ {w = w32} (record { sfits = omega arith }))
 
 pub short-spec : {M : Type 1} → statement M

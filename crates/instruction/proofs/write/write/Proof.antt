@@ -31,7 +31,8 @@ put-requires c κs =
     (rw e (r .0), rw e (r .1), tested w .if1 .left)
 
 -- the bytes, with the operands' numbers as they were given
-bytes : (w : tie.After-bytes) → take (length (blank (start w .args .shape))) (w .bytes .result .first ∷ w .bytes .result .second ∷ w .bytes .result .third ∷ []) ≡ bytesBy (start w .args .fixed) (start w .args .shape) (codeOf (start w .args .a) ∷ codeOf (start w .args .b) ∷ codeOf (start w .args .c) ∷ [])
+bytes : (w : tie.After-bytes) → take (length (blank (start w .args .shape))) (w .bytes .result .first ∷ w .bytes .result .second ∷ w .bytes .result .third ∷ [])
+    ≡ bytesBy (start w .args .fixed) (start w .args .shape) (codeOf (start w .args .a) ∷ codeOf (start w .args .b) ∷ codeOf (start w .args .c) ∷ [])
 bytes w =
     let f = start w .fits in
     let k = w .before in

@@ -25,7 +25,8 @@ loop-again c =
     let l = g .before in
     let a = l .before .before .args in (
       p .put-at .kept .0 ∙ l .loop .inv .0,
-      ap (λ (m : List ℕ). sets m (a .at) (lowest (l .loop .i - 1) (l .loop .left / 10))) (p .put-at .ensures) ∙ last-first (l .loop .room) (a .at) (l .loop .i) (l .loop .left) (g .loop-test .taken) ∙ l .loop .inv .1,
+      ap (λ (m : List ℕ). sets m (a .at) (lowest (l .loop .i - 1) (l .loop .left / 10))) (p .put-at .ensures)
+          ∙ last-first (l .loop .room) (a .at) (l .loop .i) (l .loop .left) (g .loop-test .taken) ∙ l .loop .inv .1,
     )
 
 returns : tie.Need-returns Inv-loop μ-loop
@@ -36,4 +37,5 @@ returns c =
 pub put-spec : {M : Type 1} → statement M
 put-spec =
     tie.close
-    (tie.spec Inv-loop μ-loop (λ c. (refl, refl)) (λ c. search needs) (λ c. search needs) (λ c. search needs) (λ c κs. search needs) (λ c. omega arith) loop-again (λ c. c .before .loop .inv .0) returns)
+    (tie.spec Inv-loop μ-loop (λ c. (refl, refl)) (λ c. search needs) (λ c. search needs) (λ c. search needs) (λ c κs. search needs)
+    (λ c. omega arith) loop-again (λ c. c .before .loop .inv .0) returns)

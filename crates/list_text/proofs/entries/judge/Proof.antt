@@ -41,7 +41,8 @@ returns-2 c =
     let d = c .before in
     let e = d .before .before in
     let l = e .before .before in
-    left-bad (line l) (l .loop .at) (l .loop .n) (e .end .result) (e .end .ensures) (l .loop .inv .0) (sym (d .is-four .ensures) ∙ not-true _ (c .if2 .taken)) (l .loop .inv .2)
+    left-bad (line l) (l .loop .at) (l .loop .n) (e .end .result) (e .end .ensures) (l .loop .inv .0) (sym (d .is-four .ensures) ∙ not-true _ (c .if2 .taken))
+    (l .loop .inv .2)
 
 returns-3 : tie.Need-returns-3 Inv-loop μ-loop
 returns-3 c =
@@ -50,7 +51,8 @@ returns-3 c =
     let e = d .before .before in
     let i = e .before in
     let l = i .before in
-    left-last (line l) (l .loop .at) (l .loop .n) (e .end .result) (e .end .ensures) (c .if3 .taken) (i .loop-test .taken) (sym (d .is-four .ensures) ∙ not-false _ (b .if2 .left)) (l .loop .inv .2)
+    left-last (line l) (l .loop .at) (l .loop .n) (e .end .result) (e .end .ensures) (c .if3 .taken) (i .loop-test .taken)
+    (sym (d .is-four .ensures) ∙ not-false _ (b .if2 .left)) (l .loop .inv .2)
 
 add-at : tie.Need-add-at Inv-loop μ-loop
 add-at c =
@@ -64,8 +66,12 @@ loop-again c =
     let e = d .before .before in
     let i = e .before in
     let l = i .before in
-    let h = before-end (line l) (l .loop .at) (e .end .result) (e .end .ensures) (l .loop .inv .0) (c .if3 .left) in
-    (at-next h, at-next (i .loop-test .taken), left-next (line l) (l .loop .at) (l .loop .n) (e .end .result) (e .end .ensures) h (sym (d .is-four .ensures) ∙ not-false _ (b .if2 .left)) (l .loop .inv .2))
+    let h = before-end (line l) (l .loop .at) (e .end .result) (e .end .ensures) (l .loop .inv .0) (c .if3 .left) in (
+      at-next h,
+      at-next (i .loop-test .taken),
+      left-next (line l) (l .loop .at) (l .loop .n) (e .end .result) (e .end .ensures) h
+          (sym (d .is-four .ensures) ∙ not-false _ (b .if2 .left)) (l .loop .inv .2),
+    )
 
 returns-4 : tie.Need-returns-4 Inv-loop μ-loop
 returns-4 c =
@@ -75,4 +81,5 @@ returns-4 c =
 pub judge-spec : {M : Type 1} → statement M
 judge-spec =
     tie.close
-    (tie.spec Inv-loop μ-loop returns loop-holds (λ c κs. search needs) (λ c. search needs) (λ c. search needs) inside (λ c κs. search needs) returns-2 (λ c. search needs) returns-3 add-at (λ c. search needs) loop-again returns-4)
+    (tie.spec Inv-loop μ-loop returns loop-holds (λ c κs. search needs) (λ c. search needs) (λ c. search needs) inside (λ c κs. search needs) returns-2
+    (λ c. search needs) returns-3 add-at (λ c. search needs) loop-again returns-4)

@@ -42,7 +42,8 @@ returns-2 c =
     let e = v .before .before in
     let l = e .before .before in
     let a = start l .args in
-    put-last (a .line .now) (a .room .now) (l .loop .room) (l .loop .at) (l .loop .n) (l .loop .inv .1) (e .end .result) (e .end .ensures) (v .four-of .result) (v .four-of .ensures) (c .if2 .taken)
+    put-last (a .line .now) (a .room .now) (l .loop .room) (l .loop .at) (l .loop .n) (l .loop .inv .1) (e .end .result) (e .end .ensures) (v .four-of .result)
+    (v .four-of .ensures) (c .if2 .taken)
 
 add-at : tie.Need-add-at Inv-loop μ-loop
 add-at c =
@@ -55,8 +56,11 @@ loop-again c =
     let e = v .before .before in
     let l = e .before .before in
     let a = start l .args in
-    let h = before-end (a .line .now) (l .loop .at) (e .end .result) (e .end .ensures) (l .loop .inv .0) (c .if2 .left) in
-    (at-next h, put-next (a .line .now) (a .room .now) (l .loop .room) (l .loop .at) (l .loop .n) (l .loop .inv .1) (e .end .result) (e .end .ensures) (v .four-of .result) (v .four-of .ensures) h)
+    let h = before-end (a .line .now) (l .loop .at) (e .end .result) (e .end .ensures) (l .loop .inv .0) (c .if2 .left) in (
+      at-next h,
+      put-next (a .line .now) (a .room .now) (l .loop .room) (l .loop .at) (l .loop .n) (l .loop .inv .1) (e .end .result) (e .end .ensures)
+          (v .four-of .result) (v .four-of .ensures) h,
+    )
 
 returns-3 : tie.Need-returns-3 Inv-loop μ-loop
 returns-3 c =
@@ -67,4 +71,6 @@ returns-3 c =
 pub write-spec : {M : Type 1} → statement M
 write-spec =
     tie.close
-    (tie.spec Inv-loop μ-loop returns loop-holds (λ c κs. search needs) (λ c. search needs) (λ c. search needs) inside (λ c κs. search needs) (λ c. search needs) (λ c. search needs) (λ c. search needs) same-length returns-2 add-at (λ c. omega (arith, inside (c .before .before .before))) loop-again (λ c. c .before .loop .inv .1 .same) returns-3)
+    (tie.spec Inv-loop μ-loop returns loop-holds (λ c κs. search needs) (λ c. search needs) (λ c. search needs) inside (λ c κs. search needs)
+    (λ c. search needs) (λ c. search needs) (λ c. search needs) same-length returns-2 add-at (λ c. omega (arith, inside (c .before .before .before))) loop-again
+    (λ c. c .before .loop .inv .1 .same) returns-3)

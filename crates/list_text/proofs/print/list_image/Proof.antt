@@ -81,10 +81,12 @@ sized : (r : tie.After-run) → length (image (made r)) ≡ length (take (length
 sized r = sym (ap length (again r) ∙ left-long r)
 
 -- what a refused run prints
-refused-text : (r : tie.After-run) (n : ℕ) (vs : List ℤ) → refused n vs ≡ ranOf (r .run .result) → output.refusalLine n vs ≡ output.outputText (output.tracedText (image (made r)) (start r .args .entries .now))
+refused-text : (r : tie.After-run) (n : ℕ) (vs : List ℤ) → refused n vs ≡ ranOf (r .run .result)
+    → output.refusalLine n vs ≡ output.outputText (output.tracedText (image (made r)) (start r .args .entries .now))
 refused-text r n vs e =
     let a = start r .args in
-    sym (ap output.outputText (refused-run Unwrapped (a .image .now) (a .entries .now) [] Declined (lent r) (order r) (bytes-are r) (order-is r) n vs (e ∙ r .run .ensures .0)))
+    sym (ap output.outputText (refused-run Unwrapped (a .image .now) (a .entries .now) [] Declined (lent r) (order r) (bytes-are r) (order-is r) n vs
+    (e ∙ r .run .ensures .0)))
 
 -- and what is printed of the marks of another
 abbrev listing : tie.After-run → List ℕ
@@ -94,10 +96,12 @@ listed-text : (r : tie.After-run) (s : RunResult) → accepted s ≡ ranOf (r .r
     let m = take (length i) (left r) in
     let room = start r .args .room .now in
     (v ≡ viewAnswer i m (listing r) room) × (t ≡ viewRoom i m (listing r) room)
-    → (v ≡ roomAnswer [] (output.outputText (output.tracedText i (start r .args .entries .now))) room) × (t ≡ roomAfter [] (output.outputText (output.tracedText i (start r .args .entries .now))) room)
+    → (v ≡ roomAnswer [] (output.outputText (output.tracedText i (start r .args .entries .now))) room)
+    × (t ≡ roomAfter [] (output.outputText (output.tracedText i (start r .args .entries .now))) room)
 listed-text r s e v t p =
     let a = start r .args in
-    let l = listed-run Unwrapped (a .image .now) (a .entries .now) [] Declined (omega (arith, start r .pre)) (lent r) (order r) (bytes-are r) (order-is r) s (e ∙ r .run .ensures .0) _ (again r ∙ r .run .ensures .1 .0) (ap length (again r) ∙ r .run .kept .1 .1 .0) v t (a .room .now) p in
+    let l = listed-run Unwrapped (a .image .now) (a .entries .now) [] Declined (omega (arith, start r .pre)) (lent r) (order r) (bytes-are r) (order-is r) s
+    (e ∙ r .run .ensures .0) _ (again r ∙ r .run .ensures .1 .0) (ap length (again r) ∙ r .run .kept .1 .1 .0) v t (a .room .now) p in
     said (listing r) _ (sym (ap output.outputText (l .0))) v t (a .room .now) (l .1, l .2)
 
 returns : tie.Need-returns
@@ -143,7 +147,8 @@ returns-6 c =
 pub list-image-spec : {M : Type 1} → statement M
 list-image-spec =
     tie.close
-    (tie.spec (λ c κs. search needs) (λ c κs. search needs) (λ c. search needs) (λ c. marks-long (c .before)) (λ c. search needs) (λ c. order-long (c .before .before)) (λ c. search needs) (λ c. search needs) (λ c κs. search needs)
+    (tie.spec (λ c κs. search needs) (λ c κs. search needs) (λ c. search needs) (λ c. marks-long (c .before)) (λ c. search needs)
+    (λ c. order-long (c .before .before)) (λ c. search needs) (λ c. search needs) (λ c κs. search needs)
     (λ c. search needs) (λ c. within (c .before .before .before .before)) (λ c. sized (c .before .before .before .before .before)) (λ c κs. search needs)
     (λ c. search needs) (λ c. within (c .before .before .before .before)) (λ c. sized (c .before .before .before .before .before)) (λ c κs. search needs)
     (λ c. search needs) (λ c κs. search needs) (λ c. search needs) (λ c κs. search needs) (λ c. search needs) (λ c κs. search needs)

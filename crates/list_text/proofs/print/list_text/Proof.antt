@@ -70,13 +70,17 @@ image-is : (c : tie.After-c) → take (c .c .given .0 .0 .bytes - 0) (drop 0 (re
 unfolding countsOf
 image-is c =
     let r = read c in
-    read-image (text r) (valid c .0) (r .parse .last .1 .1 .0) (r .parse .ensures .1 .1 ∙ ap₂ (λ (x y : List ℕ). parseImage (text r) x y) (entries-are r) (bytes-are r)) (c .c .given .0 .0 .bytes) (ap (λ (d : Input). d .bytes) (valid c .1))
+    read-image (text r) (valid c .0) (r .parse .last .1 .1 .0)
+    (r .parse .ensures .1 .1 ∙ ap₂ (λ (x y : List ℕ). parseImage (text r) x y) (entries-are r) (bytes-are r)) (c .c .given .0 .0 .bytes)
+    (ap (λ (d : Input). d .bytes) (valid c .1))
 
 entries-read : (c : tie.After-c) → take (c .c .given .0 .0 .entries - 0) (drop 0 (read c .parse .last .1 .0)) ≡ entriesOf (text (read c))
 unfolding countsOf
 entries-read c =
     let r = read c in
-    read-entries (text r) (valid c .0) (r .parse .last .1 .0) (r .parse .ensures .1 .0 ∙ ap₂ (λ (x y : List ℕ). parseEntries (text r) x y) (entries-are r) (bytes-are r)) (c .c .given .0 .0 .entries) (ap (λ (d : Input). d .entries) (valid c .1))
+    read-entries (text r) (valid c .0) (r .parse .last .1 .0)
+    (r .parse .ensures .1 .0 ∙ ap₂ (λ (x y : List ℕ). parseEntries (text r) x y) (entries-are r) (bytes-are r)) (c .c .given .0 .0 .entries)
+    (ap (λ (d : Input). d .entries) (valid c .1))
 
 requires : tie.Need-list-image-requires
 requires c κs =
@@ -89,21 +93,24 @@ returns c =
     let w = c .before .before in
     let k = w .before .before .before .before .before .before .before in
     let r = read k in
-    said _ _ (ap₂ (λ (x y : List ℕ). outputText (tracedText x y)) (image-is k) (entries-read k) ∙ valid-output (text r) (valid k .0)) _ _ (start r .args .room .now) (w .list-image .ensures)
+    said _ _ (ap₂ (λ (x y : List ℕ). outputText (tracedText x y)) (image-is k) (entries-read k) ∙ valid-output (text r) (valid k .0)) _ _
+    (start r .args .room .now) (w .list-image .ensures)
 
 returns-2 : tie.Need-returns-2
 returns-2 c =
     let w = c .before .before in
     let e = w .before .before in
     let r = e .before .before .before .before in
-    said (numberLine 13) _ (refused-output (text r) 13 _ (ap parsedOf (sym (e .enum-told .given .1)) ∙ parsed r)) _ _ (start r .args .room .now) (w .put-number .ensures)
+    said (numberLine 13) _ (refused-output (text r) 13 _ (ap parsedOf (sym (e .enum-told .given .1)) ∙ parsed r)) _ _ (start r .args .room .now)
+    (w .put-number .ensures)
 
 returns-3 : tie.Need-returns-3
 returns-3 c =
     let w = c .before .before in
     let e = w .before .before in
     let r = e .before .before .before .before in
-    said (numberLine 11) _ (refused-output (text r) 11 _ (ap parsedOf (sym (e .enum-told2 .given .1)) ∙ parsed r)) _ _ (start r .args .room .now) (w .put-number2 .ensures)
+    said (numberLine 11) _ (refused-output (text r) 11 _ (ap parsedOf (sym (e .enum-told2 .given .1)) ∙ parsed r)) _ _ (start r .args .room .now)
+    (w .put-number2 .ensures)
 
 pub list-text-spec : {M : Type 1} → statement M
 list-text-spec =

@@ -37,7 +37,8 @@ returns c =
     let i = e .before in
     let l = i .before in
     let a = start l .args in
-    judge-bad (a .text .now) (a .from) (a .entries) (l .loop .at) (l .loop .k) (l .loop .bytes) (l .loop .inv) (e .end .result) (e .end .ensures) (i .loop-test .taken) (v .judge .result) (v .judge .ensures) (c .enum-told .given .1)
+    judge-bad (a .text .now) (a .from) (a .entries) (l .loop .at) (l .loop .k) (l .loop .bytes) (l .loop .inv) (e .end .result) (e .end .ensures)
+    (i .loop-test .taken) (v .judge .result) (v .judge .ensures) (c .enum-told .given .1)
 
 returns-2 : tie.Need-returns-2 Inv-loop μ-loop
 returns-2 c =
@@ -47,7 +48,8 @@ returns-2 c =
     let i = e .before in
     let l = i .before in
     let a = start l .args in
-    judge-over (a .text .now) (a .from) (a .entries) (l .loop .at) (l .loop .k) (l .loop .bytes) (l .loop .inv) (e .end .result) (e .end .ensures) (i .loop-test .taken) (v .judge .result) (v .judge .ensures) _ (w .n .given .1) (c .if1 .taken)
+    judge-over (a .text .now) (a .from) (a .entries) (l .loop .at) (l .loop .k) (l .loop .bytes) (l .loop .inv) (e .end .result) (e .end .ensures)
+    (i .loop-test .taken) (v .judge .result) (v .judge .ensures) _ (w .n .given .1) (c .if1 .taken)
 
 loop-again : tie.Need-loop-again Inv-loop μ-loop
 loop-again c =
@@ -57,14 +59,16 @@ loop-again c =
     let i = e .before in
     let l = i .before in
     let a = start l .args in
-    judge-next (a .text .now) (a .from) (a .entries) (l .loop .at) (l .loop .k) (l .loop .bytes) (l .loop .inv) (e .end .result) (e .end .ensures) (i .loop-test .taken) (v .judge .result) (v .judge .ensures) _ (w .n .given .1) (c .if1 .left)
+    judge-next (a .text .now) (a .from) (a .entries) (l .loop .at) (l .loop .k) (l .loop .bytes) (l .loop .inv) (e .end .result) (e .end .ensures)
+    (i .loop-test .taken) (v .judge .result) (v .judge .ensures) _ (w .n .given .1) (c .if1 .left)
 
 returns-3 : tie.Need-returns-3 Inv-loop μ-loop
 returns-3 c =
     let x = c .before in
     let l = x .before in
     let a = start l .args in
-    judge-end (a .text .now) (a .from) (a .entries) (l .loop .at) (l .loop .k) (l .loop .bytes) (l .loop .inv) (x .loop-test .left) (c .new .result) (c .new .ensures .0) (c .new .ensures .1)
+    judge-end (a .text .now) (a .from) (a .entries) (l .loop .at) (l .loop .k) (l .loop .bytes) (l .loop .inv) (x .loop-test .left) (c .new .result)
+    (c .new .ensures .0) (c .new .ensures .1)
 
 add-bytes : tie.Need-add-bytes Inv-loop μ-loop
 add-bytes c =
@@ -96,4 +100,5 @@ loop-less c =
 pub judge-image-spec : {M : Type 1} → statement M
 judge-image-spec =
     tie.close
-    (tie.spec Inv-loop μ-loop loop-holds (λ c κs. search needs) (λ c. search needs) (λ c. search needs) inside (λ c κs. search needs) (λ c. search needs) (λ c. search needs) returns add-bytes returns-2 add-k add-at loop-less loop-again (λ c κs. search needs) returns-3)
+    (tie.spec Inv-loop μ-loop loop-holds (λ c κs. search needs) (λ c. search needs) (λ c. search needs) inside (λ c κs. search needs) (λ c. search needs)
+    (λ c. search needs) returns add-bytes returns-2 add-k add-at loop-less loop-again (λ c κs. search needs) returns-3)

@@ -39,4 +39,5 @@ returns-2 c =
 pub judge-text-spec : {M : Type 1} → statement M
 judge-text-spec =
     tie.close
-    (tie.spec (λ c κs. search needs) (λ c. search needs) (λ c. search needs) inside (λ c κs. search needs) (λ c. search needs) (λ c. search needs) returns add-judge-image (λ c κs. search needs) returns-2)
+    (tie.spec (λ c κs. search needs) (λ c. search needs) (λ c. search needs) inside (λ c κs. search needs) (λ c. search needs) (λ c. search needs) returns
+    add-judge-image (λ c κs. search needs) returns-2)

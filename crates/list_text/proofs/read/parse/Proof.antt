@@ -14,14 +14,16 @@ returns : tie.Need-returns
 returns c =
     let j = c .before in
     let a = start j .args in
-    parted (other (a .text .now) (a .entries .now) (a .image .now) (j .judge-text .result) (λ x f. neither (rw f at (c .match .keys2))) (j .judge-text .ensures))
+    parted (other (a .text .now) (a .entries .now) (a .image .now) (j .judge-text .result) (λ x f. neither (rw f at (c .match .keys2)))
+    (j .judge-text .ensures))
 
 returns-2 : tie.Need-returns-2
 returns-2 c =
     let w = c .before .before .before in
     let j = w .before .before in
     let a = start j .args in
-    parted (few-entries (a .text .now) (a .entries .now) (a .image .now) (j .judge-text .result) _ (w .judged .given .1) (j .judge-text .ensures) (c .if1 .taken))
+    parted (few-entries (a .text .now) (a .entries .now) (a .image .now) (j .judge-text .result) _ (w .judged .given .1) (j .judge-text .ensures)
+    (c .if1 .taken))
 
 returns-3 : tie.Need-returns-3
 returns-3 c =
@@ -37,7 +39,8 @@ write-text-requires c κs =
     let w = x .before .before .before in
     let j = w .before .before in
     let a = start j .args in
-    room-for (a .text .now) (a .entries .now) (a .image .now) (j .judge-text .result) _ (w .judged .given .1) (j .judge-text .ensures) (x .if1 .left) (y .if2 .left)
+    room-for (a .text .now) (a .entries .now) (a .image .now) (j .judge-text .result) _ (w .judged .given .1) (j .judge-text .ensures) (x .if1 .left)
+    (y .if2 .left)
 
 returns-4 : tie.Need-returns-4
 returns-4 c =
@@ -47,7 +50,8 @@ returns-4 c =
     let w = x .before .before .before in
     let j = w .before .before in
     let a = start j .args in
-    parted (shown (a .text .now) (a .entries .now) (a .image .now) (j .judge-text .result) _ (w .judged .given .1) (j .judge-text .ensures) (x .if1 .left) (y .if2 .left) (z .write-text .last .1 .0) (z .write-text .last .1 .1 .0) (z .write-text .ensures .0) (z .write-text .ensures .1))
+    parted (shown (a .text .now) (a .entries .now) (a .image .now) (j .judge-text .result) _ (w .judged .given .1) (j .judge-text .ensures) (x .if1 .left)
+    (y .if2 .left) (z .write-text .last .1 .0) (z .write-text .last .1 .1 .0) (z .write-text .ensures .0) (z .write-text .ensures .1))
 
 pub parse-spec : {M : Type 1} → statement M
 parse-spec =

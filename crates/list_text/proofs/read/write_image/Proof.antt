@@ -37,7 +37,8 @@ loop-holds c =
     put-start (s .args .text .now) (s .args .from) (s .args .image .now) (s .pre)
 
 -- the bytes of the line are half as many as its digits
-half : (c : tie.After-end Inv-loop μ-loop) → let l = c .before .before in (c .end .result - l .loop .at) / 2 ≡ length (bytesOf (take (c .end .result - l .loop .at) (drop (l .loop .at) (start l .args .text .now))))
+half : (c : tie.After-end Inv-loop μ-loop) → let l = c .before .before in
+    (c .end .result - l .loop .at) / 2 ≡ length (bytesOf (take (c .end .result - l .loop .at) (drop (l .loop .at) (start l .args .text .now))))
 half c =
     let l = c .before .before in
     let line : List ℕ = take (c .end .result - l .loop .at) (drop (l .loop .at) (start l .args .text .now)) in
@@ -50,7 +51,13 @@ add-n c =
     let i = e .before in
     let l = i .before in
     let a = start l .args in
-    omega (arith, half e, put-fits (a .text .now) (a .from) (a .image .now) (l .loop .image) (l .loop .at) (l .loop .n) (l .loop .inv) (e .end .result) (e .end .ensures) (i .loop-test .taken), l .loop .inv .long)
+    omega (
+      arith,
+      half e,
+      put-fits (a .text .now) (a .from) (a .image .now) (l .loop .image) (l .loop .at) (l .loop .n) (l .loop .inv) (e .end .result)
+          (e .end .ensures) (i .loop-test .taken),
+      l .loop .inv .long,
+    )
 
 loop-again : tie.Need-loop-again Inv-loop μ-loop
 loop-again c =
@@ -59,7 +66,8 @@ loop-again c =
     let i = e .before in
     let l = i .before in
     let a = start l .args in
-    put-next (a .text .now) (a .from) (a .image .now) (l .loop .image) (l .loop .at) (l .loop .n) (l .loop .inv) (e .end .result) (e .end .ensures) (i .loop-test .taken) _ (ap (λ (k : ℕ). l .loop .n + k) (half e)) (v .put .last .1 .0) (v .put .ensures)
+    put-next (a .text .now) (a .from) (a .image .now) (l .loop .image) (l .loop .at) (l .loop .n) (l .loop .inv) (e .end .result) (e .end .ensures)
+    (i .loop-test .taken) _ (ap (λ (k : ℕ). l .loop .n + k) (half e)) (v .put .last .1 .0) (v .put .ensures)
 
 returns : tie.Need-returns Inv-loop μ-loop
 returns c =
@@ -83,4 +91,5 @@ loop-less c =
 pub write-image-spec : {M : Type 1} → statement M
 write-image-spec =
     tie.close
-    (tie.spec Inv-loop μ-loop loop-holds (λ c κs. search needs) (λ c. search needs) (λ c. search needs) inside (λ c κs. search needs) (λ c. search needs) add-n add-at loop-less loop-again (λ c. c .before .loop .inv .long) returns)
+    (tie.spec Inv-loop μ-loop loop-holds (λ c κs. search needs) (λ c. search needs) (λ c. search needs) inside (λ c κs. search needs) (λ c. search needs) add-n
+    add-at loop-less loop-again (λ c. c .before .loop .inv .long) returns)

@@ -39,9 +39,11 @@ returns c =
     let w = d .before .before .before .before in
     let e = w .before .before .before in
     let s = start e in
-    put-whole (s .args .text .now) (e .end .result) (e .end .ensures) (s .args .entries .now) (s .args .image .now) (s .pre .0) (s .pre .1) (w .write .last .1 .0) (w .write .ensures) (d .write-image .last .1 .1 .0) (d .write-image .ensures)
+    put-whole (s .args .text .now) (e .end .result) (e .end .ensures) (s .args .entries .now) (s .args .image .now) (s .pre .0) (s .pre .1)
+    (w .write .last .1 .0) (w .write .ensures) (d .write-image .last .1 .1 .0) (d .write-image .ensures)
 
 pub write-text-spec : {M : Type 1} → statement M
 write-text-spec =
     tie.close
-    (tie.spec (λ c κs. search needs) (λ c. search needs) (λ c. search needs) inside write-requires add-write-image write-image-requires (λ c. search needs) (λ c. search needs) returns)
+    (tie.spec (λ c κs. search needs) (λ c. search needs) (λ c. search needs) inside write-requires add-write-image write-image-requires (λ c. search needs)
+    (λ c. search needs) returns)

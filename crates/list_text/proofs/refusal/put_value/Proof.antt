@@ -14,7 +14,8 @@ use Rattle.list_text.proofs.refusal.put_value.Statement.{statement}
 use Rattle.list_text.proofs.refusal.put_value.Tie as tie
 
 -- how much is needed
-need : (c : tie.After-width2) → length (valueLine (c .before .before .before .args .number) (c .before .before .before .args .value)) ≡ c .before .width .result + c .width2 .result + 4
+need : (c : tie.After-width2) → length (valueLine (c .before .before .before .args .number) (c .before .before .before .args .value)) ≡ c .before .width .result
+    + c .width2 .result + 4
 need c = value-length _ _ (c .before .width .result) (c .width2 .result) (c .before .width .ensures .0) (c .width2 .ensures .0)
 
 returns : tie.Need-returns
@@ -70,7 +71,8 @@ returns-2 c =
     let p = first q in
     let w = widths p in
     let a = start p .args in
-    let put = value-put (a .number) (a .room .now) (p .put-head .last .1 .1 .0) (a .value) (q .put .last .1 .1 .0) (w .before .width .result) (w .width2 .result) (w .before .width .ensures .0) (w .width2 .ensures .0) (p .put-head .ensures) (q .put .ensures) in
+    let put = value-put (a .number) (a .room .now) (p .put-head .last .1 .1 .0) (a .value) (q .put .last .1 .1 .0) (w .before .width .result)
+    (w .width2 .result) (w .before .width .ensures .0) (w .width2 .ensures .0) (p .put-head .ensures) (q .put .ensures) in
     put-shown (valueLine (a .number) (a .value)) (a .room .now) _ _ (need w) (p .before .before .if1 .left) (put .wrote)
 
 pub put-value-spec : {M : Type 1} → statement M

@@ -68,7 +68,8 @@ loop-again d o i j =
     let l = t .before in
     let v = l .loop .inv o i j in
     let g = flash-not o (image l) (marks l) (bytes l) (p l) (l .loop .q) (c .if1 .left) in
-    let y = chain-over o (image l) (marks l) (bytes l) (p l) (namesHeld o (image l) (marks l) (p l)) (held-fewer o (image l) (marks l) (bytes l) (p l)) (l .loop .q) (d .next .result) (t .loop-test .taken) (v .0) (next d o i) g in
+    let y = chain-over o (image l) (marks l) (bytes l) (p l) (namesHeld o (image l) (marks l) (p l)) (held-fewer o (image l) (marks l) (bytes l) (p l))
+    (l .loop .q) (d .next .result) (t .loop-test .taken) (v .0) (next d o i) g in
     (y .0, y .1 ∙ v .1)
 
 loop-less : tie.Need-loop-less Inv-loop μ-loop

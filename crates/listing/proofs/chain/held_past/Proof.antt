@@ -20,7 +20,8 @@ returns : tie.Need-returns
 returns c =
     let s = c .before .before .before .before in
     let a = s .args in
-    held-not (a .mode) (a .image .now) (a .marks .now) (λ i. c .before .before .before .shared-slice-known .given i .fits, s .pre .0) (a .p) (a .q) (a .c) (s .pre .2) (s .pre .3) (c .if1 .taken)
+    held-not (a .mode) (a .image .now) (a .marks .now) (λ i. c .before .before .before .shared-slice-known .given i .fits, s .pre .0) (a .p) (a .q) (a .c)
+    (s .pre .2) (s .pre .3) (c .if1 .taken)
 
 -- the next in the index
 next : (d : tie.After-next) → let a = start (d .before) .args in
@@ -30,7 +31,8 @@ next d =
     let e = d .before in
     let s = start e in
     let a = s .args in
-    held-at (a .mode) (a .image .now) (a .marks .now) (bytes e) (a .p) (a .q) (a .c) (d .next .result) (s .pre .2) (s .pre .3) (e .if1 .left) (d .next .ensures ∙ ap (λ (i : List ℕ). nextIn i (a .q)) (s .pre .1))
+    held-at (a .mode) (a .image .now) (a .marks .now) (bytes e) (a .p) (a .q) (a .c) (d .next .result) (s .pre .2) (s .pre .3) (e .if1 .left)
+    (d .next .ensures ∙ ap (λ (i : List ℕ). nextIn i (a .q)) (s .pre .1))
 
 returns-2 : tie.Need-returns-2
 returns-2 c = c .held-from .ensures ∙ next (c .before) .1

@@ -48,12 +48,14 @@ bytes : (f : tie.After-first Inv-loop μ-loop) → OfBytes (image f)
 bytes f = (λ i. f .before .before .before .shared-slice-known .given i .fits, start f .pre .0)
 
 -- who does not name p gives it no target mark
-fewer : (f : tie.After-first Inv-loop μ-loop) (o : Mode) (r : ℕ) → r < length (image f) → namesIt o (image f) (marks f) (p f) r ≡ false → names o (image f) (marks f) (p f) r ≡ false
+fewer : (f : tie.After-first Inv-loop μ-loop) (o : Mode) (r : ℕ) → r < length (image f) → namesIt o (image f) (marks f) (p f) r ≡ false
+    → names o (image f) (marks f) (p f) r ≡ false
 fewer f o r h = unnamed-not o (image f) (marks f) (bytes f) (p f) (start f .pre .1) r h
 
 loop-holds : tie.Need-loop-holds Inv-loop μ-loop
 loop-holds f o e =
-    chain-first o (image f) (marks f) (bytes f) (p f) (names o (image f) (marks f) (p f)) (fewer f o) (start f .pre .1) (f .first .result) (f .first .ensures ∙ ap (λ (l : List ℕ). firstIn l (p f)) e)
+    chain-first o (image f) (marks f) (bytes f) (p f) (names o (image f) (marks f) (p f)) (fewer f o) (start f .pre .1) (f .first .result)
+    (f .first .ensures ∙ ap (λ (l : List ℕ). firstIn l (p f)) e)
 
 returns : tie.Need-returns Inv-loop μ-loop
 returns c =
@@ -65,7 +67,8 @@ returns c =
     let v = l .loop .inv (mode f) (start f .pre .2) in
     let h : q < length (image f) = t .loop-test .taken in
     let e : exemptHere (image f) (marks f) q ≡ false = sym (x .is-exempt .ensures) ∙ not-true _ (c .if1 .taken) in
-    let g = named-so (mode f) (image f) (marks f) (bytes f) (p f) (start f .pre .1) q h e (names-here (mode f) (image f) (marks f) (bytes f) (p f) q h (v .0)) in
+    let g = named-so (mode f) (image f) (marks f) (bytes f) (p f) (start f .pre .1) q h e
+    (names-here (mode f) (image f) (marks f) (bytes f) (p f) q h (v .0)) in
     label-found (mode f) (image f) (marks f) (bytes f) (p f) q h g (v .1)
 
 -- the next in the index

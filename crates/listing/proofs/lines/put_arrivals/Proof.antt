@@ -40,8 +40,11 @@ index e = start e .args .index .now
 
 returns : tie.Need-returns
 returns c =
-    let a = c .before .before .before .before .before .args in
-    (puts-as (not-chosen (a .p) (isLent (a .index .now)) (arrivalsOf (a .mode) (a .image .now) (a .marks .now) (a .p)) (le-ltb 0 (length (a .index .now)) (omega (arith, c .if1 .taken)))) (puts-none _ _), omega arith)
+    let a = c .before .before .before .before .before .args in (
+      puts-as (not-chosen (a .p) (isLent (a .index .now)) (arrivalsOf (a .mode) (a .image .now) (a .marks .now) (a .p))
+          (le-ltb 0 (length (a .index .now)) (omega (arith, c .if1 .taken)))) (puts-none _ _),
+      omega arith,
+    )
 
 -- an index is lent
 lent : (e : tie.Else1) → isLent (index e) ≡ true
@@ -55,7 +58,9 @@ named : (f : tie.After-first) → let e = f .before in let q = f .first .result 
     (q ≡ nextNamer (mode e) (image e) (marks e) (p e) q) × (nextHeld (mode e) (image e) (marks e) (p e) q ≡ nextHeld (mode e) (image e) (marks e) (p e) 0)
 named f =
     let e = f .before in
-    chain-first (mode e) (image e) (marks e) (bytes e) (p e) (namesHeld (mode e) (image e) (marks e) (p e)) (held-fewer (mode e) (image e) (marks e) (bytes e) (p e)) (start e .pre .2) (f .first .result) (f .first .ensures ∙ ap (λ (l : List ℕ). firstIn l (p e)) (start e .pre .3 (lent e)))
+    chain-first (mode e) (image e) (marks e) (bytes e) (p e) (namesHeld (mode e) (image e) (marks e) (p e))
+    (held-fewer (mode e) (image e) (marks e) (bytes e) (p e)) (start e .pre .2) (f .first .result)
+    (f .first .ensures ∙ ap (λ (l : List ℕ). firstIn l (p e)) (start e .pre .3 (lent e)))
 
 held : (h : tie.After-held-from) → let e = h .before .before in h .held-from .result ≡ nextHeld (mode e) (image e) (marks e) (p e) 0
 held h = h .held-from .ensures ∙ named (h .before) .1
@@ -69,7 +74,8 @@ lowest n =
     let e = else n in
     let f = n .before in
     let h = f .before in
-    n .lower .ensures ∙ lower-arrival (mode e) (image e) (marks e) (bytes e) (p e) (start e .pre .2) 0 (h .held-from .result) (f .next-fall .result) (held h) (f .next-fall .ensures)
+    n .lower .ensures ∙ lower-arrival (mode e) (image e) (marks e) (bytes e) (p e) (start e .pre .2) 0 (h .held-from .result) (f .next-fall .result) (held h)
+    (f .next-fall .ensures)
 
 first : (n : tie.After-lower) → let e = else n in Next (mode e) (image e) (marks e) (p e) 0 (n .lower .result)
 first n = let e = else n in next-is (mode e) (image e) (marks e) (p e) (start e .pre .1) 0 (n .lower .result) (lowest n)
@@ -80,8 +86,11 @@ all n = let e = else n in sym (first n .same ∙ all-left (mode e) (image e) (ma
 returns-2 : tie.Need-returns-2
 returns-2 c =
     let n = c .before in
-    let e = else n in
-    (puts-as (no-arrivals (p e) (isLent (index e)) (arrivalsOf (mode e) (image e) (marks e) (p e)) (lent e) (all n ∙ none-left (mode e) (image e) (marks e) (p e) (n .lower .result) (c .if2 .taken))) (puts-none _ _), omega arith)
+    let e = else n in (
+      puts-as (no-arrivals (p e) (isLent (index e)) (arrivalsOf (mode e) (image e) (marks e) (p e)) (lent e)
+          (all n ∙ none-left (mode e) (image e) (marks e) (p e) (n .lower .result) (c .if2 .taken))) (puts-none _ _),
+      omega arith,
+    )
 
 put-arrived-requires : tie.Need-put-arrived-requires
 put-arrived-requires c κs =
@@ -102,8 +111,12 @@ returns-3 c =
     let q : ℕ = n .lower .result in
     let t : q < length (image e) = d .if2 .left in
     let h : j .put-start .result ≤ start e .args .at + 6 = puts-begin (p e) (j .put-start .ensures) in
-    let g : k .put-arrived .result ≤ j .put-start .result + 327681 = k .put-arrived .ensures .1 in
-    (puts-as (arrivals (p e) (isLent (index e)) (arrivalsOf (mode e) (image e) (marks e) (p e)) (lent e) q (leftFrom (mode e) (image e) (marks e) (p e) (q + 1)) (all n ∙ first n .head t)) (puts-then (j .put-start .ensures) (k .put-arrived .ensures .0)), omega arith)
+    let g : k .put-arrived .result ≤ j .put-start .result + 327681 = k .put-arrived .ensures .1 in (
+      puts-as (arrivals (p e) (isLent (index e)) (arrivalsOf (mode e) (image e) (marks e) (p e)) (lent e) q
+          (leftFrom (mode e) (image e) (marks e) (p e) (q + 1))
+          (all n ∙ first n .head t)) (puts-then (j .put-start .ensures) (k .put-arrived .ensures .0)),
+      omega arith,
+    )
 
 pub put-arrivals-spec : {M : Type 1} → statement M
 put-arrivals-spec =

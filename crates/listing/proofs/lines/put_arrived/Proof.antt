@@ -56,7 +56,8 @@ bytes : (s : tie.After-slice-known Inv-loop μ-loop) → OfBytes (image s)
 bytes s = (λ i. s .before .before .before .shared-slice-known .given i .fits, start s .pre .1)
 
 -- the lower of both is the next arrival
-lowest : (s : tie.After-slice-known Inv-loop μ-loop) (k c f q : ℕ) → c ≡ nextHeld (mode s) (image s) (marks s) (p s) k → f ≡ nextFall (mode s) (image s) (marks s) (p s) k → q ≡ cond (ltb c f) c f → q ≡ nextArrival (mode s) (image s) (marks s) (p s) k
+lowest : (s : tie.After-slice-known Inv-loop μ-loop) (k c f q : ℕ) → c ≡ nextHeld (mode s) (image s) (marks s) (p s) k
+    → f ≡ nextFall (mode s) (image s) (marks s) (p s) k → q ≡ cond (ltb c f) c f → q ≡ nextArrival (mode s) (image s) (marks s) (p s) k
 lowest s k c f q e d g = g ∙ lower-arrival (mode s) (image s) (marks s) (bytes s) (p s) (start s .pre .3) k c f e d
 
 loop-holds : tie.Need-loop-holds Inv-loop μ-loop
@@ -67,8 +68,15 @@ loop-holds c =
     let q : ℕ = c .lower .result in
     let l = lowest s 0 (a .named) (a .falls) q (v .4) (v .5) (c .lower .ensures) in
     let n = next-is (mode s) (image s) (marks s) (p s) (v .1) 0 q l in
-    let e : leftFrom (mode s) (image s) (marks s) (p s) q ≡ arrivalsOf (mode s) (image s) (marks s) (p s) = n .same ∙ all-left (mode s) (image s) (marks s) (p s) in
-    (refl, omega (arith, ap length e, few (mode s) (image s) (marks s) (p s), v .1), going-from (a .out .now) (a .at) (ap text e), n .head, held-kept (mode s) (image s) (marks s) (bytes s) (p s) (v .3) 0 q (a .named) l (v .4), fall-kept (mode s) (image s) (marks s) (bytes s) (p s) (v .3) 0 q (a .falls) l (v .5))
+    let e : leftFrom (mode s) (image s) (marks s) (p s) q ≡ arrivalsOf (mode s) (image s) (marks s) (p s) =
+    n .same ∙ all-left (mode s) (image s) (marks s) (p s) in (
+      refl,
+      omega (arith, ap length e, few (mode s) (image s) (marks s) (p s), v .1),
+      going-from (a .out .now) (a .at) (ap text e),
+      n .head,
+      held-kept (mode s) (image s) (marks s) (bytes s) (p s) (v .3) 0 q (a .named) l (v .4),
+      fall-kept (mode s) (image s) (marks s) (bytes s) (p s) (v .3) 0 q (a .falls) l (v .5),
+    )
 
 -- one turn
 abbrev held : tie.After-lower2 Inv-loop μ-loop → tie.After-held-past Inv-loop μ-loop
@@ -84,15 +92,18 @@ abbrev known : tie.After-lower2 Inv-loop μ-loop → tie.After-slice-known Inv-l
 known c = turning c .before .before .before
 
 -- the arrival after q
-arrives-next : (c : tie.After-lower2 Inv-loop μ-loop) → let s = known c in c .lower2 .result ≡ nextArrival (mode s) (image s) (marks s) (p s) (turning c .before .loop .q + 1)
+arrives-next : (c : tie.After-lower2 Inv-loop μ-loop) → let s = known c in
+    c .lower2 .result ≡ nextArrival (mode s) (image s) (marks s) (p s) (turning c .before .loop .q + 1)
 arrives-next c =
-    lowest (known c) (turning c .before .loop .q + 1) (held c .held-past .result) (c .before .fall-past .result) (c .lower2 .result) (held c .held-past .ensures) (c .before .fall-past .ensures) (c .lower2 .ensures)
+    lowest (known c) (turning c .before .loop .q + 1) (held c .held-past .result) (c .before .fall-past .result) (c .lower2 .result)
+    (held c .held-past .ensures) (c .before .fall-past .ensures) (c .lower2 .ensures)
 
 next : (c : tie.After-lower2 Inv-loop μ-loop) → let s = known c in Next (mode s) (image s) (marks s) (p s) (turning c .before .loop .q + 1) (c .lower2 .result)
 next c = let s = known c in next-is (mode s) (image s) (marks s) (p s) (start s .pre .1) (turning c .before .loop .q + 1) (c .lower2 .result) (arrives-next c)
 
 -- one less is left
-turn : (c : tie.After-lower2 Inv-loop μ-loop) → let s = known c in let l = turning c .before in leftFrom (mode s) (image s) (marks s) (p s) (l .loop .q) ≡ l .loop .q ∷ leftFrom (mode s) (image s) (marks s) (p s) (c .lower2 .result)
+turn : (c : tie.After-lower2 Inv-loop μ-loop) → let s = known c in let l = turning c .before in
+    leftFrom (mode s) (image s) (marks s) (p s) (l .loop .q) ≡ l .loop .q ∷ leftFrom (mode s) (image s) (marks s) (p s) (c .lower2 .result)
 turn c =
     let t = turning c in
     let l = t .before in
@@ -108,8 +119,15 @@ loop-again c =
     let v = l .loop .inv in
     let q : ℕ = c .lower2 .result in
     let j : ℕ = l .loop .q + 1 in
-    let h : k .put-place .result ≤ l .loop .a + 5 = puts-place (l .loop .q) (k .put-place .ensures) in
-    (puts-length (k .put-place .ensures) ∙ v .0, omega (arith, h, v .1, ap length (turn c)), going-next (v .2) (ap text (turn c)) (k .put-place .ensures), next c .head, held-kept (mode s) (image s) (marks s) (bytes s) (p s) (start s .pre .3) j q (held c .held-past .result) (arrives-next c) (held c .held-past .ensures), fall-kept (mode s) (image s) (marks s) (bytes s) (p s) (start s .pre .3) j q (c .before .fall-past .result) (arrives-next c) (c .before .fall-past .ensures))
+    let h : k .put-place .result ≤ l .loop .a + 5 = puts-place (l .loop .q) (k .put-place .ensures) in (
+      puts-length (k .put-place .ensures) ∙ v .0,
+      omega (arith, h, v .1, ap length (turn c)),
+      going-next (v .2) (ap text (turn c)) (k .put-place .ensures),
+      next c .head,
+      held-kept (mode s) (image s) (marks s) (bytes s) (p s) (start s .pre .3) j q (held c .held-past .result) (arrives-next c) (held c .held-past .ensures),
+      fall-kept (mode s) (image s) (marks s) (bytes s) (p s) (start s .pre .3) j q (c .before .fall-past .result) (arrives-next c)
+          (c .before .fall-past .ensures),
+    )
 
 held-past-requires : tie.Need-held-past-requires Inv-loop μ-loop
 held-past-requires c κs =
@@ -136,7 +154,8 @@ returns c =
     let e = k .before .before in
     let l = e .before in
     let s = l .before .before in
-    let z : text (leftFrom (mode s) (image s) (marks s) (p s) (l .loop .q)) ≡ 10 ∷ [] = ap text (none-left (mode s) (image s) (marks s) (p s) (l .loop .q) (e .loop-test .left)) in
+    let z : text (leftFrom (mode s) (image s) (marks s) (p s) (l .loop .q)) ≡ 10 ∷ [] =
+    ap text (none-left (mode s) (image s) (marks s) (p s) (l .loop .q) (e .loop-test .left)) in
     let h : k .put-byte .result ≤ l .loop .a + 1 = puts-most (k .put-byte .ensures) (omega arith) in
     (going-over (going-next (l .loop .inv .2) z (k .put-byte .ensures)) refl, omega (arith, h, place l))
 

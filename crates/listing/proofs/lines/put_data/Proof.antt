@@ -53,8 +53,11 @@ returns-2 c =
     let z = e .before in
     let a = start z .args in
     let h : k .put-bytes .result ≤ a .at + 131079 = filled k in
-    let g : n .put-byte .result ≤ k .put-bytes .result + 1 = puts-most (n .put-byte .ensures) (omega arith) in
-    (puts-as (data-shown (a .p) (a .bytes .now) (z .all-zero .result) (z .all-zero .ensures) (e .if1 .left)) (puts-then (j .put-start .ensures) (puts-then (k .put-bytes .ensures) (n .put-byte .ensures))), omega arith)
+    let g : n .put-byte .result ≤ k .put-bytes .result + 1 = puts-most (n .put-byte .ensures) (omega arith) in (
+      puts-as (data-shown (a .p) (a .bytes .now) (z .all-zero .result) (z .all-zero .ensures) (e .if1 .left))
+          (puts-then (j .put-start .ensures) (puts-then (k .put-bytes .ensures) (n .put-byte .ensures))),
+      omega arith,
+    )
 
 pub put-data-spec : {M : Type 1} → statement M
 put-data-spec =

@@ -38,7 +38,8 @@ returns-2 c =
     let a = start e .args in
     let g : k .put-instr .result ≤ a .at + 2 ^ 18 = k .put-instr .ensures .1 in (
       puts-as
-          (ap (λ (s : List ℕ). textOf (a .mode) (a .p) s (decodeAnswer s)) (to-end (a .image .now) (a .p)) ∙ text-here (a .image .now) (a .p) (inside e) (a .mode))
+          (ap (λ (s : List ℕ). textOf (a .mode) (a .p) s (decodeAnswer s)) (to-end (a .image .now) (a .p))
+          ∙ text-here (a .image .now) (a .p) (inside e) (a .mode))
           (k .put-instr .ensures .0),
       omega arith,
     )

@@ -57,4 +57,5 @@ returns-3 c =
 pub put-instr-spec : {M : Type 1} → statement M
 put-instr-spec =
     tie.close
-    (tie.spec (λ c κs. search needs) (λ c. search needs) put-parts-requires (λ c. search needs) (λ c. search needs) (λ c. search needs) returns returns-2 returns-3)
+    (tie.spec (λ c κs. search needs) (λ c. search needs) put-parts-requires (λ c. search needs) (λ c. search needs) (λ c. search needs) returns
+    returns-2 returns-3)

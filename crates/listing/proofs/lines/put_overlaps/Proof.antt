@@ -19,8 +19,11 @@ found n = overlapsOf (start n .args .image .now) (start n .args .marks .now) (st
 returns : tie.Need-returns
 returns c =
     let n = c .before in
-    let o = n .before in
-    (puts-as (no-overlaps (start n .args .p) (o .overlaps-at .result) (found n) (o .overlaps-at .ensures) (n .count .result) (n .count .ensures) (c .if1 .taken)) (puts-none _ _), omega arith)
+    let o = n .before in (
+      puts-as (no-overlaps (start n .args .p) (o .overlaps-at .result) (found n) (o .overlaps-at .ensures) (n .count .result) (n .count .ensures)
+          (c .if1 .taken)) (puts-none _ _),
+      omega arith,
+    )
 
 begun : (j : tie.After-put-start) → j .put-start .result ≤ start (j .before .before .before) .args .at + 6
 begun j = puts-begin (start (j .before .before .before) .args .p) (j .put-start .ensures)
@@ -41,8 +44,11 @@ returns-2 c =
     let n = e .before in
     let o = n .before in
     let h : j .put-start .result ≤ start n .args .at + 6 = begun j in
-    let g : k .put-found .result ≤ j .put-start .result + 16 = puts-most (k .put-found .ensures) (found-length (o .overlaps-at .result)) in
-    (puts-as (overlaps (start n .args .p) (o .overlaps-at .result) (found n) (o .overlaps-at .ensures) (n .count .result) (n .count .ensures) (e .if1 .left)) (puts-then (j .put-start .ensures) (k .put-found .ensures)), omega arith)
+    let g : k .put-found .result ≤ j .put-start .result + 16 = puts-most (k .put-found .ensures) (found-length (o .overlaps-at .result)) in (
+      puts-as (overlaps (start n .args .p) (o .overlaps-at .result) (found n) (o .overlaps-at .ensures) (n .count .result) (n .count .ensures) (e .if1 .left))
+          (puts-then (j .put-start .ensures) (k .put-found .ensures)),
+      omega arith,
+    )
 
 pub put-overlaps-spec : {M : Type 1} → statement M
 put-overlaps-spec =

@@ -142,7 +142,8 @@ returns c =
     let z = sized j in
     let a = start z .args in
     let h : w .put-word .result ≤ a .at + 131088 = after-word w in
-    let g : n .put-operands .result ≤ w .put-word .result + 16 = puts-most (puts-as (operands-are z) (n .put-operands .ensures)) (operands-length (firstOf (targetsAnswer (a .mode) (a .p) (i z))) (i z)) in (
+    let g : n .put-operands .result ≤ w .put-word .result + 16 =
+    puts-most (puts-as (operands-are z) (n .put-operands .ensures)) (operands-length (firstOf (targetsAnswer (a .mode) (a .p) (i z))) (i z)) in (
       puts-as
           (instr (a .mode) (a .bytes .now) (a .p) (i z) _ (operands-are z) (m .mnemonic .result) (word-is z (m .mnemonic .result) (m .mnemonic .ensures))
           _ (ap (λ (k : ℕ). take k (bytes z)) (size-is z)))

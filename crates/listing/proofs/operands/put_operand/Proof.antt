@@ -37,7 +37,8 @@ shows : (m : tie.After-number) {x : List ℕ} → x ≡ shown (t m) (kind m) (m 
 shows m e = e ∙ ap (shown (t m) (kind m)) (m .number .ensures ∙ ap natAbs (back (start m .fits .z)))
 
 -- one that is shown by its target
-aims : (m : tie.After-number) → (target (t m) ≡ shown (t m) (kind m) (natAbs (start m .args .z))) → Shows m (target (place m (toZ w32 (ofZ w32 (start m .args .z)))))
+aims : (m : tie.After-number) → (target (t m) ≡ shown (t m) (kind m) (natAbs (start m .args .z)))
+    → Shows m (target (place m (toZ w32 (ofZ w32 (start m .args .z)))))
 aims m e = ap (λ (z : ℤ). target (place m z)) (back (start m .fits .z)) ∙ e
 
 returns : tie.Need-returns

@@ -53,7 +53,8 @@ two k =
     let j = k .before .before .before .before .before in
     let s = start j in
     let p = one j in
-    let h : k .put-field2 .result ≤ j .put-field .result + 5 = five s (kinds j .kinds .result .b) (toZ w32 (ofZ w32 (s .args .v .b))) (k .put-field2 .ensures) in
+    let h : k .put-field2 .result ≤ j .put-field .result + 5 =
+    five s (kinds j .kinds .result .b) (toZ w32 (ofZ w32 (s .args .v .b))) (k .put-field2 .ensures) in
     omega arith
 
 three : (l : tie.After-put-field3) → l .put-field3 .result ≤ 2 ^ 57 + 15
@@ -62,7 +63,8 @@ three l =
     let j = k .before .before .before .before .before in
     let s = start j in
     let p = two k in
-    let h : l .put-field3 .result ≤ k .put-field2 .result + 5 = five s (kinds j .kinds .result .c) (toZ w32 (ofZ w32 (s .args .v .c))) (l .put-field3 .ensures) in
+    let h : l .put-field3 .result ≤ k .put-field2 .result + 5 =
+    five s (kinds j .kinds .result .c) (toZ w32 (ofZ w32 (s .args .v .c))) (l .put-field3 .ensures) in
     omega arith
 
 -- the text, by kinds and numbers

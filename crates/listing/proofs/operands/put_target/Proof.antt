@@ -12,7 +12,8 @@ use Rattle.listing.proofs.Showing.{outside, inside}
 use Rattle.listing.proofs.operands.put_target.Statement.{statement}
 use Rattle.listing.proofs.operands.put_target.Tie as tie
 
-named : (o : tie.After-operand-place) → let s = o .before .before in o .operand-place .result ≡ operandPlace (s .args .mode) (s .args .next) (s .args .kind) (s .args .z)
+named : (o : tie.After-operand-place) → let s = o .before .before in
+    o .operand-place .result ≡ operandPlace (s .args .mode) (s .args .next) (s .args .kind) (s .args .z)
 named o =
     let s = o .before .before in
     o .operand-place .ensures ∙ ap (operandPlace (s .args .mode) (s .args .next) (s .args .kind)) (back (s .fits .z))

@@ -37,8 +37,13 @@ loop-again c =
     let l = k .before .before .before .before in
     let bytes : List ℕ = l .before .before .before .before .before .before .before .args .bytes .now in
     let i : ℕ = l .loop .i in
-    let h : i < length bytes = k .before .before .before .loop-test .taken in
-    (omega arith, omega (arith, k .put-hex2 .ensures .next, hex2-length (getD bytes i 0), l .loop .inv .1), puts-length (k .put-hex2 .ensures) ∙ l .loop .inv .2, going-next (l .loop .inv .3) (hexes-more bytes i h) (k .put-hex2 .ensures))
+    let h : i < length bytes = k .before .before .before .loop-test .taken in (
+      omega arith,
+      omega (arith, k .put-hex2 .ensures .next, hex2-length (getD bytes i 0), l .loop .inv .1),
+      puts-length (k .put-hex2 .ensures)
+          ∙ l .loop .inv .2,
+      going-next (l .loop .inv .3) (hexes-more bytes i h) (k .put-hex2 .ensures),
+    )
 
 returns : tie.Need-returns Inv-loop μ-loop
 returns c =

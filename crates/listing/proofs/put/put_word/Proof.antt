@@ -32,8 +32,12 @@ loop-again : tie.Need-loop-again Inv-loop μ-loop
 loop-again c =
     let k = c .before .before in
     let e = k .before .before in
-    let l = e .before .before in
-    (omega arith, omega (arith, k .put-byte2 .ensures .next, l .loop .inv .1), puts-length (k .put-byte2 .ensures) ∙ l .loop .inv .2, going-next (l .loop .inv .3) (letters-more (l .loop .left) (l .loop .w) (e .before .loop-test .taken) (e .if1 .left)) (k .put-byte2 .ensures))
+    let l = e .before .before in (
+      omega arith,
+      omega (arith, k .put-byte2 .ensures .next, l .loop .inv .1),
+      puts-length (k .put-byte2 .ensures) ∙ l .loop .inv .2,
+      going-next (l .loop .inv .3) (letters-more (l .loop .left) (l .loop .w) (e .before .loop-test .taken) (e .if1 .left)) (k .put-byte2 .ensures),
+    )
 
 returns-2 : tie.Need-returns-2 Inv-loop μ-loop
 returns-2 c =

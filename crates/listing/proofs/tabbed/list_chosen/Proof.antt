@@ -27,7 +27,8 @@ returns-2 c =
     let e = j .before .before in
     let k = e .before in
     let s = start k in
-    all-written (s .args .image .now) (s .args .marks .now) (text k) (s .args .room .now) (s .pre) (j .put-chosen .ensures) (k .needed-chosen .ensures) (e .if1 .left)
+    all-written (s .args .image .now) (s .args .marks .now) (text k) (s .args .room .now) (s .pre) (j .put-chosen .ensures) (k .needed-chosen .ensures)
+    (e .if1 .left)
 
 pub list-chosen-spec : {M : Type 1} → statement M
 list-chosen-spec = tie.close (tie.spec (λ c κs. c .before .before .before .pre) returns (λ c κs. start (c .before .before) .pre) (λ c. search needs) returns-2)

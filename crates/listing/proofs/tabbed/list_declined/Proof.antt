@@ -27,7 +27,9 @@ returns-2 c =
     let e = j .before .before in
     let k = e .before in
     let s = start k in
-    all-written (s .args .image .now) (s .args .marks .now) (text k) (s .args .room .now) (s .pre) (j .put-declined .ensures) (k .needed-declined .ensures) (e .if1 .left)
+    all-written (s .args .image .now) (s .args .marks .now) (text k) (s .args .room .now) (s .pre) (j .put-declined .ensures) (k .needed-declined .ensures)
+    (e .if1 .left)
 
 pub list-declined-spec : {M : Type 1} → statement M
-list-declined-spec = tie.close (tie.spec (λ c κs. c .before .before .before .pre) returns (λ c κs. start (c .before .before) .pre) (λ c. search needs) returns-2)
+list-declined-spec = tie.close
+    (tie.spec (λ c κs. c .before .before .before .pre) returns (λ c κs. start (c .before .before) .pre) (λ c. search needs) returns-2)

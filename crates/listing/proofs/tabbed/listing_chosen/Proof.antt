@@ -19,7 +19,8 @@ returns : tie.Need-returns
 returns c =
     let w = c .before in
     let a = start w .args in
-    refused-all (a .image .now) (a .marks .now) (listingOf (a .mode) (a .image .now) (a .marks .now) Chosen) (a .room .now) (w .before .check .result) (w .before .check .ensures)
+    refused-all (a .image .now) (a .marks .now) (listingOf (a .mode) (a .image .now) (a .marks .now) Chosen) (a .room .now) (w .before .check .result)
+    (w .before .check .ensures)
     (sym (w .is-written .ensures) ∙ not-true _ (c .if1 .taken))
 
 sound : (e : tie.Else1) → let a = start (e .before) .args in Sound (a .image .now) (a .marks .now)

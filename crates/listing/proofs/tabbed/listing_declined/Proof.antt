@@ -19,7 +19,8 @@ returns : tie.Need-returns
 returns c =
     let w = c .before in
     let a = start w .args in
-    refused-all (a .image .now) (a .marks .now) (listingOf (a .mode) (a .image .now) (a .marks .now) Declined) (a .room .now) (w .before .check .result) (w .before .check .ensures)
+    refused-all (a .image .now) (a .marks .now) (listingOf (a .mode) (a .image .now) (a .marks .now) Declined) (a .room .now) (w .before .check .result)
+    (w .before .check .ensures)
     (sym (w .is-written .ensures) ∙ not-true _ (c .if1 .taken))
 
 sound : (e : tie.Else1) → let a = start (e .before) .args in Sound (a .image .now) (a .marks .now)
@@ -32,7 +33,8 @@ returns-2 : tie.Need-returns-2
 returns-2 c =
     let l = c .before .before in
     let a = start (l .before .before .before) .args in
-    same-text (a .image .now) (a .marks .now) (a .room .now) (is-listing (a .mode) (a .image .now) (a .marks .now) Declined false refl) (l .list-declined .ensures)
+    same-text (a .image .now) (a .marks .now) (a .room .now) (is-listing (a .mode) (a .image .now) (a .marks .now) Declined false refl)
+    (l .list-declined .ensures)
 
 pub listing-declined-spec : {M : Type 1} → statement M
 listing-declined-spec = tie.close (tie.spec (λ c κs. search needs) (λ c κs. search needs) returns (λ c κs. sound (c .before)) (λ c. search needs) returns-2)

@@ -12,14 +12,16 @@ returns c =
     let l = c .before .before in
     let t = l .before .before in
     let a = c .before .before .before .before .before .before .before .before .before .args in
-    same-text (a .image .now) (a .marks .now) (a .room .now) (ap (listingOf (a .mode) (a .image .now) (a .marks .now)) (sym (t .enum-told .given .1))) (l .listing-chosen .ensures)
+    same-text (a .image .now) (a .marks .now) (a .room .now) (ap (listingOf (a .mode) (a .image .now) (a .marks .now)) (sym (t .enum-told .given .1)))
+    (l .listing-chosen .ensures)
 
 returns-2 : tie.Need-returns-2
 returns-2 c =
     let l = c .before .before in
     let t = l .before .before in
     let a = c .before .before .before .before .before .before .before .before .before .args in
-    same-text (a .image .now) (a .marks .now) (a .room .now) (ap (listingOf (a .mode) (a .image .now) (a .marks .now)) (sym (t .enum-told2 .given .1))) (l .listing-declined .ensures)
+    same-text (a .image .now) (a .marks .now) (a .room .now) (ap (listingOf (a .mode) (a .image .now) (a .marks .now)) (sym (t .enum-told2 .given .1)))
+    (l .listing-declined .ensures)
 
 pub listing-with-spec : {M : Type 1} → statement M
 listing-with-spec =

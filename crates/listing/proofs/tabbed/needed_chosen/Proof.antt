@@ -27,4 +27,5 @@ returns c =
     (text-width (a .mode) (a .image .now) (a .marks .now) (λ n. k .before .shared-slice-known .given n .fits) true) (c .if1 .taken)
 
 pub needed-chosen-spec : {M : Type 1} → statement M
-needed-chosen-spec = tie.close (tie.spec mul-most returns (λ c. search needs) (λ c κs. c .before .before .before .before .pre) (λ c. puts-needed (c .before .put-chosen .ensures)))
+needed-chosen-spec = tie.close
+    (tie.spec mul-most returns (λ c. search needs) (λ c κs. c .before .before .before .before .pre) (λ c. puts-needed (c .before .put-chosen .ensures)))

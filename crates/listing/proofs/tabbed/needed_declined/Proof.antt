@@ -27,4 +27,5 @@ returns c =
     (text-width (a .mode) (a .image .now) (a .marks .now) (λ n. k .before .shared-slice-known .given n .fits) false) (c .if1 .taken)
 
 pub needed-declined-spec : {M : Type 1} → statement M
-needed-declined-spec = tie.close (tie.spec mul-most returns (λ c. search needs) (λ c κs. c .before .before .before .before .pre) (λ c. puts-needed (c .before .put-declined .ensures)))
+needed-declined-spec = tie.close
+    (tie.spec mul-most returns (λ c. search needs) (λ c κs. c .before .before .before .before .pre) (λ c. puts-needed (c .before .put-declined .ensures)))

@@ -81,8 +81,12 @@ sized i = sym (ap length (again i) ∙ new-long i)
 put-walk-requires : tie.Need-put-walk-requires
 put-walk-requires c κs =
     let i = c .before .before .before .before .before in
-    let k = made i in
-    (fits k, covered (image k) (marks k) (start k .pre), (λ h. no-labels (mode k) (image k) (marks k) (take (n k) (whole i)) (again i ∙ is-index i) h), λ h. again i ∙ is-index i)
+    let k = made i in (
+      fits k,
+      covered (image k) (marks k) (start k .pre),
+      (λ h. no-labels (mode k) (image k) (marks k) (take (n k) (whole i)) (again i ∙ is-index i) h),
+      λ h. again i ∙ is-index i,
+    )
 
 returns : tie.Need-returns
 returns c =

@@ -36,7 +36,8 @@ labels l = l .before .target-marks .last .1 .1 .1 .0
 labels-front : (l : tie.After-labels2) → take (length (image l)) (labels l) ≡ labelsOf (mode l) (image l) (marks l)
 labels-front l =
     let b = roomed l in
-    in-front (image l) (marks l) (start l .pre) (labelsOf (mode l) (image l) (marks l)) (labels-length (mode l) (image l) (marks l)) (b .bytes .result) (b .bytes .ensures) (labels l) (l .before .target-marks .ensures .1)
+    in-front (image l) (marks l) (start l .pre) (labelsOf (mode l) (image l) (marks l)) (labels-length (mode l) (image l) (marks l)) (b .bytes .result)
+    (b .bytes .ensures) (labels l) (l .before .target-marks .ensures .1)
 
 labels-long : (l : tie.After-labels2) → length (image l) ≤ length (labels l)
 labels-long l = long-enough (labels l) (labelsOf (mode l) (image l) (marks l)) (length (image l)) (labels-front l) (labels-length (mode l) (image l) (marks l))

@@ -18,7 +18,8 @@ use Rattle.listing.proofs.walk.label_at.Statement.{statement}
 use Rattle.listing.proofs.walk.label_at.Tie as tie
 
 -- no index is lent, so target marks are
-lent-labels : (t : tie.Then1) → let s = t .before .before .before .before .before in let a = s .args in a .labels .now ≡ labelsOf (a .mode) (a .image .now) (a .marks .now)
+lent-labels : (t : tie.Then1) → let s = t .before .before .before .before .before in let a = s .args in
+    a .labels .now ≡ labelsOf (a .mode) (a .image .now) (a .marks .now)
 lent-labels t =
     let s = t .before .before .before .before .before in
     s .pre .2 (le-ltb 0 (length (s .args .index .now)) (omega (arith, t .if1 .taken)))
@@ -48,7 +49,9 @@ returns-2 c =
     let e = c .before in
     let s = e .before .before .before .before .before in
     let a = s .args in
-    byte (c .is-labelled .result) ∙ ap bit (c .is-labelled .ensures) ∙ label-bit (a .mode) (a .image .now) (a .marks .now) (λ i. e .before .before .before .before .shared-slice-known .given i .fits, s .pre .0) (a .p) (s .pre .1)
+    byte (c .is-labelled .result) ∙ ap bit (c .is-labelled .ensures)
+    ∙ label-bit (a .mode) (a .image .now) (a .marks .now) (λ i. e .before .before .before .before .shared-slice-known .given i .fits, s .pre .0) (a .p)
+    (s .pre .1)
 
 pub label-at-spec : {M : Type 1} → statement M
 label-at-spec = tie.close (tie.spec (λ c. inside (c .before)) returns is-labelled-requires (λ c. tt) returns-2)

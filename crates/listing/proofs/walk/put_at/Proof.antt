@@ -26,8 +26,11 @@ returns c =
     let i = k .before .before in
     let t = i .before in
     let a = start t .args in
-    let e : traced t ≡ true = sym (t .is-traced .ensures) ∙ i .if1 .taken in
-    (puts-as (print-code (a .mode) (a .image .now) (a .marks .now) (labelsOf (a .mode) (a .image .now) (a .marks .now)) (isLent (a .index .now)) (a .p) e) (k .put-code .ensures .0), k .put-code .ensures .1)
+    let e : traced t ≡ true = sym (t .is-traced .ensures) ∙ i .if1 .taken in (
+      puts-as (print-code (a .mode) (a .image .now) (a .marks .now) (labelsOf (a .mode) (a .image .now) (a .marks .now)) (isLent (a .index .now)) (a .p) e)
+          (k .put-code .ensures .0),
+      k .put-code .ensures .1,
+    )
 
 put-data-requires : tie.Need-put-data-requires
 put-data-requires c κs =
@@ -43,8 +46,11 @@ returns-2 c =
     let s = start t in
     let a = s .args in
     let e : traced t ≡ false = sym (t .is-traced .ensures) ∙ i .if1 .left in
-    let g : k .put-data .result ≤ a .at + 2 ^ 20 = k .put-data .ensures .1 in
-    (puts-as (print-run (a .mode) (a .image .now) (a .marks .now) (labelsOf (a .mode) (a .image .now) (a .marks .now)) (isLent (a .index .now)) (a .p) e _ (s .pre .4)) (k .put-data .ensures .0), omega arith)
+    let g : k .put-data .result ≤ a .at + 2 ^ 20 = k .put-data .ensures .1 in (
+      puts-as (print-run (a .mode) (a .image .now) (a .marks .now) (labelsOf (a .mode) (a .image .now) (a .marks .now)) (isLent (a .index .now)) (a .p) e _
+          (s .pre .4)) (k .put-data .ensures .0),
+      omega arith,
+    )
 
 pub put-at-spec : {M : Type 1} → statement M
 put-at-spec =

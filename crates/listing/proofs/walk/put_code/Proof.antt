@@ -27,7 +27,8 @@ overlapped o =
     let g : o .put-overlaps .result ≤ l .put-label .result + 2 ^ 20 = o .put-overlaps .ensures .1 in
     omega arith
 
-arrived : (a : tie.After-put-arrivals) → a .put-arrivals .result ≤ start (a .before .before .before .before .before .before .before .before) .args .at + (7 + 2 ^ 21)
+arrived : (a : tie.After-put-arrivals) → a .put-arrivals .result ≤ start (a .before .before .before .before .before .before .before .before) .args .at
+    + (7 + 2 ^ 21)
 arrived a =
     let o = a .before .before .before .before in
     let l = o .before .before .before .before in
@@ -75,8 +76,11 @@ returns c =
     let o = a .before .before .before .before in
     let l = o .before .before .before .before in
     let h : a .put-arrivals .result ≤ start l .args .at + (7 + 2 ^ 21) = arrived a in
-    let g : n .put-here .result ≤ a .put-arrivals .result + 2 ^ 20 = n .put-here .ensures .1 in
-    (puts-then (puts-as (ap (λ (v : ℕ). cond (eqb v 0) [] (labelLine (start l .args .p))) (l .before .label-at .ensures)) (l .put-label .ensures)) (puts-then (o .put-overlaps .ensures .0) (puts-then (a .put-arrivals .ensures .0) (n .put-here .ensures .0))), omega arith)
+    let g : n .put-here .result ≤ a .put-arrivals .result + 2 ^ 20 = n .put-here .ensures .1 in (
+      puts-then (puts-as (ap (λ (v : ℕ). cond (eqb v 0) [] (labelLine (start l .args .p))) (l .before .label-at .ensures)) (l .put-label .ensures))
+          (puts-then (o .put-overlaps .ensures .0) (puts-then (a .put-arrivals .ensures .0) (n .put-here .ensures .0))),
+      omega arith,
+    )
 
 pub put-code-spec : {M : Type 1} → statement M
 put-code-spec =

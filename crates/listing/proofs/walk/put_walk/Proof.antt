@@ -52,8 +52,13 @@ labels l = labelsOf (mode l) (image l) (marks l)
 
 loop-holds : tie.Need-loop-holds Inv-loop μ-loop
 loop-holds c =
-    let a = c .before .before .before .before .before .args in
-    (omega arith, omega arith, refl, masks-start (a .image .now) (a .marks .now), going-from (a .out .now) 0 (left-text (a .mode) (a .image .now) (a .marks .now) (isLent (a .index .now))))
+    let a = c .before .before .before .before .before .args in (
+      omega arith,
+      omega arith,
+      refl,
+      masks-start (a .image .now) (a .marks .now),
+      going-from (a .out .now) 0 (left-text (a .mode) (a .image .now) (a .marks .now) (isLent (a .index .now))),
+    )
 
 -- the position is inside the image and the marks
 record Inside (image marks : List ℕ) (p : ℕ) : Type 0 where
@@ -77,13 +82,15 @@ bytes : (l : tie.At-loop Inv-loop μ-loop) → Small (image l)
 bytes l = λ n. l .before .before .before .before .before .shared-slice-known .given n .fits
 
 -- the run that is told from the marks is the position's
-run-is : (r : tie.After-unmasked-run Inv-loop μ-loop) → let l = r .before .before .before in r .unmasked-run .result .now ≡ runAt (image l) (marks l) (l .loop .p)
+run-is : (r : tie.After-unmasked-run Inv-loop μ-loop) → let l = r .before .before .before in
+    r .unmasked-run .result .now ≡ runAt (image l) (marks l) (l .loop .p)
 run-is r =
     let e = r .before in
     let t = e .before in
     let l = t .before in
     let p : ℕ = l .loop .p in
-    r .unmasked-run .ensures ∙ ap (unmaskedRun (image l) (marks l) p) (e .end-with .ensures) ∙ run-here (image l) (marks l) (bytes l) p (l .loop .end) (inside t .byte) (l .loop .inv .3)
+    r .unmasked-run .ensures ∙ ap (unmaskedRun (image l) (marks l) p) (e .end-with .ensures)
+    ∙ run-here (image l) (marks l) (bytes l) p (l .loop .end) (inside t .byte) (l .loop .inv .3)
 
 put-at-requires : tie.Need-put-at-requires Inv-loop μ-loop
 put-at-requires c κs =
@@ -108,7 +115,8 @@ passes c =
     let p : ℕ = l .loop .p in
     let h = inside t .byte in
     c .step-by .ensures
-    ∙ step-run (image l) (marks l) p (λ e. traced-masked (image l) (marks l) (bytes l) p (l .loop .end) h (l .loop .inv .3) (sym (by-mark (image l) (marks l) p h) ∙ e)) _ (run-is (walked c))
+    ∙ step-run (image l) (marks l) p
+    (λ e. traced-masked (image l) (marks l) (bytes l) p (l .loop .end) h (l .loop .inv .3) (sym (by-mark (image l) (marks l) p h) ∙ e)) _ (run-is (walked c))
 
 -- a step of at least one position, which stays within the image
 step : (c : tie.After-step-by Inv-loop μ-loop) → let l = turn c .before in (1 ≤ c .step-by .result) × (l .loop .p + c .step-by .result ≤ length (image l))
@@ -119,7 +127,8 @@ step c =
     (omega (arith, e), omega (arith, e, step-fits (image l) (marks l) (mask l) (l .loop .p) (inside t .byte)))
 
 -- where the code ends past the step
-over : (c : tie.After-step-by Inv-loop μ-loop) → let r = walked c in let l = turn c .before in Masks (image l) (marks l) (l .loop .p + c .step-by .result) (r .before .end-with .result)
+over : (c : tie.After-step-by Inv-loop μ-loop) → let r = walked c in let l = turn c .before in
+    Masks (image l) (marks l) (l .loop .p + c .step-by .result) (r .before .end-with .result)
 over c =
     let r = walked c in
     let e = r .before in
@@ -130,7 +139,8 @@ over c =
     let s : c .step-by .result ≡ 1 + (length (unmaskedRun (image l) (marks l) p end) - 1) =
     c .step-by .ensures ∙ ap (λ (u : List ℕ). 1 + (length u - 1)) (r .unmasked-run .ensures ∙ ap (unmaskedRun (image l) (marks l) p) (e .end-with .ensures)) in
     let M = masks-over (image l) (marks l) (bytes l) p (l .loop .end) (inside t .byte) (l .loop .inv .3) in
-    subst (λ (x : ℕ). Masks (image l) (marks l) (p + c .step-by .result) x) (sym (e .end-with .ensures)) (subst (λ (x : ℕ). Masks (image l) (marks l) (p + x) end) (sym s) M)
+    subst (λ (x : ℕ). Masks (image l) (marks l) (p + c .step-by .result) x) (sym (e .end-with .ensures))
+    (subst (λ (x : ℕ). Masks (image l) (marks l) (p + x) end) (sym s) M)
 
 loop-again : tie.Need-loop-again Inv-loop μ-loop
 loop-again c =
@@ -139,13 +149,20 @@ loop-again c =
     let l = t .before in
     let v = l .loop .inv in
     let s = step c in
-    let g : k .put-at .result ≤ l .loop .at + 4194304 = k .put-at .ensures .1 in
-    (s .1, omega (arith, g, v .1, s .0), puts-length (k .put-at .ensures .0) ∙ v .2, over c, going-next (v .4) (left-next (mode l) (image l) (marks l) (mask l) (labels l) (isLent (start l .args .index .now)) (l .loop .p) (c .step-by .result) (inside t .byte) (passes c)) (k .put-at .ensures .0))
+    let g : k .put-at .result ≤ l .loop .at + 4194304 = k .put-at .ensures .1 in (
+      s .1,
+      omega (arith, g, v .1, s .0),
+      puts-length (k .put-at .ensures .0) ∙ v .2,
+      over c,
+      going-next (v .4) (left-next (mode l) (image l) (marks l) (mask l) (labels l) (isLent (start l .args .index .now)) (l .loop .p) (c .step-by .result)
+          (inside t .byte) (passes c)) (k .put-at .ensures .0),
+    )
 
 returns : tie.Need-returns Inv-loop μ-loop
 returns c =
     let l = c .before in
-    going-over (l .loop .inv .4) (left-end (mode l) (image l) (marks l) (mask l) (labels l) (isLent (start l .args .index .now)) (l .loop .p) (c .loop-test .left))
+    going-over (l .loop .inv .4) (left-end (mode l) (image l) (marks l) (mask l) (labels l) (isLent (start l .args .index .now)) (l .loop .p)
+    (c .loop-test .left))
 
 pub put-walk-spec : {M : Type 1} → statement M
 put-walk-spec =

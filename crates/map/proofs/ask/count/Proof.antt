@@ -23,13 +23,15 @@ unfolding countAnswer
 returns c =
     let w = c .before in
     let a = start w .args in
-    refused-all (a .words .now) (a .length) (out w) (a .begin) _ (w .before .check .result) (w .before .check .ensures) (sym (w .is-told .ensures) ∙ not-true _ (c .if1 .taken))
+    refused-all (a .words .now) (a .length) (out w) (a .begin) _ (w .before .check .result) (w .before .check .ensures)
+    (sym (w .is-told .ensures) ∙ not-true _ (c .if1 .taken))
 
 accepted : (c : tie.Else1) → let a = start (c .before) .args in Good (a .words .now) (a .length) (out (c .before))
 accepted c =
     let w = c .before in
     let a = start w .args in
-    good (a .words .now) (a .length) (out w) (a .begin) (w .before .check .result) (w .before .check .ensures) (sym (w .is-told .ensures) ∙ not-false _ (c .if1 .left))
+    good (a .words .now) (a .length) (out w) (a .begin) (w .before .check .result) (w .before .check .ensures)
+    (sym (w .is-told .ensures) ∙ not-false _ (c .if1 .left))
 
 ones-in-requires : tie.Need-ones-in-requires
 ones-in-requires c κs =

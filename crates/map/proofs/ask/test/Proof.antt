@@ -25,13 +25,15 @@ unfolding testAnswer
 returns c =
     let w = c .before in
     let a = start w .args in
-    refused-all (a .words .now) (a .length) (leb (a .length) (a .p)) (a .p) _ (w .before .check .result) (w .before .check .ensures) (sym (w .is-told .ensures) ∙ not-true _ (c .if1 .taken))
+    refused-all (a .words .now) (a .length) (leb (a .length) (a .p)) (a .p) _ (w .before .check .result) (w .before .check .ensures)
+    (sym (w .is-told .ensures) ∙ not-true _ (c .if1 .taken))
 
 accepted : (c : tie.Else1) → let a = start (c .before) .args in Good (a .words .now) (a .length) (leb (a .length) (a .p))
 accepted c =
     let w = c .before in
     let a = start w .args in
-    good (a .words .now) (a .length) (leb (a .length) (a .p)) (a .p) (w .before .check .result) (w .before .check .ensures) (sym (w .is-told .ensures) ∙ not-false _ (c .if1 .left))
+    good (a .words .now) (a .length) (leb (a .length) (a .p)) (a .p) (w .before .check .result) (w .before .check .ensures)
+    (sym (w .is-told .ensures) ∙ not-false _ (c .if1 .left))
 
 is-code-requires : tie.Need-is-code-requires
 is-code-requires c κs =

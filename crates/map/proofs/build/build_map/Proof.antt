@@ -35,7 +35,8 @@ shown c = packed (maskOf (image c) (marks c))
 returns : tie.Need-returns
 returns c =
     let w = c .before in
-    refused-all (image w) (marks w) (shown w) (room w) (w .before .check .result) (w .before .check .ensures) (sym (w .is-written .ensures) ∙ not-true _ (c .if1 .taken))
+    refused-all (image w) (marks w) (shown w) (room w) (w .before .check .result) (w .before .check .ensures)
+    (sym (w .is-written .ensures) ∙ not-true _ (c .if1 .taken))
 
 sound : (c : tie.Else1) → Sound (image (c .before)) (marks (c .before))
 sound c =
@@ -64,7 +65,8 @@ returns-3 c =
     let k = p .before .before in
     let e = k .before in
     let w = e .before in
-    shown-as (image w) (marks w) (shown w) (room w) (sound e) (wordsFor (length (image w))) (packed-length (image w) (marks w)) (k .if2 .left) _ (p .write-map .ensures)
+    shown-as (image w) (marks w) (shown w) (room w) (sound e) (wordsFor (length (image w))) (packed-length (image w) (marks w)) (k .if2 .left) _
+    (p .write-map .ensures)
 
 pub build-map-spec : {M : Type 1} → statement M
 build-map-spec =

@@ -38,7 +38,8 @@ abbrev marks : tie.At-loop Inv-loop μ-loop → List ℕ
 marks c = start c .args .marks .now
 
 -- a traced instruction fits
-fits : (c : tie.In-loop Inv-loop μ-loop) → tracedMark (getD (marks (c .before)) (c .before .loop .p) 0) ≡ true → fitsHere (image (c .before)) (c .before .loop .p) ≡ true
+fits : (c : tie.In-loop Inv-loop μ-loop) → tracedMark (getD (marks (c .before)) (c .before .loop .p) 0) ≡ true
+    → fitsHere (image (c .before)) (c .before .loop .p) ≡ true
 fits c t =
     let l = c .before in
     fitting (image l) (marks l) (l .loop .p) (start l .pre .4 (l .loop .p) (c .loop-test .taken)) t
@@ -63,7 +64,8 @@ loop-again c =
     let s = start l in
     let rest = drop (s .args .need) (l .before .before .before .clear .last .0) in
     let h = i .loop-test .taken in
-    let e = v .cover-at .ensures ∙ marked-next (image l) (marks l) (l .loop .p) h (λ t. fits-within (image l) (l .loop .p) (fits i t)) (l .loop .words) rest (l .loop .inv .2) in
+    let e = v .cover-at .ensures ∙ marked-next (image l) (marks l) (l .loop .p) h (λ t. fits-within (image l) (l .loop .p) (fits i t)) (l .loop .words) rest
+    (l .loop .inv .2) in
     (omega arith, same-size (image l) (marks l) (l .loop .p) (l .loop .words) _ rest (l .loop .inv .2) e ∙ l .loop .inv .1, e)
 
 same-length : tie.Need-same-length Inv-loop μ-loop
@@ -81,4 +83,5 @@ returns c =
 pub write-map-spec : {M : Type 1} → statement M
 write-map-spec =
     tie.close
-    (tie.spec Inv-loop μ-loop (λ c κs. search needs) loop-holds (λ c. search needs) cover-at-requires (λ c. search needs) (λ c. omega arith) loop-again same-length returns)
+    (tie.spec Inv-loop μ-loop (λ c κs. search needs) loop-holds (λ c. search needs) cover-at-requires (λ c. search needs) (λ c. omega arith) loop-again
+    same-length returns)

@@ -31,7 +31,8 @@ loop-again c =
       length-set (l .words) (l .j) 0 ∙ l .inv .1,
       ap (λ (v : List ℕ). set v (l .j) 0) (l .inv .2)
           ∙ front-next (replicate (s .args .need) 0) (s .args .words .now) (l .j) 0
-          (subst (λ (k : ℕ). l .j < k) (sym (length-replicate (s .args .need) 0)) h) (omega (arith, s .pre)) (sym (getD-replicate (s .args .need) (l .j) 0 0 h)),
+          (subst (λ (k : ℕ). l .j < k) (sym (length-replicate (s .args .need) 0)) h) (omega (arith, s .pre))
+          (sym (getD-replicate (s .args .need) (l .j) 0 0 h)),
     )
 
 returns : tie.Need-returns Inv-loop μ-loop
@@ -43,4 +44,5 @@ returns c =
 pub clear-spec : {M : Type 1} → statement M
 clear-spec =
     tie.close
-    (tie.spec Inv-loop μ-loop loop-holds (λ c. search needs) slice-write-words (λ c. search needs) (λ c. omega arith) loop-again (λ c. c .before .loop .inv .1) returns)
+    (tie.spec Inv-loop μ-loop loop-holds (λ c. search needs) slice-write-words (λ c. search needs) (λ c. omega arith) loop-again
+    (λ c. c .before .loop .inv .1) returns)

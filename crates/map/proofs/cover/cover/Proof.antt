@@ -34,7 +34,8 @@ some w =
     let s = i .before .before .before in
     w .in-word .ensures .2 (let h : i .before .loop .q < s .args .p + s .args .size = i .loop-test .taken in omega arith)
 
-few : (w : tie.After-in-word Inv-loop μ-loop) → let s = w .before .before .before .before in w .before .before .loop .q + w .in-word .result ≤ s .args .p + s .args .size
+few : (w : tie.After-in-word Inv-loop μ-loop) → let s = w .before .before .before .before in
+    w .before .before .loop .q + w .in-word .result ≤ s .args .p + s .args .size
 few w =
     let i = w .before in
     let s = i .before .before .before in
@@ -49,7 +50,8 @@ loop-again c =
     let a = i .before .before .before .args in (
       few w,
       length-set (l .words) (l .q / 64) _ ∙ l .inv .1,
-      covers-word (l .words) (a .p + a .size) (l .q) (covered (a .words .now) (a .size) (a .p)) (w .in-word .result) (some w) (few w) (w .in-word .ensures .1) (within i)
+      covers-word (l .words) (a .p + a .size) (l .q) (covered (a .words .now) (a .size) (a .p)) (w .in-word .result) (some w) (few w)
+          (w .in-word .ensures .1) (within i)
           (c .with-ones .result) (c .with-ones .ensures) (l .inv .2),
     )
 

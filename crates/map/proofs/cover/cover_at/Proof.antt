@@ -21,7 +21,8 @@ returns : tie.Need-returns
 returns c =
     let t = c .before in
     let a = start t .args in
-    sym (ap (λ (b : Bool). cond b (covered (a .words .now) (sizeHere (a .image .now) (a .p)) (a .p)) (a .words .now)) (sym (t .is-traced .ensures) ∙ not-true _ (c .if1 .taken)))
+    sym (ap (λ (b : Bool). cond b (covered (a .words .now) (sizeHere (a .image .now) (a .p)) (a .p)) (a .words .now))
+    (sym (t .is-traced .ensures) ∙ not-true _ (c .if1 .taken)))
 
 abbrev traced : tie.Else1 → Type 0
 traced c = tracedMark (getD (start (c .before) .args .marks .now) (start (c .before) .args .p) 0) ≡ true

@@ -34,7 +34,8 @@ returns c =
     let s = start i in
     let a = s .args in
     let l = i .before .loop in
-    found (a .words .now) (a .from) (a .to) (s .pre .0) (l .q) (l .inv .0) (l .inv .2) (z .first-zero .result) (z .first-zero .ensures) (c .before .if1 .taken) (c .if2 .taken)
+    found (a .words .now) (a .from) (a .to) (s .pre .0) (l .q) (l .inv .0) (l .inv .2) (z .first-zero .result) (z .first-zero .ensures) (c .before .if1 .taken)
+    (c .if2 .taken)
 
 returns-2 : tie.Need-returns-2 Inv-loop μ-loop
 returns-2 c =
@@ -71,7 +72,8 @@ loop-again c =
     let f = c .skip-full .ensures in (
       omega (arith, l .inv .0, f .from),
       f .near,
-      none-skipped (a .words .now) (a .from) (a .to) (s .pre .0) (l .q) (l .inv .0) (l .inv .2) (z .first-zero .result) (z .first-zero .ensures) (e .if1 .left) (c .skip-full .result) f,
+      none-skipped (a .words .now) (a .from) (a .to) (s .pre .0) (l .q) (l .inv .0) (l .inv .2) (z .first-zero .result) (z .first-zero .ensures) (e .if1 .left)
+          (c .skip-full .result) f,
     )
 
 returns-3 : tie.Need-returns-3 Inv-loop μ-loop

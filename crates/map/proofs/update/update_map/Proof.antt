@@ -34,7 +34,8 @@ place c = start c .args .p
 returns : tie.Need-returns
 returns c =
     let w = c .before .before in
-    refused-all (image w) (marks w) (words w) (place w) (w .before .check .result) _ (c .as-updated .ensures) (w .before .check .ensures) (sym (w .is-written .ensures) ∙ not-true _ (c .before .if1 .taken))
+    refused-all (image w) (marks w) (words w) (place w) (w .before .check .result) _ (c .as-updated .ensures) (w .before .check .ensures)
+    (sym (w .is-written .ensures) ∙ not-true _ (c .before .if1 .taken))
 
 sound : (c : tie.Else1) → Sound (image (c .before)) (marks (c .before))
 sound c =
@@ -103,7 +104,8 @@ returns-5 c =
     let r = i .before in
     let e = r .before in
     let w = e .before in
-    set-all (image w) (marks w) (words w) (place w) (sound e) (r .if2 .left) (i .if3 .left) (traced o) (z .size-at .result) (z .size-at .ensures) _ (v .cover .ensures)
+    set-all (image w) (marks w) (words w) (place w) (sound e) (r .if2 .left) (i .if3 .left) (traced o) (z .size-at .result) (z .size-at .ensures) _
+    (v .cover .ensures)
 
 pub update-map-spec : {M : Type 1} → statement M
 update-map-spec =

@@ -32,7 +32,8 @@ returns-2 c =
     rw (le-leb 2 (s .args .p) (e .if1 .left), z, jmpf-not 0 (omega arith) (λ e. omega arith))
 
 -- the first tests are passed
-begun : (c : tie.Else3) → (leb 2 (c .before .before .before .before .args .p) ≡ true) × (eqb (formOf (getD (image (c .before .before .before .before)) (c .before .before .before .before .args .p) 0)) (formNamed "Jmpf") ≡ true)
+begun : (c : tie.Else3) → (leb 2 (c .before .before .before .before .args .p) ≡ true)
+    × (eqb (formOf (getD (image (c .before .before .before .before)) (c .before .before .before .before .args .p) 0)) (formNamed "Jmpf") ≡ true)
 begun c =
     let k = c .before in
     let e = k .before .before in

@@ -22,7 +22,8 @@ loop-holds : tie.Need-loop-holds Inv-loop μ-loop
 loop-holds c = let a = c .before .before .args in (omega arith, pin-none (a .n) (a .marks .now))
 
 -- one position more
-next : (n : ℕ) (qs m₀ m : List ℕ) (i : ℕ) → i < length qs → m ≡ pin n (take i qs) m₀ → (m′ : List ℕ) → m′ ≡ pin n (getD qs i 0 ∷ []) m → m′ ≡ pin n (take (i + 1) qs) m₀
+next : (n : ℕ) (qs m₀ m : List ℕ) (i : ℕ) → i < length qs → m ≡ pin n (take i qs) m₀ → (m′ : List ℕ) → m′ ≡ pin n (getD qs i 0 ∷ []) m
+    → m′ ≡ pin n (take (i + 1) qs) m₀
 next n qs m₀ m i h e m′ f =
     f ∙ sym (pin-alone n (getD qs i 0) m) ∙ ap (pinOne n (getD qs i 0)) e ∙ sym (pin-next n qs m₀ i h)
 

@@ -12,7 +12,8 @@ use Rattle.marks.proofs.take.note_all.Statement.{statement}
 use Rattle.marks.proofs.take.note_all.Tie as tie
 
 -- what was said of an arm's positions is said of all
-said : (n : ℕ) (m : List ℕ) {w w′ : Places} (r m′ : List ℕ) → w ≡ w′ → (r ≡ fresh n (placesIn w′) m) × (m′ ≡ note n (placesIn w′) m) → (r ≡ fresh n (placesIn w) m) × (m′ ≡ note n (placesIn w) m)
+said : (n : ℕ) (m : List ℕ) {w w′ : Places} (r m′ : List ℕ) → w ≡ w′ → (r ≡ fresh n (placesIn w′) m) × (m′ ≡ note n (placesIn w′) m)
+    → (r ≡ fresh n (placesIn w) m) × (m′ ≡ note n (placesIn w) m)
 said n m r m′ e p = rw e p
 
 returns : tie.Need-returns

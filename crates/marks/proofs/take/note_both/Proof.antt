@@ -12,7 +12,9 @@ returns c =
     let o = u .before .before .before .before in
     let a = o .before .before .before .args in
     let e = o .note-one .ensures .1 in (
-      fresh-two (a .n) (a .marks .now) _ (a .s) (a .t) e _ _ (one-fresh (a .n) (a .marks .now) (a .s) (o .note-one .result) (o .note-one .ensures .0) (c .before .if1 .taken)) (one-fresh (a .n) _ (a .t) (u .note-one2 .result) (u .note-one2 .ensures .0) (c .if2 .taken)),
+      fresh-two (a .n) (a .marks .now) _ (a .s) (a .t) e _ _
+          (one-fresh (a .n) (a .marks .now) (a .s) (o .note-one .result) (o .note-one .ensures .0) (c .before .if1 .taken))
+          (one-fresh (a .n) _ (a .t) (u .note-one2 .result) (u .note-one2 .ensures .0) (c .if2 .taken)),
       marks-two (a .n) (a .marks .now) _ (a .s) (a .t) e _ (u .note-one2 .ensures .1),
     )
 
@@ -23,7 +25,9 @@ returns-2 c =
     let o = u .before .before .before .before in
     let a = o .before .before .before .args in
     let e = o .note-one .ensures .1 in (
-      fresh-two (a .n) (a .marks .now) _ (a .s) (a .t) e _ _ (one-fresh (a .n) (a .marks .now) (a .s) (o .note-one .result) (o .note-one .ensures .0) (c .before .if1 .taken)) (none-fresh (a .n) _ (a .t) (u .note-one2 .result) (u .note-one2 .ensures .0) (c .if2 .left)),
+      fresh-two (a .n) (a .marks .now) _ (a .s) (a .t) e _ _
+          (one-fresh (a .n) (a .marks .now) (a .s) (o .note-one .result) (o .note-one .ensures .0) (c .before .if1 .taken))
+          (none-fresh (a .n) _ (a .t) (u .note-one2 .result) (u .note-one2 .ensures .0) (c .if2 .left)),
       marks-two (a .n) (a .marks .now) _ (a .s) (a .t) e _ (u .note-one2 .ensures .1),
     )
 
@@ -34,7 +38,9 @@ returns-3 c =
     let o = u .before .before .before .before in
     let a = o .before .before .before .args in
     let e = o .note-one .ensures .1 in (
-      fresh-two (a .n) (a .marks .now) _ (a .s) (a .t) e _ _ (none-fresh (a .n) (a .marks .now) (a .s) (o .note-one .result) (o .note-one .ensures .0) (c .before .if1 .left)) (one-fresh (a .n) _ (a .t) (u .note-one2 .result) (u .note-one2 .ensures .0) (c .if3 .taken)),
+      fresh-two (a .n) (a .marks .now) _ (a .s) (a .t) e _ _
+          (none-fresh (a .n) (a .marks .now) (a .s) (o .note-one .result) (o .note-one .ensures .0) (c .before .if1 .left))
+          (one-fresh (a .n) _ (a .t) (u .note-one2 .result) (u .note-one2 .ensures .0) (c .if3 .taken)),
       marks-two (a .n) (a .marks .now) _ (a .s) (a .t) e _ (u .note-one2 .ensures .1),
     )
 
@@ -45,7 +51,9 @@ returns-4 c =
     let o = u .before .before .before .before in
     let a = o .before .before .before .args in
     let e = o .note-one .ensures .1 in (
-      fresh-two (a .n) (a .marks .now) _ (a .s) (a .t) e _ _ (none-fresh (a .n) (a .marks .now) (a .s) (o .note-one .result) (o .note-one .ensures .0) (c .before .if1 .left)) (none-fresh (a .n) _ (a .t) (u .note-one2 .result) (u .note-one2 .ensures .0) (c .if3 .left)),
+      fresh-two (a .n) (a .marks .now) _ (a .s) (a .t) e _ _
+          (none-fresh (a .n) (a .marks .now) (a .s) (o .note-one .result) (o .note-one .ensures .0) (c .before .if1 .left))
+          (none-fresh (a .n) _ (a .t) (u .note-one2 .result) (u .note-one2 .ensures .0) (c .if3 .left)),
       marks-two (a .n) (a .marks .now) _ (a .s) (a .t) e _ (u .note-one2 .ensures .1),
     )
 

@@ -25,7 +25,8 @@ returns-2 c =
     let f = k .before .before in
     let e = f .before in
     let a = start e .args in
-    plainly (a .image .now) (placesIn (a .to)) (a .marks .now) (a .p) _ _ (sym (e .is-exempt .ensures) ∙ f .if1 .left) _ (c .new2 .ensures) _ (k .set-mark2 .ensures) (n .note-all .ensures)
+    plainly (a .image .now) (placesIn (a .to)) (a .marks .now) (a .p) _ _ (sym (e .is-exempt .ensures) ∙ f .if1 .left) _ (c .new2 .ensures) _
+    (k .set-mark2 .ensures) (n .note-all .ensures)
 
 pub take-up-spec : {M : Type 1} → statement M
 take-up-spec =

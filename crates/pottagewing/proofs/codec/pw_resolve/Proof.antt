@@ -18,7 +18,8 @@ returns c =
     let m = r .before in
     let s = m .before in
     let e = named-is (s .args .first) (s .fits .a) (s .fits .b) (s .fits .c) in
-    given (r .resolve .ensures ∙ ap₂ (λ (o : Mode) (j : Instr). replyOf instrValues (resolveAnswer o j (s .args .base))) (m .mode .ensures) e) (c .give .ensures)
+    given (r .resolve .ensures ∙ ap₂ (λ (o : Mode) (j : Instr). replyOf instrValues (resolveAnswer o j (s .args .base))) (m .mode .ensures) e)
+    (c .give .ensures)
 
 pub pw-resolve-spec : {M : Type 1} → statement M
 pw-resolve-spec = tie.close (tie.spec (λ c κs. search needs) (λ c κs. search needs) (λ c κs. search needs) returns)

@@ -18,7 +18,8 @@ returns c =
     let m = t .before in
     let s = m .before in
     let e = named-is (s .args .first) (s .fits .a) (s .fits .b) (s .fits .c) in
-    given (t .targets .ensures ∙ ap₂ (λ (o : Mode) (j : Instr). replyOf targetsValues (targetsAnswer o (s .args .position) j)) (m .mode .ensures) e) (c .give .ensures)
+    given (t .targets .ensures ∙ ap₂ (λ (o : Mode) (j : Instr). replyOf targetsValues (targetsAnswer o (s .args .position) j)) (m .mode .ensures) e)
+    (c .give .ensures)
 
 pub pw-targets-spec : {M : Type 1} → statement M
 pw-targets-spec = tie.close (tie.spec (λ c κs. search needs) (λ c κs. search needs) (λ c κs. search needs) returns)

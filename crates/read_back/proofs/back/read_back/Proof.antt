@@ -18,7 +18,8 @@ use Rattle.read_back.proofs.back.read_back.Statement.{statement}
 use Rattle.read_back.proofs.back.read_back.Tie as tie
 
 returns : tie.Need-returns
-returns c = let a = c .before .before .before .before .args in parted (too-long (a .mode) (a .text .now) (a .length) (a .image .now) (a .marks .now) (c .if1 .taken))
+returns c = let a = c .before .before .before .before .args in
+    parted (too-long (a .mode) (a .text .now) (a .length) (a .image .now) (a .marks .now) (c .if1 .taken))
 
 abbrev start : tie.Else1 → tie.Start
 start e = e .before .before .before .before
@@ -72,7 +73,9 @@ new-long l = l .read-lines .kept .1 .1 .0 ∙ sym (part (made l))
 -- what the lines leave of an image of so many bytes
 left : (l : tie.After-read-lines)
     → let a = start (from (made l)) .args in LinesLeave (a .mode) (a .text .now) (a .length) (new l) (told l) (restoredOf (l .read-lines .result))
-left l = let a = start (from (made l)) .args in subst (λ (k : ℕ). LinesLeave (a .mode) (a .text .now) k (new l) (told l) (restoredOf (l .read-lines .result))) (sym (part (made l))) (l .read-lines .ensures)
+left l = let a = start (from (made l)) .args in
+    subst (λ (k : ℕ). LinesLeave (a .mode) (a .text .now) k (new l) (told l) (restoredOf (l .read-lines .result))) (sym (part (made l)))
+    (l .read-lines .ensures)
 
 -- the part that is lent again is what was left
 again : (l : tie.After-read-lines) → take (n (made l)) (new l ++ drop (n (made l)) (made l .before .no-bytes .result)) ≡ new l

@@ -102,7 +102,8 @@ returns-3 c =
     going-end (mode l) (text l) (many l) (l .loop .place) (l .loop .image) (l .loop .table) (l .loop .end) (l .loop .inv) (e .if1 .left)
 
 one : tie.Need-sub-t16 Inv-loop μ-loop
-one c = let l = c .before .before .before in going-some (mode l) (text l) (many l) (l .loop .place) (l .loop .image) (l .loop .table) (l .loop .end) (l .loop .inv) (c .before .if1 .left)
+one c = let l = c .before .before .before in
+    going-some (mode l) (text l) (many l) (l .loop .place) (l .loop .image) (l .loop .table) (l .loop .end) (l .loop .inv) (c .before .if1 .left)
 
 requires : tie.Need-read-on-requires Inv-loop μ-loop
 requires c κs =

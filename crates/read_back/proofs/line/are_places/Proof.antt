@@ -45,8 +45,11 @@ loop-again c =
     let h = c .before in
     let f = h .before .before in
     let e = f .before .before in
-    let l = e .before .before in
-    (omega (arith, e .if1 .left), l .loop .inv .1 ∙ places-on (start l .args .s .now) (l .loop .i) (e .if1 .left) (f .if2 .left) _ (h .is-hex .ensures) (not-false _ (c .if3 .left)))
+    let l = e .before .before in (
+      omega (arith, e .if1 .left),
+      l .loop .inv .1
+          ∙ places-on (start l .args .s .now) (l .loop .i) (e .if1 .left) (f .if2 .left) _ (h .is-hex .ensures) (not-false _ (c .if3 .left)),
+    )
 
 returns-4 : tie.Need-returns-4 Inv-loop μ-loop
 returns-4 c =
@@ -60,4 +63,5 @@ pub are-places-spec : {M : Type 1} → statement M
 are-places-spec =
     tie.close
     (tie.spec Inv-loop μ-loop (λ c. (search needs, refl)) (λ c. search needs) returns (λ c. search needs) returns-2
-    (λ c. search needs) (λ c. search needs) (λ c. omega arith) (λ c. omega arith) (λ c. inside (c .before .before)) (λ c κs. search needs) returns-3 (λ c. search needs) (λ c. omega (arith, inside (c .before .before .before .before .before))) loop-again returns-4)
+    (λ c. search needs) (λ c. search needs) (λ c. omega arith) (λ c. omega arith) (λ c. inside (c .before .before)) (λ c κs. search needs) returns-3
+    (λ c. search needs) (λ c. omega (arith, inside (c .before .before .before .before .before))) loop-again returns-4)

@@ -95,8 +95,10 @@ requires : tie.Need-is-rest-requires
 requires c κs =
     let g = c .before in
     let d = digit g in
-    let l = line (from d) in
-    (omega (arith, inside g, from d .if1 .left), omega (arith, ap length (to-end l (7 + length (got d))), length-drop (7 + length (got d)) l, from d .if1 .left))
+    let l = line (from d) in (
+      omega (arith, inside g, from d .if1 .left),
+      omega (arith, ap length (to-end l (7 + length (got d))), length-drop (7 + length (got d)) l, from d .if1 .left),
+    )
 
 returns-6 : tie.Need-returns-6
 returns-6 c =

@@ -23,4 +23,5 @@ returns-3 c =
     c .is-bytes .ensures ∙ ap (isBytes 16) (to-end l 1) ∙ rw (eq-eqb (getD l 0 0) 9 (e .if2 .left))
 
 pub is-data-spec : {M : Type 1} → statement M
-is-data-spec = tie.close (tie.spec returns (λ c. search needs) returns-2 (λ c. search needs) (λ c. search needs) (λ c. search needs) (λ c κs. search needs) returns-3)
+is-data-spec = tie.close (tie.spec returns (λ c. search needs) returns-2 (λ c. search needs) (λ c. search needs) (λ c. search needs)
+    (λ c κs. search needs) returns-3)

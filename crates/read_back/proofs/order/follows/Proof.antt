@@ -31,10 +31,16 @@ returns-3 c =
     let f = c .before .before .before in
     let e = f .before .before .before in
     let a = e .before .before .args in
-    rw (ne-eqb (rankOf (a .place .letter)) 0 (some e), le-ltb (a .place .last) (a .r .position) (f .if2 .left), ne-eqb (a .place .last) (a .r .position) (c .if3 .taken))
+    rw (
+      ne-eqb (rankOf (a .place .letter)) 0 (some e),
+      le-ltb (a .place .last) (a .r .position) (f .if2 .left),
+      ne-eqb (a .place .last) (a .r .position)
+          (c .if3 .taken),
+    )
 
 -- the same position
-level : (c : tie.Else3) → let a = c .before .before .before .before .before .before .before .before .args in (rankOf (a .place .letter) ≡ 0 → ⊥) × (a .r .position ≤ a .place .last) × (a .place .last ≡ a .r .position)
+level : (c : tie.Else3) → let a = c .before .before .before .before .before .before .before .before .args in
+    (rankOf (a .place .letter) ≡ 0 → ⊥) × (a .r .position ≤ a .place .last) × (a .place .last ≡ a .r .position)
 level c =
     let f = c .before .before .before in
     let e = f .before .before .before in
@@ -49,7 +55,13 @@ returns-4 c =
     let b = l .before .before .before .before .before .before .before in
     let a = b .before .args in
     let p : rankOf (a .place .letter) < rankOf (a .r .letter) = rw (b .rank .ensures, k .rank2 .ensures) at (c .if4 .taken) in
-    rw (k .rank2 .ensures, ne-eqb (rankOf (a .place .letter)) 0 (g .0), le-ltb (a .place .last) (a .r .position) (g .1), eq-eqb (a .place .last) (a .r .position) (g .2), lt-ltb (rankOf (a .place .letter)) (rankOf (a .r .letter)) p)
+    rw (
+      k .rank2 .ensures,
+      ne-eqb (rankOf (a .place .letter)) 0 (g .0),
+      le-ltb (a .place .last) (a .r .position) (g .1),
+      eq-eqb (a .place .last) (a .r .position) (g .2),
+      lt-ltb (rankOf (a .place .letter)) (rankOf (a .r .letter)) p,
+    )
 
 returns-5 : tie.Need-returns-5
 unfolding follows
@@ -60,7 +72,14 @@ returns-5 c =
     let b = l .before .before .before .before .before .before .before in
     let a = b .before .args in
     let p : rankOf (a .r .letter) ≤ rankOf (a .place .letter) = rw (b .rank .ensures, k .rank2 .ensures) at (c .if4 .left) in
-    rw (b .rank .ensures, k .rank2 .ensures, ne-eqb (rankOf (a .place .letter)) 0 (g .0), le-ltb (a .place .last) (a .r .position) (g .1), eq-eqb (a .place .last) (a .r .position) (g .2), le-ltb (rankOf (a .place .letter)) (rankOf (a .r .letter)) p)
+    rw (
+      b .rank .ensures,
+      k .rank2 .ensures,
+      ne-eqb (rankOf (a .place .letter)) 0 (g .0),
+      le-ltb (a .place .last) (a .r .position) (g .1),
+      eq-eqb (a .place .last) (a .r .position) (g .2),
+      le-ltb (rankOf (a .place .letter)) (rankOf (a .r .letter)) p,
+    )
 
 pub follows-spec : {M : Type 1} → statement M
 follows-spec = tie.close (tie.spec (λ c κs. search needs) returns returns-2 returns-3 (λ c κs. search needs) returns-4 returns-5)

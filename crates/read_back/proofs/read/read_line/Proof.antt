@@ -56,7 +56,8 @@ returns-3 : tie.Need-returns-3
 returns-3 c =
     let i = c .before in
     let e = there i in
-    bad-line (mode e) (text e) (start e .args .place) (e .before .if1 .left) (e .end .result) (e .end .ensures) (sym (i .is-line .ensures) ∙ not-true _ (c .if3 .taken))
+    bad-line (mode e) (text e) (start e .args .place) (e .before .if1 .left) (e .end .result) (e .end .ensures)
+    (sym (i .is-line .ensures) ∙ not-true _ (c .if3 .taken))
 
 -- it is a line
 is : (f : tie.Else3) → let e = there (f .before) in isLine (mode e) (bytes e) ≡ true
@@ -71,7 +72,8 @@ returns-4 c =
     let r = k .before in
     let f = r .before in
     let e = there (f .before) in
-    bad-order (mode e) (text e) (start e .args .place) (e .before .if1 .left) (e .end .result) (e .end .ensures) (is f) (r .«record» .result) (r .«record» .ensures) (sym (k .follows .ensures) ∙ not-true _ (c .if4 .taken))
+    bad-order (mode e) (text e) (start e .args .place) (e .before .if1 .left) (e .end .result) (e .end .ensures) (is f) (r .«record» .result)
+    (r .«record» .ensures) (sym (k .follows .ensures) ∙ not-true _ (c .if4 .taken))
 
 add-new : tie.Need-add-new
 add-new c = let e = there (c .before .before .before .before) in omega (arith, ends e, start e .good .1 .0 .1)
@@ -90,4 +92,5 @@ returns-5 c =
 pub read-line-spec : {M : Type 1} → statement M
 read-line-spec =
     tie.close
-    (tie.spec returns (λ c κs. search needs) (λ c. search needs) (λ c. search needs) ends (λ c κs. search needs) returns-2 (λ c κs. starts c) returns-3 record-requires (λ c κs. search needs) returns-4 add-new (λ c κs. search needs) (λ c κs. search needs) returns-5)
+    (tie.spec returns (λ c κs. search needs) (λ c. search needs) (λ c. search needs) ends (λ c κs. search needs) returns-2 (λ c κs. starts c) returns-3
+    record-requires (λ c κs. search needs) returns-4 add-new (λ c κs. search needs) (λ c κs. search needs) returns-5)

@@ -63,7 +63,8 @@ abbrev next : tie.After-struct-known → Place
 next s = s .before .before .r .given .0 .1 .0
 
 got : (s : tie.After-struct-known) → let k = before s in Taken (mode k) (text k) (place k) (inside k) (rec s) (next s)
-got s = let k = before s in taken (mode k) (text k) (place k) (inside k) (k .read-line .result) (k .read-line .ensures) (rec s) (next s) (s .before .before .r .given .1)
+got s = let k = before s in taken (mode k) (text k) (place k) (inside k) (k .read-line .result) (k .read-line .ensures) (rec s) (next s)
+    (s .before .before .r .given .1)
 
 -- the part of the text that the calls are given
 is : (s : tie.After-struct-known) → let k = before s in take (next s .at - 1 - place k .at) (drop (place k .at) (text k)) ≡ it k

@@ -23,14 +23,16 @@ returns : tie.Need-returns
 returns c =
     let t = c .before in
     let a = start (t .before) .args in
-    block-held (a .log) (a .mode) (a .text .now) (a .image .now) (a .marks .now) (a .entries .now) (a .counts .now) (t .if1 .taken) (c .told .result) (c .told .ensures)
+    block-held (a .log) (a .mode) (a .text .now) (a .image .now) (a .marks .now) (a .entries .now) (a .counts .now) (t .if1 .taken) (c .told .result)
+    (c .told .ensures)
 
 returns-2 : tie.Need-returns-2
 returns-2 c =
     let i = c .before in
     let e = first i in
     let a = start (e .before) .args in
-    block-lent (a .log) (a .mode) (a .text .now) (a .image .now) (a .marks .now) (a .entries .now) (a .counts .now) (e .if1 .left) (i .before .check .result) (i .before .check .ensures)
+    block-lent (a .log) (a .mode) (a .text .now) (a .image .now) (a .marks .now) (a .entries .now) (a .counts .now) (e .if1 .left) (i .before .check .result)
+    (i .before .check .ensures)
     (sym (i .is-told .ensures) ∙ not-true _ (c .if2 .taken))
 
 feed-requires : tie.Need-feed-requires
@@ -48,7 +50,8 @@ returns-3 c =
     let i = k .before in
     let e = first i in
     let a = start (e .before) .args in
-    block-fed (a .log) (a .mode) (a .text .now) (a .image .now) (a .marks .now) (a .entries .now) (a .counts .now) (e .if1 .left) (i .before .check .result) (i .before .check .ensures) (told k)
+    block-fed (a .log) (a .mode) (a .text .now) (a .image .now) (a .marks .now) (a .entries .now) (a .counts .now) (e .if1 .left) (i .before .check .result)
+    (i .before .check .ensures) (told k)
     (f .feed .result) _ (f .feed .ensures) (c .told2 .result) (c .told2 .ensures)
 
 pub take-block-spec : {M : Type 1} → statement M

@@ -22,7 +22,8 @@ returns c =
     let t = c .before .before .before in
     let b = t .before .before in
     let a = start (b .before) .args in
-    joined-short (a .mode) (a .image .now) (a .marks .now) (codeAt (a .table .now)) (a .log) (a .counts .now) (a .text .now) _ _ _ (b .begin-line .ensures .0) (b .begin-line .ensures .1) refl
+    joined-short (a .mode) (a .image .now) (a .marks .now) (codeAt (a .table .now)) (a .log) (a .counts .now) (a .text .now) _ _ _ (b .begin-line .ensures .0)
+    (b .begin-line .ensures .1) refl
     (t .if1 .taken) _ (b .begin-line .result - 0) (omega arith) (c .keep .ensures)
 
 returns-2 : tie.Need-returns-2
@@ -31,7 +32,8 @@ returns-2 c =
     let e = t .before .before .before in
     let b = begun e in
     let a = start (b .before) .args in
-    joined-stop (a .mode) (a .image .now) (a .marks .now) (codeAt (a .table .now)) (a .log) (a .counts .now) (a .text .now) _ _ _ (b .begin-line .ensures .0) (b .begin-line .ensures .1) refl
+    joined-stop (a .mode) (a .image .now) (a .marks .now) (codeAt (a .table .now)) (a .log) (a .counts .now) (a .text .now) _ _ _ (b .begin-line .ensures .0)
+    (b .begin-line .ensures .1) refl
     (e .if1 .left) _ (t .take-lines .ensures) (c .if2 .taken)
 
 sub-take-lines : tie.Need-sub-take-lines
@@ -40,7 +42,8 @@ sub-take-lines c =
     let e = t .before .before .before in
     let b = begun e in
     let a = start (b .before) .args in
-    place-in (a .mode) (a .image .now) (a .marks .now) (codeAt (a .table .now)) (a .log) (a .counts .now) (a .text .now) _ _ _ (b .begin-line .ensures .0) (b .begin-line .ensures .1) refl
+    place-in (a .mode) (a .image .now) (a .marks .now) (codeAt (a .table .now)) (a .log) (a .counts .now) (a .text .now) _ _ _ (b .begin-line .ensures .0)
+    (b .begin-line .ensures .1) refl
     (e .if1 .left) _ (t .take-lines .ensures) _ (c .held-in .ensures)
 
 part-take-lines-start : tie.Need-part-take-lines-start
@@ -49,7 +52,8 @@ part-take-lines-start c =
     let e = t .before .before .before in
     let b = begun e in
     let a = start (b .before) .args in
-    place-in (a .mode) (a .image .now) (a .marks .now) (codeAt (a .table .now)) (a .log) (a .counts .now) (a .text .now) _ _ _ (b .begin-line .ensures .0) (b .begin-line .ensures .1) refl
+    place-in (a .mode) (a .image .now) (a .marks .now) (codeAt (a .table .now)) (a .log) (a .counts .now) (a .text .now) _ _ _ (b .begin-line .ensures .0)
+    (b .begin-line .ensures .1) refl
     (e .if1 .left) _ (t .take-lines .ensures) _ (c .held-in .ensures)
 
 returns-3 : tie.Need-returns-3
@@ -61,8 +65,10 @@ returns-3 c =
     let e = t .before .before .before in
     let b = begun e in
     let a = start (b .before) .args in
-    joined-on (a .mode) (a .image .now) (a .marks .now) (codeAt (a .table .now)) (a .log) (a .counts .now) (a .text .now) _ _ _ (b .begin-line .ensures .0) (b .begin-line .ensures .1) refl
-    (e .if1 .left) (state (t .take-lines .result) _) (t .take-lines .ensures) (k .if2 .left) _ (length (a .text .now) - (7 - h .held-in .result)) (h .held-in .ensures) refl
+    joined-on (a .mode) (a .image .now) (a .marks .now) (codeAt (a .table .now)) (a .log) (a .counts .now) (a .text .now) _ _ _ (b .begin-line .ensures .0)
+    (b .begin-line .ensures .1) refl
+    (e .if1 .left) (state (t .take-lines .result) _) (t .take-lines .ensures) (k .if2 .left) _ (length (a .text .now) - (7 - h .held-in .result))
+    (h .held-in .ensures) refl
     (state (u .take-lines2 .result) _) (u .take-lines2 .ensures)
 
 pub take-joined-spec : {M : Type 1} → statement M

@@ -12,7 +12,8 @@ use Rattle.replay.proofs.keep.copy.Statement.{statement}
 use Rattle.replay.proofs.keep.copy.Tie as tie
 
 abbrev Inv-loop : tie.InvT-loop
-Inv-loop text count line₀ at i₀ line i = (i ≤ count) × (length line ≡ length line₀) × (sets line (at + i) (drop i (take count text)) ≡ sets line₀ at (take count text))
+Inv-loop text count line₀ at i₀ line i =
+    (i ≤ count) × (length line ≡ length line₀) × (sets line (at + i) (drop i (take count text)) ≡ sets line₀ at (take count text))
 
 abbrev μ-loop : tie.MeasureT-loop
 μ-loop text count line₀ at i₀ line i = count - i
@@ -24,8 +25,12 @@ long : (l : tie.At-loop Inv-loop μ-loop) → length (part l) ≡ l .before .arg
 long l = length-take-le (l .before .args .count) (l .before .args .text .now) (l .before .pre .0)
 
 loop-holds : tie.Need-loop-holds Inv-loop μ-loop
-loop-holds c =
-    (omega arith, refl, ap (λ (j : ℕ). sets (c .args .line .now) j (take (c .args .count) (c .args .text .now))) (let e : c .args .at + 0 ≡ c .args .at = omega arith in e))
+loop-holds c = (
+  omega arith,
+  refl,
+  ap (λ (j : ℕ). sets (c .args .line .now) j (take (c .args .count) (c .args .text .now)))
+      (let e : c .args .at + 0 ≡ c .args .at = omega arith in e),
+)
 
 loop-again : tie.Need-loop-again Inv-loop μ-loop
 loop-again c =
@@ -36,7 +41,8 @@ loop-again c =
     let h = i .loop-test .taken in (
       omega arith,
       length-set (l .loop .line) (a .at + l .loop .i) _ ∙ l .loop .inv .1,
-      ap (λ (x : ℕ). sets (set (l .loop .line) (a .at + l .loop .i) x) (a .at + (l .loop .i + 1)) (drop (l .loop .i + 1) v)) (sym (getD-take (a .count) (a .text .now) (l .loop .i) 0 h))
+      ap (λ (x : ℕ). sets (set (l .loop .line) (a .at + l .loop .i) x) (a .at + (l .loop .i + 1)) (drop (l .loop .i + 1) v))
+          (sym (getD-take (a .count) (a .text .now) (l .loop .i) 0 h))
           ∙ copy-next v (l .loop .line) _ (a .at) (l .loop .i) (omega (arith, long l)) (l .loop .inv .2),
     )
 

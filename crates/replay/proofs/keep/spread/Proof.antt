@@ -12,7 +12,8 @@ use Rattle.replay.proofs.keep.spread.Statement.{statement}
 use Rattle.replay.proofs.keep.spread.Tie as tie
 
 abbrev Inv-loop : tie.InvT-loop
-Inv-loop part held line₀ left₀ i₀ line left i = (i ≤ held) × (length line ≡ length line₀) × (sets line i (bytesIn (held - i) left) ≡ sets line₀ 0 (bytesIn held part))
+Inv-loop part held line₀ left₀ i₀ line left i =
+    (i ≤ held) × (length line ≡ length line₀) × (sets line i (bytesIn (held - i) left) ≡ sets line₀ 0 (bytesIn held part))
 
 abbrev μ-loop : tie.MeasureT-loop
 μ-loop part held line₀ left₀ i₀ line left i = held - i

@@ -19,7 +19,8 @@ returns-2 c =
     let s = e .before .before .before .before .before in
     let a = s .args in
     c .move-to .ensures
-    ∙ later-move (a .mode) (a .image .now) (a .marks .now) (codeAt (a .table .now)) (a .log) (a .p) (e .if1 .left) (s .pre .1) (n .position .result) (n .position .ensures)
+    ∙ later-move (a .mode) (a .image .now) (a .marks .now) (codeAt (a .table .now)) (a .log) (a .p) (e .if1 .left) (s .pre .1) (n .position .result)
+    (n .position .ensures)
 
 pub move-now-spec : {M : Type 1} → statement M
 move-now-spec = tie.close (tie.spec returns (λ c κs. search needs) (λ c κs. search needs) returns-2)

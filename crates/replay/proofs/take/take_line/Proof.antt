@@ -19,7 +19,8 @@ use Rattle.replay.proofs.take.take_line.Tie as tie
 abbrev start : tie.After-slice-known → tie.Start
 start c = c .before .before .before .before
 
-traced : (c : tie.Else2) → tracedAt (start (c .before .before .before) .args .image .now) (start (c .before .before .before) .args .marks .now) (start (c .before .before .before) .args .p) ≡ true
+traced : (c : tie.Else2) → tracedAt (start (c .before .before .before) .args .image .now) (start (c .before .before .before) .args .marks .now)
+    (start (c .before .before .before) .args .p) ≡ true
 traced c = sym (c .before .is-traced-at .ensures) ∙ not-false _ (c .if2 .left)
 
 inside : (c : tie.Else2) → start (c .before .before .before) .args .p < length (start (c .before .before .before) .args .counts .now)
@@ -59,7 +60,8 @@ returns-3 c =
     let d = n .before in
     let e = d .before .before in
     let a = start (e .before) .args in
-    not-allowed (a .mode) (a .image .now) (a .marks .now) (codeAt (a .table .now)) (a .log) (a .counts .now) (a .p) (e .if1 .left) (traced d) _ (c .refuse3 .ensures)
+    not-allowed (a .mode) (a .image .now) (a .marks .now) (codeAt (a .table .now)) (a .log) (a .counts .now) (a .p) (e .if1 .left) (traced d) _
+    (c .refuse3 .ensures)
     (ap isForbidden (sym (n .move-now .ensures)) ∙ sym (f .is-forbidden .ensures) ∙ t .if3 .taken)
 
 slice-read-count : tie.Need-slice-read-count

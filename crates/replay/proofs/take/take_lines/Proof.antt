@@ -13,7 +13,9 @@ use Rattle.replay.proofs.take.take_lines.Statement.{statement}
 use Rattle.replay.proofs.take.take_lines.Tie as tie
 
 abbrev Inv-loop : tie.InvT-loop
-Inv-loop mode text image marks table counts₀ after₀ at₀ counts after at = (at ≤ length text) × (length counts ≡ length counts₀) × (feedOf mode image marks (codeAt table) (state after counts) (drop at text) ≡ feedOf mode image marks (codeAt table) (state after₀ counts₀) text)
+Inv-loop mode text image marks table counts₀ after₀ at₀ counts after at =
+    (at ≤ length text) × (length counts ≡ length counts₀)
+    × (feedOf mode image marks (codeAt table) (state after counts) (drop at text) ≡ feedOf mode image marks (codeAt table) (state after₀ counts₀) text)
 
 abbrev μ-loop : tie.MeasureT-loop
 μ-loop mode text image marks table counts₀ after₀ at₀ counts after at = length text - at
@@ -38,8 +40,10 @@ returns c =
     let i = o .before .before in
     let l = i .before in
     let a = start l .args in
-    lines-stop (a .mode) (a .image .now) (a .marks .now) (codeAt (a .table .now)) (state (l .loop .after) (l .loop .counts)) _ (a .text .now) (l .loop .at) (l .loop .inv .2)
-    (state (t .take-line .result) _) _ (l .loop .at + 7 - l .loop .at) (i .loop-test .taken) (omega arith) (o .position-of .ensures) (t .take-line .ensures) (c .if1 .taken)
+    lines-stop (a .mode) (a .image .now) (a .marks .now) (codeAt (a .table .now)) (state (l .loop .after) (l .loop .counts)) _ (a .text .now) (l .loop .at)
+    (l .loop .inv .2)
+    (state (t .take-line .result) _) _ (l .loop .at + 7 - l .loop .at) (i .loop-test .taken) (omega arith) (o .position-of .ensures) (t .take-line .ensures)
+    (c .if1 .taken)
 
 loop-again : tie.Need-loop-again Inv-loop μ-loop
 loop-again c =
@@ -49,9 +53,12 @@ loop-again c =
     let l = i .before in
     let a = start l .args in (
       (let h = i .loop-test .taken in omega arith),
-      taken-length (a .mode) (a .image .now) (a .marks .now) (codeAt (a .table .now)) (l .loop .after) (l .loop .counts) _ _ _ (t .take-line .ensures) ∙ l .loop .inv .1,
-      lines-on (a .mode) (a .image .now) (a .marks .now) (codeAt (a .table .now)) (state (l .loop .after) (l .loop .counts)) _ (a .text .now) (l .loop .at) (l .loop .inv .2)
-          (state (t .take-line .result) _) _ (l .loop .at + 7 - l .loop .at) (i .loop-test .taken) (omega arith) (o .position-of .ensures) (t .take-line .ensures) (c .if1 .left),
+      taken-length (a .mode) (a .image .now) (a .marks .now) (codeAt (a .table .now)) (l .loop .after) (l .loop .counts) _ _ _ (t .take-line .ensures)
+          ∙ l .loop .inv .1,
+      lines-on (a .mode) (a .image .now) (a .marks .now) (codeAt (a .table .now)) (state (l .loop .after) (l .loop .counts)) _ (a .text .now) (l .loop .at)
+          (l .loop .inv .2)
+          (state (t .take-line .result) _) _ (l .loop .at + 7 - l .loop .at) (i .loop-test .taken) (omega arith) (o .position-of .ensures)
+          (t .take-line .ensures) (c .if1 .left),
     )
 
 returns-2 : tie.Need-returns-2 Inv-loop μ-loop
@@ -59,7 +66,8 @@ returns-2 c =
     let r = c .before .before in
     let l = r .before in
     let a = start l .args in
-    lines-rest (a .mode) (a .image .now) (a .marks .now) (codeAt (a .table .now)) (state (l .loop .after) (l .loop .counts)) _ (a .text .now) (l .loop .at) (l .loop .inv .2)
+    lines-rest (a .mode) (a .image .now) (a .marks .now) (codeAt (a .table .now)) (state (l .loop .after) (l .loop .counts)) _ (a .text .now) (l .loop .at)
+    (l .loop .inv .2)
     (r .loop-test .left) _ (length (a .text .now) - l .loop .at) refl (c .keep .ensures)
 
 pub take-lines-spec : {M : Type 1} → statement M

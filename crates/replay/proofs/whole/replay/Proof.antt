@@ -19,7 +19,8 @@ told : (c : tie.Else1) → isTold (c .before .before .check .result) ≡ true
 told c = sym (c .before .is-told .ensures) ∙ not-false _ (c .if1 .left)
 
 sizes : (c : tie.Else1)
-    → (length (start (c .before .before) .args .image .now) ≤ 65536) × (length (start (c .before .before) .args .image .now) ≤ length (start (c .before .before) .args .counts .now))
+    → (length (start (c .before .before) .args .image .now) ≤ 65536)
+    × (length (start (c .before .before) .args .image .now) ≤ length (start (c .before .before) .args .counts .now))
 sizes c =
     let k = c .before .before in
     let a = start k .args in

@@ -13,7 +13,8 @@ use Rattle.replay.proofs.whole.take_back.Statement.{statement}
 use Rattle.replay.proofs.whole.take_back.Tie as tie
 
 abbrev Inv-loop : tie.InvT-loop
-Inv-loop text lines counts₀ k₀ counts k = (k ≤ lines) × (length counts ≡ length counts₀) × Counted text k counts × (takenBack text k counts ≡ takenBack text lines counts₀)
+Inv-loop text lines counts₀ k₀ counts k = (k ≤ lines) × (length counts ≡ length counts₀) × Counted text k counts
+    × (takenBack text k counts ≡ takenBack text lines counts₀)
 
 abbrev μ-loop : tie.MeasureT-loop
 μ-loop text lines counts₀ k₀ counts k = k
@@ -31,7 +32,8 @@ place c =
     back-told (text i) (l .loop .k) (i .loop-test .taken) _ ((l .loop .k - 1) * 7 + 7 - (l .loop .k - 1) * 7) (omega arith) (c .position-of .ensures)
 
 here : (c : tie.After-position-of Inv-loop μ-loop)
-    → (c .position-of .result < length (c .before .before .before .loop .counts)) × (0 < getD (c .before .before .before .loop .counts) (c .position-of .result) 0)
+    → (c .position-of .result < length (c .before .before .before .loop .counts))
+    × (0 < getD (c .before .before .before .loop .counts) (c .position-of .result) 0)
 here c =
     let i = c .before .before in
     let l = i .before in
@@ -68,7 +70,8 @@ loop-again c =
       (let g = l .loop .inv .0 in omega arith),
       length-set (l .loop .counts) (o .position-of .result) _ ∙ l .loop .inv .1,
       subst (λ (p : ℕ). Counted (text i) (l .loop .k - 1) (less (l .loop .counts) p)) (sym (place o)) (w .2),
-      subst (λ (p : ℕ). takenBack (text i) (l .loop .k - 1) (less (l .loop .counts) p) ≡ takenBack (text i) (start l .args .lines) (start l .args .counts .now)) (sym (place o)) (back-next (text i) (l .loop .k) h (l .loop .counts) _ (l .loop .inv .3)),
+      subst (λ (p : ℕ). takenBack (text i) (l .loop .k - 1) (less (l .loop .counts) p) ≡ takenBack (text i) (start l .args .lines) (start l .args .counts .now))
+          (sym (place o)) (back-next (text i) (l .loop .k) h (l .loop .counts) _ (l .loop .inv .3)),
     )
 
 same-length : tie.Need-same-length Inv-loop μ-loop

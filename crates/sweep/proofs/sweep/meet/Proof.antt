@@ -38,13 +38,15 @@ returns-2 c =
     let a = i .before .before in
     let s = start (a .before .before) in
     let w = goes-whole (mode a) (image a) (p a) (s .pre .0) (s .pre .1) (i .to .given .0 .0) (sym (i .to .given .1) ∙ a .ways-at .ensures) in
-    taken-up (tracerOf (mode a) (image a)) (marks a) (p a) (a .before .if1 .left) (w .0) _ (by-ways (mode a) (image a) _ (marks a) (p a) _ _ (w .1) (t .take-up .ensures) .marks-are)
+    taken-up (tracerOf (mode a) (image a)) (marks a) (p a) (a .before .if1 .left) (w .0) _
+    (by-ways (mode a) (image a) _ (marks a) (p a) _ _ (w .1) (t .take-up .ensures) .marks-are)
 
 returns-3 : tie.Need-returns-3
 returns-3 c =
     let a = c .before .before in
     let s = start (a .before .before) in
-    cut-off (tracerOf (mode a) (image a)) (marks a) (p a) (goes-cut (mode a) (image a) (p a) (s .pre .0) (s .pre .1) (c .enum-told .given .0 .0) (sym (c .enum-told .given .1) ∙ a .ways-at .ensures) .0)
+    cut-off (tracerOf (mode a) (image a)) (marks a) (p a)
+    (goes-cut (mode a) (image a) (p a) (s .pre .0) (s .pre .1) (c .enum-told .given .0 .0) (sym (c .enum-told .given .1) ∙ a .ways-at .ensures) .0)
 
 returns-4 : tie.Need-returns-4
 returns-4 c =

@@ -40,21 +40,24 @@ returns c =
     let e = o .before .before in
     let k = e .before .before in
     let a = start k .args in
-    swept (a .mode) (a .image .now) (a .marks .now) (a .entries .now) (a .pins .now) _ (set e) (o .sweep-on .result) _ _ (started k .start .ensures .1) (o .sweep-on .ensures)
+    swept (a .mode) (a .image .now) (a .marks .now) (a .entries .now) (a .pins .now) _ (set e) (o .sweep-on .result) _ _ (started k .start .ensures .1)
+    (o .sweep-on .ensures)
 
 returns-2 : tie.Need-returns-2
 returns-2 c =
     let n = c .before in
     let k = n .before .before in
     let a = start k .args in
-    refused-too (a .mode) (a .image .now) (a .marks .now) (a .entries .now) (a .pins .now) 1 (pos (n .n .given .0 .0) ∷ []) _ (sym (ap startedOf (n .n .given .1)) ∙ started k .start .ensures .0) (started k .start .ensures .1)
+    refused-too (a .mode) (a .image .now) (a .marks .now) (a .entries .now) (a .pins .now) 1 (pos (n .n .given .0 .0) ∷ []) _
+    (sym (ap startedOf (n .n .given .1)) ∙ started k .start .ensures .0) (started k .start .ensures .1)
 
 returns-3 : tie.Need-returns-3
 returns-3 c =
     let n = c .before in
     let k = n .before .before in
     let a = start k .args in
-    refused-too (a .mode) (a .image .now) (a .marks .now) (a .entries .now) (a .pins .now) 2 (pos (n .n2 .given .0 .0) ∷ []) _ (sym (ap startedOf (n .n2 .given .1)) ∙ started k .start .ensures .0) (started k .start .ensures .1)
+    refused-too (a .mode) (a .image .now) (a .marks .now) (a .entries .now) (a .pins .now) 2 (pos (n .n2 .given .0 .0) ∷ []) _
+    (sym (ap startedOf (n .n2 .given .1)) ∙ started k .start .ensures .0) (started k .start .ensures .1)
 
 pub sweep-spec : {M : Type 1} → statement M
 sweep-spec =

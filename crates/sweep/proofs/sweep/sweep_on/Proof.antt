@@ -42,21 +42,28 @@ returns c =
     let l = turn k .before in
     let a = start l .args in
     told (a .mode) (a .image .now) (a .marks .now) _ _ _ (c .new .result) (c .new .ensures)
-    (last-swept (tracerOf (a .mode) (a .image .now)) (a .marks .now) (l .loop .marks) (l .loop .sweeps) (l .loop .steps) (l .loop .inv) (within (turn k)) _ _ (swept k .sweep-once .ensures) (t .if1 .taken))
+    (last-swept (tracerOf (a .mode) (a .image .now)) (a .marks .now) (l .loop .marks) (l .loop .sweeps) (l .loop .steps) (l .loop .inv) (within (turn k)) _ _
+    (swept k .sweep-once .ensures) (t .if1 .taken))
 
 add-steps : tie.Need-add-steps Inv-loop μ-loop
 add-steps c =
     let k = c .before in
     let l = turn k .before in
     let a = start l .args in
-    omega (arith, small l, few-steps (tracerOf (a .mode) (a .image .now)) (a .marks .now) (l .loop .marks) (l .loop .sweeps) (l .loop .steps) (l .loop .inv) (within (turn k)) _ _ (swept k .sweep-once .ensures) (room l))
+    omega (
+      arith,
+      small l,
+      few-steps (tracerOf (a .mode) (a .image .now)) (a .marks .now) (l .loop .marks) (l .loop .sweeps) (l .loop .steps) (l .loop .inv)
+          (within (turn k)) _ _ (swept k .sweep-once .ensures) (room l),
+    )
 
 loop-again : tie.Need-loop-again Inv-loop μ-loop
 loop-again c =
     let k = c .before in
     let l = turn k .before in
     let a = start l .args in
-    sweeping-next (tracerOf (a .mode) (a .image .now)) (a .marks .now) (l .loop .marks) (l .loop .sweeps) (l .loop .steps) (l .loop .inv) (within (turn k)) _ _ (swept k .sweep-once .ensures) (room l) (c .if1 .left) (swept k .sweep-once .kept .1 .1 .0)
+    sweeping-next (tracerOf (a .mode) (a .image .now)) (a .marks .now) (l .loop .marks) (l .loop .sweeps) (l .loop .steps) (l .loop .inv) (within (turn k)) _ _
+    (swept k .sweep-once .ensures) (room l) (c .if1 .left) (swept k .sweep-once .kept .1 .1 .0)
 
 returns-2 : tie.Need-returns-2 Inv-loop μ-loop
 returns-2 c =
@@ -72,7 +79,8 @@ sweep-on-spec =
     (tie.spec
     Inv-loop
     μ-loop
-    (λ c. sweeping-start (tracerOf (c .before .before .args .mode) (c .before .before .args .image .now)) (c .before .before .args .marks .now) (c .before .before .pre .2))
+    (λ c. sweeping-start (tracerOf (c .before .before .args .mode) (c .before .before .args .image .now)) (c .before .before .args .marks .now)
+    (c .before .before .pre .2))
     (λ c κs. let l = c .before .before in (small l, omega (arith, room l, l .loop .inv .long)))
     (λ c. let i = turn c in omega (arith, within i, small (i .before)))
     (λ c. let i = turn (c .before) in record { fits = omega (arith, within i, small (i .before)) })

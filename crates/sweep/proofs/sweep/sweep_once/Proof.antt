@@ -36,7 +36,14 @@ add-taken : tie.Need-add-taken Inv-loop μ-loop
 add-taken c =
     let l = turn c .before in
     let a = start l .args in
-    omega (arith, small l, l .loop .inv .few, l .loop .inv .inside, c .before .before .meet .ensures .0, one-at-most (canTake (tracerOf (a .mode) (a .image .now)) (l .loop .marks) (l .loop .p)))
+    omega (
+      arith,
+      small l,
+      l .loop .inv .few,
+      l .loop .inv .inside,
+      c .before .before .meet .ensures .0,
+      one-at-most (canTake (tracerOf (a .mode) (a .image .now)) (l .loop .marks) (l .loop .p)),
+    )
 
 add-p : tie.Need-add-p Inv-loop μ-loop
 add-p c = let l = turn c .before in omega (arith, small l, l .loop .inv .inside)
@@ -52,7 +59,8 @@ loop-again c =
     let i = turn c in
     let l = i .before in
     let a = start l .args in
-    passing-next (tracerOf (a .mode) (a .image .now)) (a .marks .now) (l .loop .marks) (l .loop .p) (l .loop .taken) (l .loop .inv) (i .loop-test .taken) _ _ (c .before .before .meet .ensures)
+    passing-next (tracerOf (a .mode) (a .image .now)) (a .marks .now) (l .loop .marks) (l .loop .p) (l .loop .taken) (l .loop .inv) (i .loop-test .taken) _ _
+    (c .before .before .meet .ensures)
 
 returns : tie.Need-returns Inv-loop μ-loop
 returns c =

@@ -48,14 +48,18 @@ room-there c = let l = c .before in omega (arith, l .before .fitting .ensures .1
 loop-again : tie.Need-loop-again Inv-loop μ-loop
 loop-again c =
     let i = c .before .before .before in
-    let l = i .before in
-    (omega (arith, i .loop-test .taken), put-byte same (digits l) (room l) (at l) (l .loop .room) (l .loop .i) (l .loop .inv .1) (pair-there i) (c .pair .result) (c .pair .ensures))
+    let l = i .before in (
+      omega (arith, i .loop-test .taken),
+      put-byte same (digits l) (room l) (at l) (l .loop .room) (l .loop .i) (l .loop .inv .1) (pair-there i)
+          (c .pair .result) (c .pair .ensures),
+    )
 
 returns : tie.Need-returns Inv-loop μ-loop
 returns c =
     let l = c .before in
     let f = l .before .fitting in
-    put-all same (digits l) (room l) (at l) (l .loop .room) (l .loop .i) (l .loop .inv .1) (f .result) (l .loop .inv .0) (c .loop-test .left) (f .ensures .2) (f .ensures .0)
+    put-all same (digits l) (room l) (at l) (l .loop .room) (l .loop .i) (l .loop .inv .1) (f .result) (l .loop .inv .0) (c .loop-test .left) (f .ensures .2)
+    (f .ensures .0)
     ∙ ap (sets (room l) (at l)) (as-they-are (bytesOf (digits l)))
 
 pub put-spec : {M : Type 1} → statement M
@@ -69,7 +73,8 @@ put-spec =
     (λ c. let h = pair-there c in let f : Fits w64 (length (digits (c .before))) = search needs in record { fits = omega (arith, h, f .fits) })
     (λ c. let h = pair-there (c .before) in omega (arith, h))
     (λ c. search needs)
-    (λ c. let h = pair-there (c .before) in let f : Fits w64 (length (digits (c .before .before))) = search needs in record { fits = omega (arith, h, f .fits) })
+    (λ c. let h = pair-there (c .before) in let f : Fits w64 (length (digits (c .before .before))) = search needs in
+    record { fits = omega (arith, h, f .fits) })
     (λ c. pair-there (c .before .before))
     (λ c κs. search needs)
     (λ c. search needs)

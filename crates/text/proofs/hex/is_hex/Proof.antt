@@ -22,8 +22,11 @@ start c = c .before .before
 loop-again : tie.Need-loop-again Inv-loop μ-loop
 loop-again c =
     let i = c .before .before in
-    let l = i .before in
-    (search needs, hex-more (start l .args .s .now) (l .loop .i) (l .loop .all) (l .loop .inv .1) (i .loop-test .taken) (c .is-digit .result) (c .is-digit .ensures))
+    let l = i .before in (
+      search needs,
+      hex-more (start l .args .s .now) (l .loop .i) (l .loop .all) (l .loop .inv .1) (i .loop-test .taken) (c .is-digit .result)
+          (c .is-digit .ensures),
+    )
 
 returns : tie.Need-returns Inv-loop μ-loop
 returns c =

@@ -50,4 +50,5 @@ read-b c =
 pub same-spec : {M : Type 1} → statement M
 same-spec =
     tie.close
-    (tie.spec Inv-loop μ-loop returns (λ c. (search needs, refl)) (λ c. search needs) read-b returns-2 (λ c. search needs) (λ c. search needs) loop-again returns-3)
+    (tie.spec Inv-loop μ-loop returns (λ c. (search needs, refl)) (λ c. search needs) read-b returns-2 (λ c. search needs)
+    (λ c. search needs) loop-again returns-3)

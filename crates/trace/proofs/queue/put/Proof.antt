@@ -52,4 +52,5 @@ put-spec =
     (λ c. search needs)
     (λ c. let w = c .before in let s = w .before .before in said (s .args .order .now) (s .args .tail) _ _ (w .ps .given .1) (refl, refl))
     (λ c. search needs)
-    (λ c. let w = c .before in let s = w .before .before in said (s .args .order .now) (s .args .tail) _ _ (w .ps2 .given .1) (refl, both (s .args .order .now) (s .args .tail) _ _)))
+    (λ c. let w = c .before in let s = w .before .before in
+    said (s .args .order .now) (s .args .tail) _ _ (w .ps2 .given .1) (refl, both (s .args .order .now) (s .args .tail) _ _)))

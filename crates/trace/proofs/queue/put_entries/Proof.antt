@@ -36,7 +36,8 @@ loop-again c =
     let o = p .before .before .before .before in
     let t = o .before .before .before in
     let l = t .before in
-    noted-next (start l .args .entries .now) (l .loop .i) (l .loop .inv) (t .loop-test .taken) (noted-put (l .loop .order) (l .loop .tail) _ _ _ (p .put .ensures) (o .note-place .ensures))
+    noted-next (start l .args .entries .now) (l .loop .i) (l .loop .inv) (t .loop-test .taken)
+    (noted-put (l .loop .order) (l .loop .tail) _ _ _ (p .put .ensures) (o .note-place .ensures))
 
 pub put-entries-spec : {M : Type 1} → statement M
 put-entries-spec =

@@ -27,7 +27,8 @@ returns-3 c =
     let f = c .before in
     let e = f .before in
     let a = start e .args in
-    let w = short-order (a .mode) (a .image .now) (a .marks .now) (a .order .now) (a .entries .now) (a .pins .now) (a .limit) (e .if1 .left) (f .if2 .left) (c .if3 .taken) in
+    let w = short-order (a .mode) (a .image .now) (a .marks .now) (a .order .now) (a .entries .now) (a .pins .now) (a .limit) (e .if1 .left) (f .if2 .left)
+    (c .if3 .taken) in
     (w .0, (w .1, (w .2, tt)))
 
 returns-4 : tie.Need-returns-4
@@ -38,7 +39,8 @@ returns-4 c =
     let e = f .before in
     let a = start e .args in
     parted-four
-    (ran (a .mode) (a .image .now) (a .marks .now) (a .order .now) (a .entries .now) (a .pins .now) (a .limit) (e .if1 .left) (f .if2 .left) (g .if3 .left) _ _ _ (r .run-on .ensures))
+    (ran (a .mode) (a .image .now) (a .marks .now) (a .order .now) (a .entries .now) (a .pins .now) (a .limit) (e .if1 .left) (f .if2 .left)
+    (g .if3 .left) _ _ _ (r .run-on .ensures))
 
 pub run-spec : {M : Type 1} → statement M
 run-spec =

@@ -15,7 +15,8 @@ use Rattle.trace.proofs.run.run_on.Statement.{statement}
 use Rattle.trace.proofs.run.run_on.Tie as tie
 
 abbrev Inv-loop : tie.InvT-loop
-Inv-loop mode image marks₀ order₀ entries pins limit n most tail₀ head₀ marks order tail head = Stand (tracerOf mode image) most marks₀ order₀ tail₀ marks order tail head
+Inv-loop mode image marks₀ order₀ entries pins limit n most tail₀ head₀ marks order tail head =
+    Stand (tracerOf mode image) most marks₀ order₀ tail₀ marks order tail head
 
 abbrev μ-loop : tie.MeasureT-loop
 μ-loop mode image marks₀ order₀ entries pins limit n most tail₀ head₀ marks order tail head = length image - head
@@ -40,11 +41,15 @@ entered c = c .before .before .before .before
 abbrev first : tie.After-slice-known5 Inv-loop μ-loop → tie.Start Inv-loop μ-loop
 first c = start (ready (entered c .before))
 
-begun : (c : tie.After-slice-known5 Inv-loop μ-loop) → Begun (first c .args .mode) (first c .args .image .now) (first c .args .marks .now) (first c .args .order .now) (first c .args .entries .now) (first c .args .pins .now) (entered c .put-entries .last .0) (entered c .put-entries .last .1 .0) (entered c .put-entries .result)
+begun : (c : tie.After-slice-known5 Inv-loop μ-loop)
+    → Begun (first c .args .mode) (first c .args .image .now) (first c .args .marks .now) (first c .args .order .now) (first c .args .entries .now)
+    (first c .args .pins .now) (entered c .put-entries .last .0) (entered c .put-entries .last .1 .0) (entered c .put-entries .result)
 begun c =
     let s = first c in
     let e = entered c in
-    begun-of (s .args .mode) (s .args .image .now) (s .args .marks .now) (s .args .order .now) (s .args .entries .now) (s .args .pins .now) (ready (e .before) .begin .last .0) (e .put-entries .last .1 .0) (e .put-entries .last .0) (e .put-entries .result) (s .pre) (ready (e .before) .begin .ensures) (e .put-entries .ensures)
+    begun-of (s .args .mode) (s .args .image .now) (s .args .marks .now) (s .args .order .now) (s .args .entries .now) (s .args .pins .now)
+    (ready (e .before) .begin .last .0) (e .put-entries .last .1 .0) (e .put-entries .last .0) (e .put-entries .result) (s .pre)
+    (ready (e .before) .begin .ensures) (e .put-entries .ensures)
 
 loop-holds : tie.Need-loop-holds Inv-loop μ-loop
 loop-holds c = let B = begun c in stand-begin (B .base) (B .room) (B .noted) _
@@ -73,7 +78,8 @@ returns c =
     let s = first (a .before) .args in
     let B = begun (a .before) in
     let l = a .loop in
-    ran-stopped (s .mode) (s .image .now) (s .marks .now) (s .order .now) (s .entries .now) (s .pins .now) (s .limit) (B .base) (l .marks) (l .order) (l .tail) (l .head) (c .new .result) (c .new .ensures)
+    ran-stopped (s .mode) (s .image .now) (s .marks .now) (s .order .now) (s .entries .now) (s .pins .now) (s .limit) (B .base) (l .marks) (l .order) (l .tail)
+    (l .head) (c .new .result) (c .new .ensures)
     (came-stopped (B .base) (B .room) (B .noted) (l .inv) (i .loop-test .taken) (t .if1 .taken))
 
 slice-read-p : tie.Need-slice-read-p Inv-loop μ-loop
@@ -89,8 +95,10 @@ take-next-requires c κs =
     let a = i .before in
     let B = begun (a .before) in
     let l = a .loop in
-    let h = i .loop-test .taken in
-    ((stand-inside (B .marks-fit) (B .order-fits) (l .inv) h, B .small, omega (arith, B .marks-fit, l .inv .marks-long)), stand-room (B .marks-fit) (B .order-fits) (l .inv) h)
+    let h = i .loop-test .taken in (
+      (stand-inside (B .marks-fit) (B .order-fits) (l .inv) h, B .small, omega (arith, B .marks-fit, l .inv .marks-long)),
+      stand-room (B .marks-fit) (B .order-fits) (l .inv) h,
+    )
 
 -- after the next was taken up
 abbrev turned : tie.After-slice-known8 Inv-loop μ-loop → tie.After-take-next Inv-loop μ-loop
@@ -109,7 +117,8 @@ returns-2 c =
     let B = begun (a .before) in
     let l = a .loop in
     let o = turned w .take-next .ensures .off (k .c .given .0 .0) (k .c .given .1) in
-    ran-cut (s .mode) (s .image .now) (s .marks .now) (s .order .now) (s .entries .now) (s .pins .now) (s .limit) (B .base) (l .marks) (l .order) (l .tail) (l .head) (getD (l .order) (l .head) 0) (k .c .given .0 .0) (o .1)
+    ran-cut (s .mode) (s .image .now) (s .marks .now) (s .order .now) (s .entries .now) (s .pins .now) (s .limit) (B .base) (l .marks) (l .order) (l .tail)
+    (l .head) (getD (l .order) (l .head) 0) (k .c .given .0 .0) (o .1)
     (came-cut (B .base) (B .room) (B .noted) (l .inv) (i .loop-test .taken) (test w .if1 .left) (o .0)) _ _ (o .2) (o .3)
 
 add-head : tie.Need-add-head Inv-loop μ-loop
@@ -138,7 +147,8 @@ returns-3 c =
     let s = first (a .before) .args in
     let B = begun (a .before) in
     let l = a .loop in
-    ran-finished (s .mode) (s .image .now) (s .marks .now) (s .order .now) (s .entries .now) (s .pins .now) (s .limit) (B .base) (l .marks) (l .order) (l .tail) (l .head) (c .new2 .result) (c .new2 .ensures)
+    ran-finished (s .mode) (s .image .now) (s .marks .now) (s .order .now) (s .entries .now) (s .pins .now) (s .limit) (B .base) (l .marks) (l .order) (l .tail)
+    (l .head) (c .new2 .result) (c .new2 .ensures)
     (came-finished (B .base) (B .room) (B .noted) (l .inv) (t .loop-test .left))
 
 pub run-on-spec : {M : Type 1} → statement M

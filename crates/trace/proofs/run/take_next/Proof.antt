@@ -30,7 +30,8 @@ image c = start c .args .image .now
 abbrev p : tie.After-ways-at → ℕ
 p c = start c .args .p
 
-whole : (c : tie.After-to) → (fitsHere (image (c .before .before)) (p (c .before .before)) ≡ true) × (placesIn (c .to .given .0 .0) ≡ waysHere (mode (c .before .before)) (image (c .before .before)) (p (c .before .before)))
+whole : (c : tie.After-to) → (fitsHere (image (c .before .before)) (p (c .before .before)) ≡ true)
+    × (placesIn (c .to .given .0 .0) ≡ waysHere (mode (c .before .before)) (image (c .before .before)) (p (c .before .before)))
 whole c =
     let a = c .before .before in
     goes-whole (mode a) (image a) (p a) (start a .pre .0 .0) (start a .pre .0 .1) (c .to .given .0 .0) (sym (c .to .given .1) ∙ a .ways-at .ensures)
@@ -38,7 +39,8 @@ whole c =
 abbrev at : tie.After-take-up → tie.After-to
 at c = c .before .before .before
 
-taken : (c : tie.After-take-up) → let s = start (at c .before .before) in TakenUp (tracerOf (s .args .mode) (s .args .image .now)) (s .args .marks .now) (s .args .p) (c .take-up .result) (c .take-up .last .1 .0)
+taken : (c : tie.After-take-up) → let s = start (at c .before .before) in
+    TakenUp (tracerOf (s .args .mode) (s .args .image .now)) (s .args .marks .now) (s .args .p) (c .take-up .result) (c .take-up .last .1 .0)
 taken c =
     let s = start (at c .before .before) in
     by-ways (s .args .mode) (s .args .image .now) _ (s .args .marks .now) (s .args .p) _ _ (whole (at c) .1) (c .take-up .ensures)
@@ -57,7 +59,8 @@ returns c =
     let a = i .before .before in
     let s = start a in
     turned-on (mode a) (image a) (s .args .marks .now) (s .args .order .now) (p a) (s .args .tail) (q .put .result) _ _ (whole i .0)
-    (taken-put (mode a) (image a) (s .args .marks .now) (p a) (t .take-up .result) _ (s .args .order .now) (s .args .tail) _ (q .put .result) (taken t) (q .put .ensures))
+    (taken-put (mode a) (image a) (s .args .marks .now) (p a) (t .take-up .result) _ (s .args .order .now) (s .args .tail) _ (q .put .result) (taken t)
+    (q .put .ensures))
 
 returns-2 : tie.Need-returns-2
 returns-2 c =

@@ -44,7 +44,11 @@ add-set c =
     let k : s .args .n ≤ length (s .args .marks .now) = s .pre in
     let e : l .loop .set ≡ length (fresh (s .args .n) (take (l .loop .i) (s .args .entries .now)) (s .args .marks .now)) = l .loop .inv .2 in
     let f : o .note-one .result ≡ length (fresh (s .args .n) (getD (s .args .entries .now) (l .loop .i) 0 ∷ []) (l .loop .marks)) = o .note-one .ensures .0 in
-    omega (arith, fresh-le (s .args .n) (take (l .loop .i) (s .args .entries .now)) (s .args .marks .now) k, fresh-short (s .args .n) (getD (s .args .entries .now) (l .loop .i) 0 ∷ []) (l .loop .marks))
+    omega (
+      arith,
+      fresh-le (s .args .n) (take (l .loop .i) (s .args .entries .now)) (s .args .marks .now) k,
+      fresh-short (s .args .n) (getD (s .args .entries .now) (l .loop .i) 0 ∷ []) (l .loop .marks),
+    )
 
 add-i : tie.Need-add-i Inv-loop μ-loop
 add-i c = omega arith
@@ -61,7 +65,8 @@ loop-again c =
     let h : l .loop .i < length (a .entries .now) = t .loop-test .taken in (
       omega arith,
       marks-more (a .n) (a .entries .now) (a .marks .now) (l .loop .marks) (l .loop .i) h (l .loop .inv .1) _ (o .note-one .ensures .1),
-      count-more (a .n) (a .entries .now) (a .marks .now) (l .loop .marks) (l .loop .i) h (l .loop .inv .1) (l .loop .set) (o .note-one .result) (l .loop .inv .2) (o .note-one .ensures .0),
+      count-more (a .n) (a .entries .now) (a .marks .now) (l .loop .marks) (l .loop .i) h (l .loop .inv .1) (l .loop .set) (o .note-one .result)
+          (l .loop .inv .2) (o .note-one .ensures .0),
     )
 
 same-length : tie.Need-same-length Inv-loop μ-loop
@@ -74,8 +79,10 @@ returns : tie.Need-returns Inv-loop μ-loop
 returns c =
     let l = c .before in
     let a = l .before .before .before .args in
-    let w : take (l .loop .i) (a .entries .now) ≡ a .entries .now = take-all (l .loop .i) (a .entries .now) (c .loop-test .left) in
-    (l .loop .inv .2 ∙ ap (λ (es : List ℕ). length (fresh (a .n) es (a .marks .now))) w, l .loop .inv .1 ∙ ap (λ (es : List ℕ). note (a .n) es (a .marks .now)) w)
+    let w : take (l .loop .i) (a .entries .now) ≡ a .entries .now = take-all (l .loop .i) (a .entries .now) (c .loop-test .left) in (
+      l .loop .inv .2 ∙ ap (λ (es : List ℕ). length (fresh (a .n) es (a .marks .now))) w,
+      l .loop .inv .1 ∙ ap (λ (es : List ℕ). note (a .n) es (a .marks .now)) w,
+    )
 
 pub note-entries-spec : {M : Type 1} → statement M
 note-entries-spec =

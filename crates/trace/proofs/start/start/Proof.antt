@@ -45,7 +45,8 @@ returns-3 c =
     let d = o .before .before .before .before in
     let e = d .before .before in
     let a = entry (e .before) .args in
-    set (a .image .now) (a .marks .now) (a .entries .now) (a .pins .now) (e .before .if1 .left) (e .if2 .left) (d .begin .last .0) (d .begin .ensures) (o .note-entries .result) _ (o .note-entries .ensures)
+    set (a .image .now) (a .marks .now) (a .entries .now) (a .pins .now) (e .before .if1 .left) (e .if2 .left) (d .begin .last .0) (d .begin .ensures)
+    (o .note-entries .result) _ (o .note-entries .ensures)
 
 pub start-spec : {M : Type 1} → statement M
 start-spec =

@@ -68,10 +68,12 @@ inside : (c : tie.After-ways-at) → p (first c) < length (image (first c))
 inside c = third c .if3 .left
 
 -- where control goes from p, where its instruction is whole
-found : (c : tie.After-to) → (fitsHere (image (first (c .before .before))) (p (first (c .before .before))) ≡ true) × (placesIn (c .to .given .0 .0) ≡ waysHere (mode (first (c .before .before))) (image (first (c .before .before))) (p (first (c .before .before))))
+found : (c : tie.After-to) → (fitsHere (image (first (c .before .before))) (p (first (c .before .before))) ≡ true)
+    × (placesIn (c .to .given .0 .0) ≡ waysHere (mode (first (c .before .before))) (image (first (c .before .before))) (p (first (c .before .before))))
 found c =
     let a = c .before .before in
-    goes-whole (mode (first a)) (image (first a)) (p (first a)) (inside a) (first a .if1 .left) (c .to .given .0 .0) (sym (c .to .given .1) ∙ a .ways-at .ensures)
+    goes-whole (mode (first a)) (image (first a)) (p (first a)) (inside a) (first a .if1 .left) (c .to .given .0 .0)
+    (sym (c .to .given .1) ∙ a .ways-at .ensures)
 
 step-whole-requires : tie.Need-step-whole-requires
 step-whole-requires c κs =

@@ -31,7 +31,8 @@ returns-2 c =
     let w = t .before .before in
     let f = w .before .before in
     let a = start f .args in
-    took-said (going f) (a .image .now) (a .marks .now) (a .p) (sym (ap damageOf (w .enum-told .given .1)) ∙ f .find-damage .ensures) (t .take-up .result) _ (t .take-up .ensures) (k .count .result) (k .count .ensures) (c .new .result) (c .new .ensures)
+    took-said (going f) (a .image .now) (a .marks .now) (a .p) (sym (ap damageOf (w .enum-told .given .1)) ∙ f .find-damage .ensures) (t .take-up .result) _
+    (t .take-up .ensures) (k .count .result) (k .count .ensures) (c .new .result) (c .new .ensures)
 
 pub step-whole-spec : {M : Type 1} → statement M
 step-whole-spec =

@@ -40,8 +40,13 @@ loop-again c =
     let l = t .before in
     let bytes : List ℕ = start l .args .bytes .now in
     let i : ℕ = l .loop .i in
-    let h : i < length bytes = t .loop-test .taken in
-    (omega arith, omega (arith, k .put-pair .ensures .next, hex2-length (getD bytes i 0), l .loop .inv .1), puts-length (k .put-pair .ensures) ∙ l .loop .inv .2, going-next (l .loop .inv .3) (hexes-more bytes i h) (k .put-pair .ensures))
+    let h : i < length bytes = t .loop-test .taken in (
+      omega arith,
+      omega (arith, k .put-pair .ensures .next, hex2-length (getD bytes i 0), l .loop .inv .1),
+      puts-length (k .put-pair .ensures)
+          ∙ l .loop .inv .2,
+      going-next (l .loop .inv .3) (hexes-more bytes i h) (k .put-pair .ensures),
+    )
 
 slice-write-room : tie.Need-slice-write-room Inv-loop μ-loop
 slice-write-room c =
@@ -60,5 +65,6 @@ returns c =
 pub put-line-spec : {M : Type 1} → statement M
 put-line-spec =
     tie.close
-    (tie.spec Inv-loop μ-loop (λ c. (search needs, omega arith, refl, going-start _ _ _)) (λ c. search needs) put-pair-requires (λ c. search needs) (λ c. search needs) loop-again slice-write-room
+    (tie.spec Inv-loop μ-loop (λ c. (search needs, omega arith, refl, going-start _ _ _)) (λ c. search needs) put-pair-requires (λ c. search needs)
+    (λ c. search needs) loop-again slice-write-room
     (λ c. search needs) (λ c. length-set (c .before .loop .room) _ _ ∙ c .before .loop .inv .2) returns)

@@ -32,7 +32,8 @@ abbrev e : tie.After-line-end Inv-loop μ-loop → ℕ
 e c = c .line-end .result
 
 -- the line that is put, and what is left after it
-next : (c : tie.After-line-end Inv-loop μ-loop) → imageText (drop (i c) (image c)) ≡ line (take (e c - i c) (drop (i c) (image c))) ++ imageText (drop (e c) (image c))
+next : (c : tie.After-line-end Inv-loop μ-loop) → imageText (drop (i c) (image c)) ≡ line (take (e c - i c) (drop (i c) (image c)))
+    ++ imageText (drop (e c) (image c))
 next c =
     let s = c .line-end .ensures in
     next-line (image c) (i c) (e c) (s .0) (s .1) (s .2) (s .3)

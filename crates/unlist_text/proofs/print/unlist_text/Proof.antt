@@ -40,7 +40,9 @@ returns c =
     let r = read f in
     let a = start r .args in
     let t = f .before .before in
-    said _ _ (accepted-print (a .text .now) (a .length) _ _ (image-is r) (marks-are r) _ (ap restoredOf (sym (t .enum-told .given .1)) ∙ r .read-back .ensures .0) (r .read-back .last .1 .1 .1 .0) _ (r .read-back .ensures .1 .0) (f .first .ensures)) _ _ (a .room .now) (w .put-image .ensures)
+    said _ _ (accepted-print (a .text .now) (a .length) _ _ (image-is r) (marks-are r) _
+    (ap restoredOf (sym (t .enum-told .given .1)) ∙ r .read-back .ensures .0) (r .read-back .last .1 .1 .1 .0) _ (r .read-back .ensures .1 .0)
+    (f .first .ensures)) _ _ (a .room .now) (w .put-image .ensures)
 
 returns-2 : tie.Need-returns-2
 returns-2 c =
@@ -48,7 +50,8 @@ returns-2 c =
     let t = w .before .before .before in
     let r = t .before .before .before .before in
     let a = start r .args in
-    said _ _ (refused-print (a .text .now) (a .length) _ _ (image-is r) (marks-are r) 1 _ (ap restoredOf (sym (t .n .given .1)) ∙ r .read-back .ensures .0)) _ _ (a .room .now) (w .put-value .ensures)
+    said _ _ (refused-print (a .text .now) (a .length) _ _ (image-is r) (marks-are r) 1 _ (ap restoredOf (sym (t .n .given .1)) ∙ r .read-back .ensures .0)) _ _
+    (a .room .now) (w .put-value .ensures)
 
 returns-3 : tie.Need-returns-3
 returns-3 c =
@@ -56,7 +59,8 @@ returns-3 c =
     let t = w .before .before .before in
     let r = t .before .before .before .before in
     let a = start r .args in
-    said _ _ (refused-print (a .text .now) (a .length) _ _ (image-is r) (marks-are r) 2 _ (ap restoredOf (sym (t .n2 .given .1)) ∙ r .read-back .ensures .0)) _ _ (a .room .now) (w .put-value2 .ensures)
+    said _ _ (refused-print (a .text .now) (a .length) _ _ (image-is r) (marks-are r) 2 _ (ap restoredOf (sym (t .n2 .given .1)) ∙ r .read-back .ensures .0)) _
+    _ (a .room .now) (w .put-value2 .ensures)
 
 returns-4 : tie.Need-returns-4
 returns-4 c =
@@ -64,7 +68,8 @@ returns-4 c =
     let t = w .before .before .before in
     let r = t .before .before .before .before in
     let a = start r .args in
-    said _ _ (refused-print (a .text .now) (a .length) _ _ (image-is r) (marks-are r) 11 _ (ap restoredOf (sym (t .n3 .given .1)) ∙ r .read-back .ensures .0)) _ _ (a .room .now) (w .put-value3 .ensures)
+    said _ _ (refused-print (a .text .now) (a .length) _ _ (image-is r) (marks-are r) 11 _ (ap restoredOf (sym (t .n3 .given .1)) ∙ r .read-back .ensures .0)) _
+    _ (a .room .now) (w .put-value3 .ensures)
 
 returns-5 : tie.Need-returns-5
 returns-5 c =
@@ -72,7 +77,8 @@ returns-5 c =
     let t = w .before .before .before in
     let r = t .before .before .before .before in
     let a = start r .args in
-    said _ _ (refused-print (a .text .now) (a .length) _ _ (image-is r) (marks-are r) 15 _ (ap restoredOf (sym (t .k .given .1)) ∙ r .read-back .ensures .0)) _ _ (a .room .now) (w .put-value4 .ensures)
+    said _ _ (refused-print (a .text .now) (a .length) _ _ (image-is r) (marks-are r) 15 _ (ap restoredOf (sym (t .k .given .1)) ∙ r .read-back .ensures .0)) _
+    _ (a .room .now) (w .put-value4 .ensures)
 
 returns-6 : tie.Need-returns-6
 returns-6 c =
@@ -80,11 +86,15 @@ returns-6 c =
     let t = w .before .before .before in
     let r = t .before .before .before .before in
     let a = start r .args in
-    said _ _ (refused-print (a .text .now) (a .length) _ _ (image-is r) (marks-are r) 16 _ (ap restoredOf (sym (t .k2 .given .1)) ∙ r .read-back .ensures .0)) _ _ (a .room .now) (w .put-value5 .ensures)
+    said _ _ (refused-print (a .text .now) (a .length) _ _ (image-is r) (marks-are r) 16 _ (ap restoredOf (sym (t .k2 .given .1)) ∙ r .read-back .ensures .0)) _
+    _ (a .room .now) (w .put-value5 .ensures)
 
 pub unlist-text-spec : {M : Type 1} → statement M
 unlist-text-spec =
     tie.close
-    (tie.spec (λ c κs. search needs) (λ c κs. search needs) (λ c. search needs) (λ c. search needs) (λ c κs. search needs) (λ c. search needs) (λ c. search needs) (λ c κs. search needs) put-image-requires
-    (λ c. search needs) (λ c κs. search needs) (λ c. search needs) (λ c κs. search needs) (λ c. search needs) (λ c κs. search needs) (λ c. search needs) (λ c κs. search needs) (λ c. search needs) (λ c κs. search needs)
-    (λ c. search needs) returns (λ c. search needs) returns-2 (λ c. search needs) returns-3 (λ c. search needs) returns-4 (λ c. search needs) returns-5 (λ c. search needs) returns-6)
+    (tie.spec (λ c κs. search needs) (λ c κs. search needs) (λ c. search needs) (λ c. search needs) (λ c κs. search needs) (λ c. search needs)
+    (λ c. search needs) (λ c κs. search needs) put-image-requires
+    (λ c. search needs) (λ c κs. search needs) (λ c. search needs) (λ c κs. search needs) (λ c. search needs) (λ c κs. search needs) (λ c. search needs)
+    (λ c κs. search needs) (λ c. search needs) (λ c κs. search needs)
+    (λ c. search needs) returns (λ c. search needs) returns-2 (λ c. search needs) returns-3 (λ c. search needs) returns-4 (λ c. search needs) returns-5
+    (λ c. search needs) returns-6)

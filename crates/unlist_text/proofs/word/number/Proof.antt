@@ -85,8 +85,11 @@ loop-again c =
     let e = c .before in
     let i = turn e in
     let l = i .before in
-    let h = digit-range (at e) (found e) .1 in
-    (omega arith, more-digits (l .loop .n) (l .loop .i) (at e - 48) (l .loop .inv .1) (omega arith), sym (word-more (word l) (l .loop .i) (l .loop .n) (i .loop-test .taken) (found e)) ∙ l .loop .inv .2)
+    let h = digit-range (at e) (found e) .1 in (
+      omega arith,
+      more-digits (l .loop .n) (l .loop .i) (at e - 48) (l .loop .inv .1) (omega arith),
+      sym (word-more (word l) (l .loop .i) (l .loop .n) (i .loop-test .taken) (found e)) ∙ l .loop .inv .2,
+    )
 
 returns-4 : tie.Need-returns-4 Inv-loop μ-loop
 returns-4 c =
@@ -96,5 +99,6 @@ returns-4 c =
 pub number-spec : {M : Type 1} → statement M
 number-spec =
     tie.close
-    (tie.spec Inv-loop μ-loop returns returns-2 (λ c. (omega arith, omega arith, refl)) (λ c. search needs) (λ c κs. search needs) returns-3 mul-n (λ c. search needs)
+    (tie.spec Inv-loop μ-loop returns returns-2 (λ c. (omega arith, omega arith, refl)) (λ c. search needs) (λ c κs. search needs) returns-3 mul-n
+    (λ c. search needs)
     cast-n sub-n add-n (λ c. search needs) (λ c. search needs) loop-again returns-4)

@@ -18,7 +18,8 @@ returns-2 c =
     let e = t .before in
     let f = e .before in
     let a = f .before .before .args in
-    c .is-cut .ensures ∙ on (a .image .now) (a .p) (a .mark) (sym (f .is-off-jmpf .ensures) ∙ e .if1 .left) (sym (t .is-traced .ensures) ∙ c .before .if2 .taken)
+    c .is-cut .ensures ∙ on (a .image .now) (a .p) (a .mark) (sym (f .is-off-jmpf .ensures) ∙ e .if1 .left)
+    (sym (t .is-traced .ensures) ∙ c .before .if2 .taken)
 
 returns-3 : tie.Need-returns-3
 returns-3 c =

@@ -18,8 +18,11 @@ returns-3 c =
     let w = c .before in
     let e = w .before in
     let k = e .before in
-    let a = k .before .before .args in
-    (omega arith, λ p h. right (a .image .now) (a .marks .now) (λ n. k .before .shared-slice-known .given n .fits) p (omega (arith, h, e .if1 .left)) (sym (w .any-wrong .ensures) ∙ c .if2 .left) h)
+    let a = k .before .before .args in (
+      omega arith,
+      λ p h. right (a .image .now) (a .marks .now) (λ n. k .before .shared-slice-known .given n .fits) p (omega (arith, h, e .if1 .left))
+          (sym (w .any-wrong .ensures) ∙ c .if2 .left) h,
+    )
 
 pub sound-to-spec : {M : Type 1} → statement M
 sound-to-spec =

@@ -32,7 +32,8 @@ room c = start c .args .room .now
 returns : tie.Need-returns
 returns c =
     let w = c .before in
-    refused-all (image w) (marks w) (labelsOf (mode w) (image w) (marks w)) (room w) (w .before .check .result) (w .before .check .ensures) (sym (w .is-written .ensures) ∙ not-true _ (c .if1 .taken))
+    refused-all (image w) (marks w) (labelsOf (mode w) (image w) (marks w)) (room w) (w .before .check .result) (w .before .check .ensures)
+    (sym (w .is-written .ensures) ∙ not-true _ (c .if1 .taken))
 
 sound : (c : tie.Else1) → Sound (image (c .before)) (marks (c .before))
 sound c =
@@ -43,7 +44,8 @@ returns-2 : tie.Need-returns-2
 returns-2 c =
     let e = c .before in
     let w = e .before in
-    no-room-for (image w) (marks w) (labelsOf (mode w) (image w) (marks w)) (room w) (sound e) (length (image w)) (labels-length (mode w) (image w) (marks w)) (c .if2 .taken)
+    no-room-for (image w) (marks w) (labelsOf (mode w) (image w) (marks w)) (room w) (sound e) (length (image w)) (labels-length (mode w) (image w) (marks w))
+    (c .if2 .taken)
 
 write-labels-requires : tie.Need-write-labels-requires
 write-labels-requires c κs =
@@ -58,7 +60,8 @@ returns-3 c =
     let k = p .before .before in
     let e = k .before in
     let w = e .before in
-    shown-as (image w) (marks w) (labelsOf (mode w) (image w) (marks w)) (room w) (sound e) (length (image w)) (labels-length (mode w) (image w) (marks w)) (k .if2 .left) _ (p .write-labels .ensures)
+    shown-as (image w) (marks w) (labelsOf (mode w) (image w) (marks w)) (room w) (sound e) (length (image w)) (labels-length (mode w) (image w) (marks w))
+    (k .if2 .left) _ (p .write-labels .ensures)
 
 pub target-marks-spec : {M : Type 1} → statement M
 target-marks-spec =

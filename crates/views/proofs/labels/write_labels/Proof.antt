@@ -28,7 +28,8 @@ loop-holds c =
     let w = wiped-room c in
     let s = start w in (
       omega arith,
-      labels-start (s .args .mode) (s .args .image .now) (s .args .marks .now) (w .clear .last .0) (clear-at (length (s .args .image .now)) (s .args .room .now) (w .clear .last .0) (s .pre .2) (w .clear .ensures .1)),
+      labels-start (s .args .mode) (s .args .image .now) (s .args .marks .now) (w .clear .last .0)
+          (clear-at (length (s .args .image .now)) (s .args .room .now) (w .clear .last .0) (s .pre .2) (w .clear .ensures .1)),
     )
 
 room-for : (c : tie.At-loop Inv-loop μ-loop) → length (start (wiped-room (c .before)) .args .image .now) ≤ length (wiped-room (c .before) .clear .last .0)
@@ -61,7 +62,8 @@ returns c =
     let l = c .before in
     let w = wiped-room (l .before) in
     let s = start w in
-    labels-end (s .args .mode) (s .args .image .now) (s .args .marks .now) (w .clear .last .0) (room-for l) (l .loop .p) (l .loop .inv .0) (c .loop-test .left) (l .loop .room) (l .loop .inv .1)
+    labels-end (s .args .mode) (s .args .image .now) (s .args .marks .now) (w .clear .last .0) (room-for l) (l .loop .p) (l .loop .inv .0) (c .loop-test .left)
+    (l .loop .room) (l .loop .inv .1)
     ∙ ap (λ (r : List ℕ). labelsOf (s .args .mode) (s .args .image .now) (s .args .marks .now) ++ r)
     (clear-rest (length (s .args .image .now)) (s .args .room .now) (w .clear .last .0) (s .pre .2) (w .clear .ensures .1))
 

@@ -28,7 +28,8 @@ room c = start c .args .mask .now
 returns : tie.Need-returns
 returns c =
     let w = c .before in
-    refused-all (image w) (marks w) (maskOf (image w) (marks w)) (room w) (w .before .check .result) (w .before .check .ensures) (sym (w .is-written .ensures) ∙ not-true _ (c .if1 .taken))
+    refused-all (image w) (marks w) (maskOf (image w) (marks w)) (room w) (w .before .check .result) (w .before .check .ensures)
+    (sym (w .is-written .ensures) ∙ not-true _ (c .if1 .taken))
 
 sound : (c : tie.Else1) → Sound (image (c .before)) (marks (c .before))
 sound c =
@@ -54,7 +55,8 @@ returns-3 c =
     let k = p .before .before in
     let e = k .before in
     let w = e .before in
-    shown-as (image w) (marks w) (maskOf (image w) (marks w)) (room w) (sound e) (length (image w)) (mask-length (image w) (marks w)) (k .if2 .left) _ (p .write-mask .ensures)
+    shown-as (image w) (marks w) (maskOf (image w) (marks w)) (room w) (sound e) (length (image w)) (mask-length (image w) (marks w)) (k .if2 .left) _
+    (p .write-mask .ensures)
 
 pub build-byte-mask-spec : {M : Type 1} → statement M
 build-byte-mask-spec =

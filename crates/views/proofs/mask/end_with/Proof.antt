@@ -31,7 +31,8 @@ returns c =
     let z = c .before in
     let t = z .before .before in
     let a = start t .args in
-    ends-further (a .image .now) (a .marks .now) (a .p) (a .end) (sym (t .is-traced-at .ensures) ∙ z .before .if1 .taken) (z .size-at .result) (z .size-at .ensures) (c .if2 .taken)
+    ends-further (a .image .now) (a .marks .now) (a .p) (a .end) (sym (t .is-traced-at .ensures) ∙ z .before .if1 .taken) (z .size-at .result)
+    (z .size-at .ensures) (c .if2 .taken)
 
 returns-2 : tie.Need-returns-2
 returns-2 c =

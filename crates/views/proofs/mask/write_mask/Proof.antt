@@ -17,7 +17,8 @@ use Rattle.views.proofs.mask.write_mask.Statement.{statement}
 use Rattle.views.proofs.mask.write_mask.Tie as tie
 
 abbrev Inv-loop : tie.InvT-loop
-Inv-loop image marks mask₀ n end₀ p₀ mask end p = (p ≤ n) × (length mask ≡ length mask₀) × Masks image marks p end × (mask ≡ take p (maskOf image marks) ++ drop p mask₀)
+Inv-loop image marks mask₀ n end₀ p₀ mask end p = (p ≤ n) × (length mask ≡ length mask₀) × Masks image marks p end
+    × (mask ≡ take p (maskOf image marks) ++ drop p mask₀)
 
 abbrev μ-loop : tie.MeasureT-loop
 μ-loop image marks mask₀ n end₀ p₀ mask end p = n - p
@@ -64,9 +65,11 @@ returns : tie.Need-returns Inv-loop μ-loop
 returns c =
     let l = c .before .loop in
     let a = start (c .before) .args in
-    l .inv .3 ∙ front-end (maskOf (a .image .now) (a .marks .now)) (a .mask .now) (l .p) (length (a .image .now)) (l .inv .0) (c .loop-test .left) (mask-length (a .image .now) (a .marks .now))
+    l .inv .3 ∙ front-end (maskOf (a .image .now) (a .marks .now)) (a .mask .now) (l .p) (length (a .image .now)) (l .inv .0) (c .loop-test .left)
+    (mask-length (a .image .now) (a .marks .now))
 
 pub write-mask-spec : {M : Type 1} → statement M
 write-mask-spec =
     tie.close
-    (tie.spec Inv-loop μ-loop loop-holds (λ c. search needs) (λ c κs. search needs) (λ c. tt) slice-write-mask (λ c. search needs) (λ c. omega arith) loop-again (λ c. c .before .loop .inv .1) returns)
+    (tie.spec Inv-loop μ-loop loop-holds (λ c. search needs) (λ c κs. search needs) (λ c. tt) slice-write-mask (λ c. search needs) (λ c. omega arith) loop-again
+    (λ c. c .before .loop .inv .1) returns)

@@ -30,7 +30,8 @@ returns-4 c =
     let s = c .before in
     let t = s .before .before in
     let a = start (t .before) .args in
-    one-before (a .image .now) (a .marks .now) (a .p) (t .before .if1 .left) (sym (t .is-traced-at .ensures) ∙ not-false _ (s .before .if2 .left)) (s .size-at .result) (s .size-at .ensures) (c .if3 .left)
+    one-before (a .image .now) (a .marks .now) (a .p) (t .before .if1 .left) (sym (t .is-traced-at .ensures) ∙ not-false _ (s .before .if2 .left))
+    (s .size-at .result) (s .size-at .ensures) (c .if3 .left)
 
 pub behind-spec : {M : Type 1} → statement M
 behind-spec =

@@ -31,7 +31,8 @@ out c = overlapsOf (image c) (marks c) (start c .args .p)
 returns : tie.Need-returns
 returns c =
     let w = c .before in
-    refused-all (image w) (marks w) (out w) (room w) (w .before .check .result) (w .before .check .ensures) (sym (w .is-written .ensures) ∙ not-true _ (c .if1 .taken))
+    refused-all (image w) (marks w) (out w) (room w) (w .before .check .result) (w .before .check .ensures)
+    (sym (w .is-written .ensures) ∙ not-true _ (c .if1 .taken))
 
 sound : (c : tie.Else1) → Sound (image (c .before)) (marks (c .before))
 sound c =
@@ -61,8 +62,10 @@ returns-3 c =
     let o = n .before in
     let e = o .before in
     let w = e .before in
-    let g = put-is (overlapsIn (o .overlaps-at .result)) (out w) (room w) _ (p .put .result) (o .overlaps-at .ensures) (p .put .ensures .0) (p .put .ensures .1) in
-    shown-as (image w) (marks w) (out w) (room w) (sound e) (p .put .result) (g .0) (omega (arith, k .if2 .left, n .count .ensures, p .put .ensures .0)) _ (g .1)
+    let g = put-is (overlapsIn (o .overlaps-at .result)) (out w) (room w) _ (p .put .result) (o .overlaps-at .ensures) (p .put .ensures .0)
+    (p .put .ensures .1) in
+    shown-as (image w) (marks w) (out w) (room w) (sound e) (p .put .result) (g .0)
+    (omega (arith, k .if2 .left, n .count .ensures, p .put .ensures .0)) _ (g .1)
 
 pub find-overlaps-spec : {M : Type 1} → statement M
 find-overlaps-spec =

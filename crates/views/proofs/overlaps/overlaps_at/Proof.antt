@@ -53,7 +53,8 @@ returns-3 c =
     let b = c .before in
     let s = b .before in
     let t = s .before in
-    one-byte (image t) (marks t) (p t) (short t) (traced t) (s .size-at .result) (s .size-at .ensures) (overlapsIn (b .behind .result)) (b .behind .ensures) (c .if3 .taken)
+    one-byte (image t) (marks t) (p t) (short t) (traced t) (s .size-at .result) (s .size-at .ensures) (overlapsIn (b .behind .result)) (b .behind .ensures)
+    (c .if3 .taken)
 
 add-with : tie.Need-add-with
 add-with c = let t = c .before .before .before .before in record { fits = omega (arith, inside t, short t) }
@@ -85,7 +86,11 @@ with-requires-2 c κs =
     let w = c .before .before in
     let u = w .before in
     let b = u .before .before in
-    omega (arith, shorter-taken (u .is-traced-at2 .result) (p (b .before .before) + 1) 1 (overlapsIn (b .behind .result)) (overlapsIn (w .with .result)) (one-behind b) (w .with .ensures))
+    omega (
+      arith,
+      shorter-taken (u .is-traced-at2 .result) (p (b .before .before) + 1) 1 (overlapsIn (b .behind .result)) (overlapsIn (w .with .result))
+          (one-behind b) (w .with .ensures),
+    )
 
 returns-5 : tie.Need-returns-5
 returns-5 c =
@@ -97,7 +102,8 @@ returns-5 c =
     let t = s .before in
     let h = size-short (image t) (p t) (λ n. t .before .before .before .before .shared-slice-known .given n .fits) .1 in
     three-bytes (image t) (marks t) (p t) (short t) (traced t) (s .size-at .result) (s .size-at .ensures) (overlapsIn (b .behind .result)) (b .behind .ensures)
-    (overlapsIn (w .with .result)) (u .is-traced-at2 .result) (w .with .ensures) (u .is-traced-at2 .ensures) (v .before .if4 .left) (omega (arith, s .size-at .ensures, h))
+    (overlapsIn (w .with .result)) (u .is-traced-at2 .result) (w .with .ensures) (u .is-traced-at2 .ensures) (v .before .if4 .left)
+    (omega (arith, s .size-at .ensures, h))
     (overlapsIn (c .with2 .result)) (v .is-traced-at3 .result) (c .with2 .ensures) (v .is-traced-at3 .ensures)
 
 pub overlaps-at-spec : {M : Type 1} → statement M

@@ -41,7 +41,8 @@ returns-3 c =
     let i = d .before in
     let l = i .before in
     let e = l .before .before .before in
-    damaged-mark (image e) (marks e) (e .if1 .left) (l .before .before .if2 .left) (l .loop .p) (i .loop-test .taken) (sym (d .is-damaged .ensures) ∙ c .if3 .taken) (l .loop .inv .1)
+    damaged-mark (image e) (marks e) (e .if1 .left) (l .before .before .if2 .left) (l .loop .p) (i .loop-test .taken)
+    (sym (d .is-damaged .ensures) ∙ c .if3 .taken) (l .loop .inv .1)
 
 loop-again : tie.Need-loop-again Inv-loop μ-loop
 loop-again c =
@@ -60,4 +61,5 @@ returns-4 c =
 pub check-spec : {M : Type 1} → statement M
 check-spec =
     tie.close
-    (tie.spec Inv-loop μ-loop returns returns-2 (λ c κs. search needs) loop-holds (λ c. search needs) (λ c κs. search needs) (λ c. search needs) returns-3 (λ c. search needs) (λ c. omega arith) loop-again returns-4)
+    (tie.spec Inv-loop μ-loop returns returns-2 (λ c κs. search needs) loop-holds (λ c. search needs) (λ c κs. search needs) (λ c. search needs) returns-3
+    (λ c. search needs) (λ c. omega arith) loop-again returns-4)

@@ -37,11 +37,14 @@ self c = parts c .before .args .self
 abbrev base : tie.After-resolve → ℕ
 base c = parts c .before .args .base
 
-same : (o : Mode) {r : Answer Fields} {k k′ : Kinds} {a b c : ℤ} {v v′ : Parts} (n : ℕ) → r ≡ fieldsAnswer o k a b c n → k ≡ k′ → a ≡ v .a → b ≡ v .b → c ≡ v .c → v ≡ v′ → r ≡ fieldsAnswer o k′ (v′ .a) (v′ .b) (v′ .c) n
+same : (o : Mode) {r : Answer Fields} {k k′ : Kinds} {a b c : ℤ} {v v′ : Parts} (n : ℕ) → r ≡ fieldsAnswer o k a b c n → k ≡ k′ → a ≡ v .a → b ≡ v .b → c ≡ v .c
+    → v ≡ v′ → r ≡ fieldsAnswer o k′ (v′ .a) (v′ .b) (v′ .c) n
 same o n e p x y z q = cc
 
 -- what the operands are answered, by the instruction
-answered : (c : tie.After-resolve) → resolutionOf (c .resolve .result) ≡ fieldsAnswer (mode c) (threeOf (formIn (self c) .shape)) (partsOf (self c) .a) (partsOf (self c) .b) (partsOf (self c) .c) (base c)
+answered : (c : tie.After-resolve)
+    → resolutionOf (c .resolve .result)
+    ≡ fieldsAnswer (mode c) (threeOf (formIn (self c) .shape)) (partsOf (self c) .a) (partsOf (self c) .b) (partsOf (self c) .c) (base c)
 answered c =
     let v : Parts = parts c .apart .result in
     let a : Read (v .a) = search needs in
@@ -70,7 +73,8 @@ returns-2 c =
 
 returns-3 : tie.Need-returns-3
 returns-3 c =
-    let r = c .before .before .before in no (mode r) (self r) (base r) (c .before .why .given .0 .0) (ap resolutionOf (sym (c .before .why .given .1)) ∙ answered r)
+    let r = c .before .before .before in
+    no (mode r) (self r) (base r) (c .before .why .given .0 .0) (ap resolutionOf (sym (c .before .why .given .1)) ∙ answered r)
 
 pub resolve-spec : {M : Type 1} → statement M
 resolve-spec =

@@ -34,7 +34,8 @@ returns-5 : tie.Need-returns-5
 returns-5 c =
     let o = c .before .before .before in
     let e = o .before in
-    refusal-told (e .before .args .self) 18 _ (e .if1 .left) (o .one-more .ensures) (held-18 _ (c .before .before .if2 .left) (c .before .if3 .left) (c .if4 .left))
+    refusal-told (e .before .args .self) 18 _ (e .if1 .left) (o .one-more .ensures)
+    (held-18 _ (c .before .before .if2 .left) (c .before .if3 .left) (c .if4 .left))
 
 pub told-spec : {M : Type 1} → statement M
 told-spec =
