@@ -370,8 +370,9 @@ uint32_t pw_run(uint32_t mode, const uint8_t *image, size_t image_length,
  *    5. In other images the marks may be others than a run's, since the order
  *    is another.
  * 1, then 2: the marks stay as they were.
- * There is at most one sweep more than the image has bytes. Each goes through
- * the whole image: where many branches lead backwards, this takes long.
+ * There is at most one sweep more than the image has bytes. Each goes over the
+ * positions between which something waits, at worst over the whole image: where
+ * each of many sweeps leaves something at both ends, this takes long.
  */
 uint32_t pw_sweep(uint32_t mode, const uint8_t *image, size_t image_length,
                   uint8_t *marks, size_t marks_length,

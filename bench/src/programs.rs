@@ -46,7 +46,7 @@ pub fn measure(text: &[u8], images: usize) -> Result<Option<Measured>, &'static 
         }
     }
     let _ = fs::remove_file(&term);
-    let [ours, plain] = times.map(median);
+    let [ours, plain] = times.map(lowest);
     let times = [Some(ours), None, Some(plain)];
     let row = Row::ReportProgram;
     report::line(row.name(), report::per(times, images));
@@ -63,9 +63,9 @@ fn run(mut command: Command, term: &Path) -> Result<(f64, Vec<u8>), &'static str
     Ok((of_children() - before, output.stdout))
 }
 
-fn median(mut times: Vec<f64>) -> f64 {
-    times.sort_by(f64::total_cmp);
-    times[times.len() / 2]
+/// The shortest, as everywhere.
+fn lowest(times: Vec<f64>) -> f64 {
+    times.into_iter().fold(f64::INFINITY, f64::min)
 }
 
 /// As C has it on 64-bit Linux.

@@ -1,4 +1,7 @@
+pub mod Covering
+pub mod Waiting
 pub mod Meeting
 pub mod Passing
+pub mod Inside
 pub mod Sweeping
 pub mod Sized

@@ -1,12 +1,15 @@
-// Sweeping the marks upward, again and again, until a sweep takes none.
+// Sweeping the marks upward, again and again, until a sweep takes none. A sweep keeps up between which positions something is left waiting
+// behind it, and the next one meets no other: so what takes one position in each sweep takes no time by the square.
 ghost use mathlib.Core.Path.{_≡_};
-ghost use mathlib.Core.Bool.{cond};
 ghost use Prim.Native.Nat.{_≤_, _<_};
 ghost use lib.ListN.{length, take};
 ghost use Rattle.reach.specs.Mark.{count, tracedMark};
-ghost use Rattle.reach.specs.Sweep.{canTake, sweptAt, sweepOnce, sweepTaken, sweptMarks};
+ghost use Rattle.reach.specs.Sweep.{sweptMarks};
 ghost use Rattle.marks.specs.Tracer.{tracerOf};
 ghost use Rattle.sweep.specs.Sweep.{sweptOf, sweepResult, tallyOf, sweepAnswer, sweepLeaves};
+ghost use Rattle.sweep.specs.Way.{Between, MetOn, SweptOver};
+use crate::way;
+use crate::way::Way;
 use instruction::Mode;
 use marks::Mark;
 use targets::Ways;
@@ -35,39 +38,38 @@ pub enum Swept {
     ShortMarks(usize),
 }
 
-// A sweep meets p: how many it takes, 0 or 1.
-fn meet(mode: Mode, image: &[u8], marks: &mut [u8], p: u32) -> u32
-    requires { ⌜ (p < length (now image)) × (length (now image) ≤ 65536) × (length (now image) ≤ length (now marks)) ⌝ }
-    ensures { λ r. ⌜ r ≡ cond (canTake (tracerOf mode (now (image .entry))) (now (marks .entry)) p) 1 0 ⌝ }
-    ensures { λ _. ⌜ now (marks .exit) ≡ sweptAt (tracerOf mode (now (image .entry))) (now (marks .entry)) p ⌝ }
+// A sweep meets p.
+fn meet(mode: Mode, image: &[u8], marks: &mut [u8], p: u32, way: Way) -> Way
+    requires { ⌜ (p < length (now image)) × (length (now image) ≤ 65536) × (length (now image) ≤ length (now marks)) × (way .taken < 65536) ⌝ }
+    ensures { λ r. ⌜ MetOn (tracerOf mode (now (image .entry))) (now (marks .entry)) p way r (now (marks .exit)) ⌝ }
 {
     if marks[p as usize] != Mark::WAITING {
-        return 0;
+        return way;
     }
     match targets::ways_at(mode, image, p) {
         Ways::Goes(to) => {
-            marks::take_up(image, marks, p, to);
-            1
+            let up = marks::take_up(image, marks, p, to);
+            let noted = up.noted;
+            way::after(way, p + 1, noted)
         }
-        Ways::Cut(_) => 0,
-        Ways::Outside => 0,
+        Ways::Cut(_) => way,
+        Ways::Outside => way,
     }
 }
 
-// One sweep: how many it took.
-fn sweep_once(mode: Mode, image: &[u8], marks: &mut [u8]) -> u32
-    requires { ⌜ (length (now image) ≤ 65536) × (length (now image) ≤ length (now marks)) ⌝ }
-    ensures { λ r. ⌜ r ≡ sweepTaken (tracerOf mode (now (image .entry))) (now (marks .entry)) ⌝ }
-    ensures { λ _. ⌜ now (marks .exit) ≡ sweepOnce (tracerOf mode (now (image .entry))) (now (marks .entry)) ⌝ }
+// One sweep, where all that it could take up stands between two bounds. What became waiting ahead is met, so the end moves on.
+fn sweep_once(mode: Mode, image: &[u8], marks: &mut [u8], from: u32, to: u32) -> Way
+    requires { ⌜ (length (now image) ≤ 65536) × (length (now image) ≤ length (now marks)) × (from ≤ length (now image)) × (to ≤ length (now image)) ⌝ }
+    requires { ⌜ Between (tracerOf mode (now image)) (now marks) from to ⌝ }
+    ensures { λ r. ⌜ SweptOver (tracerOf mode (now (image .entry))) (now (marks .entry)) r (now (marks .exit)) ⌝ }
 {
-    let n = image.len() as u32;
-    let mut taken: u32 = 0;
-    let mut p: u32 = 0;
-    while p < n {
-        taken += meet(mode, image, marks, p);
+    let mut way = Way::new(0, to, image.len() as u32, 0);
+    let mut p = from;
+    while p < way.end {
+        way = meet(mode, image, marks, p, way);
         p += 1;
     }
-    taken
+    way
 }
 
 // Sweeps until one takes none. One more than there are positions is never passed: each but the last takes one.
@@ -77,15 +79,19 @@ fn sweep_on(mode: Mode, image: &[u8], marks: &mut [u8]) -> Tally
     ensures { λ _. ⌜ now (marks .exit) ≡ sweptMarks (tracerOf mode (now (image .entry))) (now (marks .entry)) ⌝ }
 {
     let n = image.len();
+    let mut from: u32 = 0;
+    let mut to = n as u32;
     let mut sweeps: usize = 0;
     let mut steps: u32 = 0;
     while sweeps <= n {
-        let taken = sweep_once(mode, image, marks);
+        let way = sweep_once(mode, image, marks, from, to);
         sweeps += 1;
-        if taken == 0 {
+        if way.taken == 0 {
             return Tally::new(sweeps as u32, steps);
         }
-        steps += taken;
+        steps += way.taken;
+        from = way.from;
+        to = way.to;
     }
     Tally::new(sweeps as u32, steps)
 }
