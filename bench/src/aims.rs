@@ -40,7 +40,7 @@ const AIMS: [(Row, By, f64); 33] = [
     (Row::Parse, By::Plain, 1.5),
     (Row::ReadBack, By::Plain, 2.5),
     (Row::UnlistText, By::Plain, 2.2),
-    (Row::MapBuild, By::Plain, 1.3),
+    (Row::MapBuild, By::Plain, 1.2),
     (Row::MapUpdate, By::Plain, 1.3),
     (Row::MapTest, By::Plain, 1.5),
     (Row::MapCount, By::Plain, 0.25),
