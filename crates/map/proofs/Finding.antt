@@ -17,32 +17,22 @@ use Rattle.map.proofs.InWords.{bit-at, zero-le, quiet, hit-from, hit-da
 -- ---- words of ones alone
 
 module _ (ws : List ℕ) (to q : ℕ) where
-  pub Skips : ℕ → Type 0
-  Skips r = Full ws to q r × (r % 64 ≡ 0)
-
-  pub skips-start : q % 64 ≡ 0 → q < to + 64 → Skips q
-  unfolding Skips
-  skips-start aligned h = (record { from = omega arith; near = h; code = λ i l k. absurd (omega arith) }, aligned)
+  pub full-start : q % 64 ≡ 0 → q < to + 64 → Full ws to q (q / 64 * 64)
+  full-start aligned h = record { from = omega arith; near = omega arith; code = λ i l k. absurd (omega arith) }
 
   -- a word more
-  pub skips-next : (r : ℕ) → Skips r → r + 64 ≤ to → getD ws (r / 64) 0 ≡ 0xFFFFFFFFFFFFFFFF → Skips (r + 64)
-  unfolding Skips
-  skips-next r s h e =
-      (record { from = omega (arith, s .0 .from); near = omega arith; code = λ i l k. by i l k (ltb i r) refl }, omega (arith, s .1))
+  pub full-next : (j : ℕ) → Full ws to q (j * 64) → j < to / 64 → getD ws j 0 ≡ 0xFFFFFFFFFFFFFFFF → Full ws to q ((j + 1) * 64)
+  full-next j s h e = record { from = omega (arith, s .from); near = omega arith; code = λ i l k. by i l k (ltb i (j * 64)) refl }
     where
-      by : (i : ℕ) → q ≤ i → i < r + 64 → (b : Bool) → ltb i r ≡ b → codeAt ws i ≡ true
-      by i l k true t = s .0 .code i l (ltb-true i r t)
+      by : (i : ℕ) → q ≤ i → i < (j + 1) * 64 → (b : Bool) → ltb i (j * 64) ≡ b → codeAt ws i ≡ true
+      by i l k true t = s .code i l (ltb-true i (j * 64) t)
       by i l k false t =
-          let g : r ≤ i = ltb-false i r t in
-          ap (codeAt ws) (let f : i ≡ 64 * (r / 64) + (i - r) = omega (arith, s .1) in f)
-          ∙ bit-at ws (r / 64) (i - r) (omega arith)
-          ∙ ap (λ (w : ℕ). one w (i - r)) e
-          ∙ ones-one 64 (i - r)
-          ∙ lt-ltb (i - r) 64 (omega arith)
-
-  pub skips-full : (r : ℕ) → Skips r → Full ws to q r
-  unfolding Skips
-  skips-full r s = s .0
+          let g : j * 64 ≤ i = ltb-false i (j * 64) t in
+          ap (codeAt ws) (let f : i ≡ 64 * j + (i - j * 64) = omega arith in f)
+          ∙ bit-at ws j (i - j * 64) (omega arith)
+          ∙ ap (λ (w : ℕ). one w (i - j * 64)) e
+          ∙ ones-one 64 (i - j * 64)
+          ∙ lt-ltb (i - j * 64) 64 (omega arith)
 
 -- ---- the first data byte
 

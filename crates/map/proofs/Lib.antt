@@ -6,7 +6,6 @@ pub mod Telling
 pub mod Finding
 pub mod Asking
 pub mod Packing
-pub mod Covering
 pub mod InOneWord
 pub mod Sounding
 pub mod Marking

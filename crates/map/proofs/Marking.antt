@@ -1,7 +1,7 @@
 -- The map in one pass upward: after the positions before p, the bytes of the traced instructions among them are set.
 -- Assumes nothing.
 use mathlib.Core.Path.{_≡_, refl, sym, ap, ap₂, subst, _∙_}
-use mathlib.Core.Bool.{Bool, true, false, cond, not, _&&_, _||_}
+use mathlib.Core.Bool.{Bool, true, false, cond, not, _&&_, _||_, or-false}
 use mathlib.Core.List.{List, _++_}
 use Prim.Native.Nat.{ℕ, zero, suc, _+_, _*_, _<_, _≤_}
 use native.Mathlib.Omega.{arith}
@@ -20,7 +20,7 @@ use Rattle.views.specs.Positions.{upFrom, some}
 use Rattle.views.proofs.Masking.{mask-length}
 use Rattle.views.proofs.Ups.{up-length, up-at, some-snoc, some-none}
 use Rattle.map.specs.Packed.{maskedAt, wordOf, packed, covered}
-use Rattle.map.proofs.Packing.{or-false, inside, mapBy, map-length, map-at, map-same, stretch-more, covered-append}
+use Rattle.map.proofs.Packing.{inside, mapBy, map-length, map-at, map-same, stretch-more, covered-append}
 
 -- ---- the packing of a mask
 

@@ -1,7 +1,7 @@
 -- A map by its positions: which bits it has, and one more of them.
 -- Assumes nothing.
 use mathlib.Core.Path.{_≡_, refl, sym, ap, ap₂, subst, _∙_}
-use mathlib.Core.Bool.{Bool, true, false, _&&_, _||_}
+use mathlib.Core.Bool.{Bool, true, false, _&&_, _||_, or-false}
 use mathlib.Core.List.{List, _++_, map}
 use Prim.Native.Nat.{ℕ, zero, suc, _+_, _*_, _/_, _%_, _<_, _≤_}
 use native.Mathlib.Omega.{arith}
@@ -16,10 +16,6 @@ use Rattle.map.specs.Words.{wordsFor}
 use Rattle.views.specs.Positions.{upFrom}
 use Rattle.views.proofs.Ups.{up-length, up-at}
 use Rattle.map.specs.Packed.{withCode, covered}
-
-pub or-false : (b : Bool) → (b || false) ≡ b
-or-false true = refl
-or-false false = refl
 
 or-and : (a b : Bool) → ((a && b) || false) ≡ (a && (b || false))
 or-and true b = refl

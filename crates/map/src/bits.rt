@@ -1,5 +1,6 @@
 // The bits of a word, from 0, the lowest, to 63. A stretch of bits excludes its end.
 ghost use mathlib.Core.Path.{_≡_};
+ghost use Prim.Native.Nat.{_+_, _<_};
 ghost use Rattle.map.specs.Bits.{one, lows, between, digits, onesBetween, firstZero, withOnes};
 
 // Whether bit i is 1; no bit from 64 on is.
@@ -43,9 +44,20 @@ pub fn first_zero(w: u64, from: u32) -> u32
     u64::trailing_zeros(!(w | low(from)))
 }
 
-// The word with the bits of a stretch set.
-pub fn with_ones(w: u64, from: u32, to: u32) -> u64
-    ensures { λ r. ⌜ r ≡ withOnes w from to ⌝ }
+// The word with 1 at so many bits from this one on, as far as it goes.
+fn some_from(from: u32, n: u32) -> u64
+    requires { ⌜ from < 64 ⌝ }
+    ensures { λ r. ⌜ r ≡ digits (between from (from + n)) 64 0 ⌝ }
 {
-    w | stretch(from, to)
+    low(n) << from
+}
+
+// The word with so many bits set from this one on, as far as it goes.
+pub fn with_ones(w: u64, from: u32, n: u32) -> u64
+    ensures { λ r. ⌜ r ≡ withOnes w from (from + n) ⌝ }
+{
+    if 64 <= from {
+        return w;
+    }
+    w | some_from(from, n)
 }

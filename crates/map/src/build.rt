@@ -21,7 +21,7 @@ fn write_map(image: &[u8], marks: &[u8], words: &mut [u64], need: usize)
     cover::clear(words, need);
     let mut p: usize = 0;
     while p < n {
-        cover::cover_at(image, marks, words, p as u32);
+        cover::cover_at(image, marks, words, p);
         p += 1;
     }
 }

@@ -18,14 +18,15 @@ fn skip_full(words: &[u64], q: u32, to: u32) -> u32
     requires { ⌜ (q % 64 ≡ 0) × (to ≤ 64 * length (now words)) × (to ≤ 65536) × (q < to + 64) ⌝ }
     ensures { λ r. ⌜ Full (now (words .entry)) to q r ⌝ }
 {
-    let mut r = q;
-    while r + 64 <= to {
-        if words[(r / 64) as usize] != 0xFFFF_FFFF_FFFF_FFFF {
-            return r;
+    let end = (to / 64) as usize;
+    let mut j = (q / 64) as usize;
+    while j < end {
+        if words[j] != 0xFFFF_FFFF_FFFF_FFFF {
+            return j as u32 * 64;
         }
-        r += 64;
+        j += 1;
     }
-    r
+    j as u32 * 64
 }
 
 // The first position from `from` on and before `to` that is data, or else `to`.

@@ -28,7 +28,7 @@ pub fn note(r: Record, table: &mut [u64])
     if r.letter == b'I' {
         let q = r.position;
         let j = (q / 64) as usize;
-        table[j] = !bits::with_ones(!table[j], q % 64, q % 64 + 1);
+        table[j] = !bits::with_ones(!table[j], q % 64, 1);
     }
 }
 

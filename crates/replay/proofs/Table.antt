@@ -3,7 +3,7 @@
 use Prim.Native.Nat.{ℕ, zero, suc, _+_, _*_, _/_, _%_, _<_, _≤_}
 use native.Mathlib.Omega.{arith}
 use mathlib.Core.Path.{_≡_, refl, sym, ap, subst, _∙_}
-use mathlib.Core.Bool.{Bool, true, false, cond, _&&_, _||_}
+use mathlib.Core.Bool.{Bool, true, false, cond, _&&_, _||_, or-false}
 use mathlib.Core.List.{List, [], _∷_}
 use lib.Dec.{eqb, ltb}
 use lib.ListN.{length, getD, replicate, length-replicate, getD-replicate}
@@ -15,7 +15,7 @@ use Rattle.map.specs.Bits.{one, digits}
 use Rattle.map.specs.Packed.{withCode}
 use Rattle.map.specs.Words.{wordsFor, codeAt}
 use Rattle.map.proofs.Digits.{one-digits}
-use Rattle.map.proofs.Packing.{or-false, inside, mapBy, map-length, map-at, map-same, one-more}
+use Rattle.map.proofs.Packing.{inside, mapBy, map-length, map-at, map-same, one-more}
 use Rattle.replay.specs.Entry.{withEntry, withEntries}
 
 digits-none : (f : ℕ → Bool) → ((i : ℕ) → f i ≡ false) → (k p : ℕ) → digits f k p ≡ 0

@@ -36,7 +36,7 @@ fn enter_one(table: &mut [u64], q: u32)
         return;
     }
     let j = (q / 64) as usize;
-    table[j] = bits::with_ones(table[j], q % 64, q % 64 + 1);
+    table[j] = bits::with_ones(table[j], q % 64, 1);
 }
 
 // Whether the position is an entry.

@@ -54,7 +54,7 @@ cover-at-requires c κs =
     let s = start l in
     let h : s .args .need ≤ length (s .args .words .now) = s .pre .3 in
     let w : length (l .loop .words) ≡ length (s .args .words .now) = l .loop .inv .1 ∙ same l in
-    (i .loop-test .taken, s .pre .0, s .pre .1, omega (arith, s .pre .2), fits i)
+    (i .loop-test .taken, s .pre .0, s .pre .1, omega (arith, s .pre .2), s .pre .4 (l .loop .p) (i .loop-test .taken))
 
 loop-again : tie.Need-loop-again Inv-loop μ-loop
 loop-again c =
@@ -83,5 +83,5 @@ returns c =
 pub write-map-spec : {M : Type 1} → statement M
 write-map-spec =
     tie.close
-    (tie.spec Inv-loop μ-loop (λ c κs. search needs) loop-holds (λ c. search needs) cover-at-requires (λ c. search needs) (λ c. omega arith) loop-again
+    (tie.spec Inv-loop μ-loop (λ c κs. search needs) loop-holds cover-at-requires (λ c. search needs) (λ c. omega arith) loop-again
     same-length returns)

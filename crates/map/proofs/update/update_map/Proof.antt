@@ -11,6 +11,7 @@ use lib.ListN.{length, getD}
 use Rattle.reach.specs.Mark.{tracedMark}
 use Rattle.views.specs.View.{Sound}
 use Rattle.views.proofs.Viewing.{is-sound, small, covered}
+use Rattle.targets.proofs.Within.{size-short}
 use Rattle.map.proofs.Sounding.{undamaged, fitting, fits-within}
 use Rattle.map.proofs.Updating.{refused-all, no-room, outside, not-traced, set-all}
 use Rattle.map.proofs.update.update_map.Statement.{statement}
@@ -93,7 +94,13 @@ cover-requires c κs =
     let k : place w < length (image w) = i .if3 .left in
     let h = fits-within (image w) (place w) (fitting (image w) (marks w) (place w) (undamaged (image w) (marks w) (sound e) (place w) k) (traced o)) in
     let l = small (image w) (marks w) (sound e) in
-    (omega (arith, z .size-at .ensures, r .if2 .left), omega (arith, z .size-at .ensures))
+    let n = size-short (image w) (place w) (λ i. w .before .before .before .before .shared-slice-known .given i .fits) in
+    let f = z .size-at .ensures in (
+      omega (arith, n .0, f),
+      omega (arith, n .1, f),
+      omega (arith, f, r .if2 .left),
+      omega (arith, f),
+    )
 
 returns-5 : tie.Need-returns-5
 returns-5 c =
