@@ -3,7 +3,7 @@
 use mathlib.Core.Path.{_≡_, refl, sym, _∙_}
 use mathlib.Core.Bool.{Bool, true, false, cond, _&&_, _||_}
 use mathlib.Core.List.{List}
-use Prim.Native.Nat.{ℕ, suc, _+_, _-_, _*_, _/_, _%_, _≤_, _<_}
+use Prim.Native.Nat.{ℕ, zero, suc, _+_, _-_, _*_, _/_, _%_, _≤_, _<_}
 use native.Mathlib.Numerals.{add-one}
 use native.Mathlib.Omega.{arith}
 use lib.Dec.{leb}
@@ -59,12 +59,37 @@ module _ (s : List ℕ) (i : ℕ) (all : Bool) (e : allHex s ≡ (all && allHex 
       alone true = refl
       alone false = refl
 
--- the value of a byte: 16 where it is no digit
-pub value-none : (b : ℕ) → isDigit b ≡ false → 16 ≡ valueOf b
+-- the value of a byte: 65,536 where it is no digit
+pub value-none : (b : ℕ) → isDigit b ≡ false → 65536 ≡ valueOf b
 value-none b e = rw e
 
 pub value-some : (b : ℕ) → isDigit b ≡ true → digitOf b ≡ valueOf b
 value-some b e = rw e
+
+-- what is known after an arm for each of the k numbers from a on, besides R
+abbrev Past : Type 0 → ℕ → ℕ → ℕ → Type 0
+Past R a zero x = R
+Past R a (suc k) x = Past R a k x × (x ≡ a + k → ⊥)
+
+past-none : (R : Type 0) (a k x : ℕ) → Past R a k x → a ≤ x → x < a + k → ⊥
+past-none R a zero x r g h = omega arith
+past-none R a (suc k) x r g h = past-none R a k x (r .0) g (let n : x ≡ a + k → ⊥ = r .1 in omega arith)
+
+past-first : (R : Type 0) (a k x : ℕ) → Past R a k x → R
+past-first R a zero x r = r
+past-first R a (suc k) x r = past-first R a k x (r .0)
+
+-- after an arm for each digit
+abbrev pub Sixteen : ℕ → Type 0
+Sixteen b = Past (Past (Unit {0}) 48 10 b) 65 6 b
+
+pub value-rest : (b : ℕ) → Sixteen b → 65536 ≡ valueOf b
+value-rest b r = by (within 48 57 b) refl (within 65 70 b) refl
+  where
+    by : (t : Bool) → within 48 57 b ≡ t → (u : Bool) → within 65 70 b ≡ u → 65536 ≡ cond (t || u) (digitOf b) 65536
+    by true e u f = absurd (let h = between 48 57 b e in past-none (Unit {0}) 48 10 b (past-first _ 65 6 b r) (h .0) (omega (arith, h .1)))
+    by false e true f = absurd (let h = between 65 70 b f in past-none (Past (Unit {0}) 48 10 b) 65 6 b r (h .0) (omega (arith, h .1)))
+    by false e false f = refl
 
 -- a digit by its low four bits: 9 more for a letter
 pub digit-by-bits : (b : ℕ) → isDigit b ≡ true → (b % 16 + 9 * (b / 64) ≡ digitOf b) × (b % 16 + 9 * (b / 64) < 16)

@@ -1,4 +1,4 @@
--- Four bytes read one by one: a byte that is no digit spoils the field.
+-- Four bytes read at once: a byte that is no digit makes the sum too high.
 -- Assumes nothing.
 use Prim.Native.Nat.{ℕ, suc, _+_, _*_, _<_, _≤_}
 use native.Mathlib.Omega.{arith}
@@ -10,22 +10,14 @@ use lib.ListN.{length, getD}
 use borrow.Author.Tests.{eq-eqb, ne-eqb}
 use Rattle.text.specs.Four.{isFour, fourOf, fourIn}
 use Rattle.text.specs.Hex.{isDigit, digitOf, valueOf, allHex}
-use Rattle.text.proofs.Digits.{digit-small}
+use Rattle.text.proofs.Digits.{digit-small, value-none, value-some}
 
--- a value that is 16 is no digit's, and one that is not is the digit's
-no-digit : (b v : ℕ) → v ≡ valueOf b → v ≡ 16 → isDigit b ≡ false
-no-digit b v e f = by (isDigit b) refl
-  where
-    by : (t : Bool) → isDigit b ≡ t → isDigit b ≡ false
-    by false g = g
-    by true g = absurd (let h : valueOf b ≡ digitOf b = rw g refl in omega (arith, digit-small b, h))
+-- a value by whether its byte is a digit
+some : (b v : ℕ) → v ≡ valueOf b → isDigit b ≡ true → (v ≡ digitOf b) × (v < 16)
+some b v e g = let h : v ≡ digitOf b = e ∙ sym (value-some b g) in (h, omega (arith, h, digit-small b))
 
-a-digit : (b v : ℕ) → v ≡ valueOf b → (v ≡ 16 → ⊥) → (isDigit b ≡ true) × (v ≡ digitOf b)
-a-digit b v e f = by (isDigit b) refl
-  where
-    by : (t : Bool) → isDigit b ≡ t → (isDigit b ≡ true) × (v ≡ digitOf b)
-    by true g = (g, e ∙ rw g refl)
-    by false g = absurd (f (e ∙ rw g refl))
+other : (b v : ℕ) → v ≡ valueOf b → isDigit b ≡ false → v ≡ 65536
+other b v e g = e ∙ sym (value-none b g)
 
 -- a list of four
 four-list : (f : List ℕ) → length f ≡ 4 → f ≡ getD f 0 0 ∷ getD f 1 0 ∷ getD f 2 0 ∷ getD f 3 0 ∷ []
@@ -51,29 +43,35 @@ module _ (f : List ℕ) where
     unfolding fourIn isFour
     by-digits a b c d p q r s = rw (eq-eqb (length f) 4 e, is-hex, p, q, r, s) refl
 
-    module _ (a : ℕ) (va : a ≡ valueOf (getD f 0 0)) where
-      pub first-bad : a ≡ 16 → 65536 ≡ fourIn f
-      first-bad h = by-digits false _ _ _ (no-digit (getD f 0 0) a va h) refl refl refl
+    module _ (a b c d : ℕ) (va : a ≡ valueOf (getD f 0 0)) (vb : b ≡ valueOf (getD f 1 0)) (vc : c ≡ valueOf (getD f 2 0)) (vd : d ≡ valueOf (getD f 3 0)) where
+      abbrev sum : ℕ
+      sum = ((a * 16 + b) * 16 + c) * 16 + d
 
-      module _ (ga : a ≡ 16 → ⊥) (b : ℕ) (vb : b ≡ valueOf (getD f 1 0)) where
-        pub second-bad : b ≡ 16 → 65536 ≡ fourIn f
-        second-bad h = by-digits true false _ _ (a-digit (getD f 0 0) a va ga .0) (no-digit (getD f 1 0) b vb h) refl refl
+      -- digits alone make a sum below 65,536
+      pub too-high : 65536 ≤ sum → 65536 ≡ fourIn f
+      too-high h = by (isDigit (getD f 0 0)) (isDigit (getD f 1 0)) (isDigit (getD f 2 0)) (isDigit (getD f 3 0)) refl refl refl refl
+        where
+          by : (t u v w : Bool) → isDigit (getD f 0 0) ≡ t → isDigit (getD f 1 0) ≡ u → isDigit (getD f 2 0) ≡ v → isDigit (getD f 3 0) ≡ w
+              → 65536 ≡ fourIn f
+          by false u v w p q r s = by-digits false u v w p q r s
+          by true false v w p q r s = by-digits true false v w p q r s
+          by true true false w p q r s = by-digits true true false w p q r s
+          by true true true false p q r s = by-digits true true true false p q r s
+          by true true true true p q r s =
+              absurd (let i = some (getD f 0 0) a va p .1 in let j = some (getD f 1 0) b vb q .1 in let k = some (getD f 2 0) c vc r .1 in
+              let l = some (getD f 3 0) d vd s .1 in omega arith)
 
-        module _ (gb : b ≡ 16 → ⊥) (c : ℕ) (vc : c ≡ valueOf (getD f 2 0)) where
-          pub third-bad : c ≡ 16 → 65536 ≡ fourIn f
-          third-bad h = by-digits true true false _ (a-digit (getD f 0 0) a va ga .0) (a-digit (getD f 1 0) b vb gb .0) (no-digit (getD f 2 0) c vc h) refl
-
-          module _ (gc : c ≡ 16 → ⊥) (d : ℕ) (vd : d ≡ valueOf (getD f 3 0)) where
-            pub fourth-bad : d ≡ 16 → 65536 ≡ fourIn f
-            fourth-bad h =
-                by-digits true true true false (a-digit (getD f 0 0) a va ga .0) (a-digit (getD f 1 0) b vb gb .0) (a-digit (getD f 2 0) c vc gc .0)
-                (no-digit (getD f 3 0) d vd h)
-
-            pub all-good : (d ≡ 16 → ⊥) → ((a * 16 + b) * 16 + c) * 16 + d ≡ fourIn f
-            unfolding fourOf
-            all-good gd =
-                let x = a-digit (getD f 0 0) a va ga in
-                let y = a-digit (getD f 1 0) b vb gb in
-                let z = a-digit (getD f 2 0) c vc gc in
-                let w = a-digit (getD f 3 0) d vd gd in
-                rw (x .1, y .1, z .1, w .1) (by-digits true true true true (x .0) (y .0) (z .0) (w .0))
+      -- and any other byte one that is not
+      pub as-told : sum < 65536 → sum ≡ fourIn f
+      unfolding fourOf
+      as-told h = by (isDigit (getD f 0 0)) (isDigit (getD f 1 0)) (isDigit (getD f 2 0)) (isDigit (getD f 3 0)) refl refl refl refl
+        where
+          by : (t u v w : Bool) → isDigit (getD f 0 0) ≡ t → isDigit (getD f 1 0) ≡ u → isDigit (getD f 2 0) ≡ v → isDigit (getD f 3 0) ≡ w
+              → sum ≡ fourIn f
+          by false u v w p q r s = absurd (let i = other (getD f 0 0) a va p in omega arith)
+          by true false v w p q r s = absurd (let i = other (getD f 1 0) b vb q in omega arith)
+          by true true false w p q r s = absurd (let i = other (getD f 2 0) c vc r in omega arith)
+          by true true true false p q r s = absurd (let i = other (getD f 3 0) d vd s in omega arith)
+          by true true true true p q r s =
+              rw (some (getD f 0 0) a va p .0, some (getD f 1 0) b vb q .0, some (getD f 2 0) c vc r .0, some (getD f 3 0) d vd s .0)
+              (by-digits true true true true p q r s)

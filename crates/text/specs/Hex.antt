@@ -17,9 +17,9 @@ isDigit b = within 48 57 b || within 65 70 b
 unfoldable pub digitOf : ℕ → ℕ
 digitOf b = cond (within 48 57 b) (b - 48) (cond (within 65 70 b) (b - 55) 0)
 
--- the value of a digit; 16, which none has, for any other byte
+-- of an inner function: the value of a digit; 65,536, which no four digits stand for, for any other byte
 abbrev pub valueOf : ℕ → ℕ
-valueOf b = cond (isDigit b) (digitOf b) 16
+valueOf b = cond (isDigit b) (digitOf b) 65536
 
 -- every byte is a digit
 unfoldable pub allHex : List ℕ → Bool

@@ -21,7 +21,8 @@ pub fn four_of(field: &[u8]) -> u32
     (high * 16 + hex::digit_at(field, 2)) * 16 + hex::digit_at(field, 3)
 }
 
-// The number that a field of four digits stands for; 65,536, which none does, where it is no such field.
+// The number that a field of four digits stands for; 65,536, which none does, where it is no such field. A byte that is no digit makes the
+// sum that high, wherever it stands.
 pub fn read_four(field: &[u8]) -> u32
     ensures { λ r. ⌜ r ≡ fourIn (now (field .entry)) ⌝ }
 {
@@ -29,21 +30,10 @@ pub fn read_four(field: &[u8]) -> u32
     if n != 4 {
         return 65_536;
     }
-    let a = hex::value(field[0]);
-    if a == 16 {
+    let high = hex::value(field[0]) * 16 + hex::value(field[1]);
+    let sum = (high * 16 + hex::value(field[2])) * 16 + hex::value(field[3]);
+    if 65_536 <= sum {
         return 65_536;
     }
-    let b = hex::value(field[1]);
-    if b == 16 {
-        return 65_536;
-    }
-    let c = hex::value(field[2]);
-    if c == 16 {
-        return 65_536;
-    }
-    let d = hex::value(field[3]);
-    if d == 16 {
-        return 65_536;
-    }
-    ((a * 16 + b) * 16 + c) * 16 + d
+    sum
 }

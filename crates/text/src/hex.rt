@@ -1,7 +1,7 @@
 // Upper-case hex digits.
 ghost use mathlib.Core.Path.{_≡_};
 ghost use mathlib.Core.Bool.{true};
-ghost use Prim.Native.Nat.{_+_, _*_, _<_};
+ghost use Prim.Native.Nat.{_+_, _*_, _<_, _≤_};
 ghost use lib.ListN.{getD};
 ghost use Rattle.text.specs.Hex.{isDigit, digitOf, valueOf, allHex};
 
@@ -30,14 +30,29 @@ pub fn digit(b: u8) -> u32
     value_of(b)
 }
 
-// The value of a digit; 16 for any other byte.
+// The value of a digit; 65,536 for any other byte. All digits are written out, so that the compiler makes a load of it.
 pub fn value(b: u8) -> u32
-    ensures { λ r. ⌜ (r ≡ valueOf b) × (r < 17) ⌝ }
+    ensures { λ r. ⌜ (r ≡ valueOf b) × (r ≤ 65536) ⌝ }
 {
-    if !is_digit(b) {
-        return 16;
+    match b {
+        b'0' => 0,
+        b'1' => 1,
+        b'2' => 2,
+        b'3' => 3,
+        b'4' => 4,
+        b'5' => 5,
+        b'6' => 6,
+        b'7' => 7,
+        b'8' => 8,
+        b'9' => 9,
+        b'A' => 10,
+        b'B' => 11,
+        b'C' => 12,
+        b'D' => 13,
+        b'E' => 14,
+        b'F' => 15,
+        _ => 65_536,
     }
-    value_of(b)
 }
 
 // The value of the digit at a place; 0 past the end.
