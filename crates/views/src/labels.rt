@@ -1,9 +1,11 @@
 // Target marks: the positions that traced jumps, branches and calls name.
 // Ported from `compute_labels` of src/disasm.rs of wtetzner/waterbear, and changed: 1 at each named position, in lent room.
 ghost use mathlib.Core.Path.{_≡_};
+ghost use mathlib.Core.Bool.{true};
 ghost use mathlib.Core.List.{_++_};
 ghost use Prim.Native.Nat.{_≤_, _<_};
-ghost use lib.ListN.{length, drop};
+ghost use lib.ListN.{length, getD, drop};
+ghost use Rattle.reach.specs.Mark.{tracedMark};
 ghost use Rattle.views.specs.View.{viewedOf};
 ghost use Rattle.views.specs.Labels.{labelsOf, namedFrom, labelAt, labelsAnswer, labelsRoom};
 use crate::view;
@@ -11,8 +13,26 @@ use crate::view::Viewed;
 use instruction::Mode;
 use marks::Mark;
 
-// 1 at what the position p names, if it is traced, where that is inside. The exception is asked last: few positions name one inside, and
-// what it knows of the first byte would turn the lookup by that byte into jumps.
+// 1 at what the traced position p names, where that is inside. The exception is asked last: few positions name one inside, and what it knows
+// of the first byte would turn the lookup by that byte into jumps.
+fn label_traced(mode: Mode, image: &[u8], marks: &[u8], room: &mut [u8], p: usize)
+    requires { ⌜ (p < length (now image)) × (length (now image) ≤ 65536) ⌝ }
+    requires { ⌜ (length (now image) ≤ length (now room)) × (tracedMark (getD (now marks) p 0) ≡ true) ⌝ }
+    ensures { λ _.
+        ⌜ now (room .exit)
+        ≡ labelAt (length (now (image .entry))) (namedFrom mode (now (image .entry)) (now (marks .entry)) p) (now (room .entry)) ⌝ }
+{
+    let at = targets::name_at(mode, image, p as u32) as usize;
+    if image.len() <= at {
+        return;
+    }
+    if marks::is_exempt(image, marks, p as u32) {
+        return;
+    }
+    room[at] = 1;
+}
+
+// The same of any position. This stands apart, so that nothing is handed over for the positions that are not traced.
 fn label_from(mode: Mode, image: &[u8], marks: &[u8], room: &mut [u8], p: usize)
     requires { ⌜ (p < length (now image)) × (length (now image) ≤ 65536) ⌝ }
     requires { ⌜ (length (now image) ≤ length (now marks)) × (length (now image) ≤ length (now room)) ⌝ }
@@ -23,14 +43,7 @@ fn label_from(mode: Mode, image: &[u8], marks: &[u8], room: &mut [u8], p: usize)
     if !Mark::is_traced(marks[p]) {
         return;
     }
-    let at = targets::name_at(mode, image, p as u32) as usize;
-    if image.len() <= at {
-        return;
-    }
-    if marks::is_exempt(image, marks, p as u32) {
-        return;
-    }
-    room[at] = 1;
+    label_traced(mode, image, marks, room, p);
 }
 
 fn write_labels(mode: Mode, image: &[u8], marks: &[u8], room: &mut [u8])
