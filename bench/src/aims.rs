@@ -17,7 +17,7 @@ enum By {
 
 /// The aims, each at the worst of its row's lengths.
 const AIMS: [(Row, By, f64); 33] = [
-    (Row::Decode, By::Plain, 1.4),
+    (Row::Decode, By::Plain, 1.45),
     (Row::Start, By::Plain, 1.5),
     (Row::Steps, By::Plain, 1.8),
     (Row::Run, By::Plain, 1.3),

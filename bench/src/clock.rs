@@ -1,6 +1,7 @@
 //! Times. A sample goes through all images of a length, so that no branch predictor is trained on one, as often
 //! as it takes to last a while. Sides and lengths take turns, so that a busy moment of the machine meets all.
 
+use crate::earlier;
 use std::ffi::{c_int, c_long};
 
 /// As many samples as there is time for, within these numbers.
@@ -46,7 +47,7 @@ pub fn measure<C>(groups: &[&[C]], mut sides: Sides<C>) -> Vec<Times> {
         }
     }
     let shortest = samples.into_iter();
-    shortest.map(|sides| sides.map(lowest)).collect()
+    earlier::lower(shortest.map(|sides| sides.map(lowest)).collect())
 }
 
 /// The seconds for each case, from another one on at each turn.
