@@ -27,10 +27,8 @@ over low high b h = rw (lt-leb b high h) (not-second (leb low b) false refl)
 
 -- the value of a byte that is a lower-case digit, and of one that is none
 module _ (b : ℕ) where
-  pub lower-value : 97 ≤ b → leb b 102 ≡ true → (b - 87 ≡ valueIn b) × (b - 87 < 17)
-  lower-value h e =
-      let k = leb-true b 102 e in
-      (rw (inside 97 102 b h k) refl, omega arith)
+  pub lower-value : 97 ≤ b → leb b 102 ≡ true → b - 87 ≡ valueIn b
+  lower-value h e = rw (inside 97 102 b h (leb-true b 102 e)) refl
 
   pub other-value : (v : ℕ) → v ≡ valueOf b → (leb b 102 ≡ false) ⊎ (b < 97) → v ≡ valueIn b
   other-value v e (inl f) = e ∙ rw (over 97 102 b (leb-false b 102 f)) refl
@@ -103,7 +101,7 @@ module _ (w : List ℕ) where
       here : drop i w ≡ getD w i 0 ∷ drop (suc i) w
       here = drop-cons w i 0 h
 
-      pub reading-stop : d ≡ 16 → 65536 ≡ numberIn w
+      pub reading-stop : 16 ≤ d → 65536 ≡ numberIn w
       unfolding allDigits
       reading-stop f = let z : 16 ≤ valueIn (getD w i 0) = omega (arith, e, f) in rw (here, le-ltb (valueIn (getD w i 0)) 16 z) at (r .same)
 

@@ -17,7 +17,7 @@ unfoldable pub codes : String → List ℕ
 codes none = []
 codes (c then s) = code c ∷ codes s
 
--- the value of a hex digit of either case; 16, which none has, for any other byte
+-- the value of a hex digit of either case; 65,536, which none has, for any other byte
 abbrev pub valueIn : ℕ → ℕ
 valueIn b = cond (within 97 102 b) (b - 87) (valueOf b)
 

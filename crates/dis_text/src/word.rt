@@ -1,6 +1,5 @@
 // One word of the command line.
 ghost use mathlib.Core.Path.{_≡_};
-ghost use Prim.Native.Nat.{_<_};
 ghost use Rattle.dis_text.specs.Word.{valueIn, numberIn, wordOf};
 use text::hex;
 use text::same::same;
@@ -15,9 +14,9 @@ pub enum Word {
     Other,
 }
 
-// The value of a hex digit of either case; 16 for any other byte.
+// The value of a hex digit of either case; 65,536 for any other byte.
 fn value(b: u8) -> u32
-    ensures { λ r. ⌜ (r ≡ valueIn b) × (r < 17) ⌝ }
+    ensures { λ r. ⌜ r ≡ valueIn b ⌝ }
 {
     if b'a' <= b && b <= b'f' {
         return b as u32 - 87;
@@ -39,7 +38,7 @@ fn number(word: &[u8]) -> u32
     let mut i: usize = 0;
     while i < word.len() {
         let d = value(word[i]);
-        if d == 16 {
+        if 16 <= d {
             return 65_536;
         }
         n = n * 16 + d;

@@ -29,7 +29,7 @@ loop-holds c = let e = c .before in reading-start (e .before .before .args .word
 
 -- the digit that was read is one
 digit : (c : tie.Else3 Inv-loop μ-loop) → c .before .value .result < 16
-digit c = omega (arith, c .before .value .ensures .1, c .if3 .left)
+digit c = c .if3 .left
 
 -- four digits or fewer were read before it
 few : (c : tie.Else3 Inv-loop μ-loop) → c .before .before .before .before .loop .n < 65536
@@ -43,7 +43,7 @@ returns-3 c =
     let v = c .before in
     let i = v .before .before in
     let l = i .before in
-    reading-stop (word l) (l .loop .n) (l .loop .i) (l .loop .inv) (i .loop-test .taken) _ (v .value .ensures .0) (c .if3 .taken)
+    reading-stop (word l) (l .loop .n) (l .loop .i) (l .loop .inv) (i .loop-test .taken) _ (v .value .ensures) (c .if3 .taken)
 
 mul-n : tie.Need-mul-n Inv-loop μ-loop
 mul-n c = omega (arith, few c)
@@ -56,7 +56,7 @@ loop-again c =
     let v = c .before in
     let i = v .before .before in
     let l = i .before in
-    reading-next (word l) (l .loop .n) (l .loop .i) (l .loop .inv) (i .loop-test .taken) _ (v .value .ensures .0) (digit c)
+    reading-next (word l) (l .loop .n) (l .loop .i) (l .loop .inv) (i .loop-test .taken) _ (v .value .ensures) (digit c)
 
 returns-4 : tie.Need-returns-4 Inv-loop μ-loop
 returns-4 c = let l = c .before in reading-end (word l) (l .loop .n) (l .loop .i) (l .loop .inv) (c .loop-test .left)
