@@ -17,7 +17,7 @@ isDigit b = within 48 57 b || within 65 70 b
 unfoldable pub digitOf : ℕ → ℕ
 digitOf b = cond (within 48 57 b) (b - 48) (cond (within 65 70 b) (b - 55) 0)
 
--- of an inner function: the value of a digit; 65,536, which no four digits stand for, for any other byte
+-- the value of a digit; 65,536, which no four digits stand for, for any other byte
 abbrev pub valueOf : ℕ → ℕ
 valueOf b = cond (isDigit b) (digitOf b) 65536
 
