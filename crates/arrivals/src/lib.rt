@@ -1,4 +1,6 @@
 // Arrivals at a position; and for all positions of an image, an index of those that name them, made by one pass over it.
+#![tactic(auto)]
+
 pub mod arrival;
 pub mod fall;
 mod held;

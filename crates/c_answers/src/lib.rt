@@ -1,4 +1,6 @@
 // What the C face hands over: the number of a refusal and five values, for each answer.
+#![tactic(auto)]
+
 pub mod back;
 mod back_replies;
 pub mod code;

@@ -1,5 +1,7 @@
 // The program for game files: opens the file that is named, reads it, calls the one function that makes the output, and writes that: a listing
 // to standard output, what is wrong to standard error.
+#![tactic(auto)]
+
 ghost use Rattle.std.specs.Prelude.{◌≡◌, length};
 
 use dis_text::Shown;

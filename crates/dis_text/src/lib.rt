@@ -1,4 +1,6 @@
 // The work of the program for game files: the words of its command line and the file's bytes to its whole output.
+#![tactic(auto)]
+
 mod arguments;
 mod asked;
 mod list;

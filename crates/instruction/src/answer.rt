@@ -2,7 +2,7 @@
 ghost use Rattle.std.specs.Prelude.{◌≡◌};
 
 // Refusal 5: an instruction that the end cuts off, and how many of its bytes are missing.
-#[derive(Drop)]
+#[derive(Clone, Copy)]
 pub struct CutOff {
     pub position: u32,
     pub first: u8,
@@ -22,7 +22,7 @@ impl CutOff {
 }
 
 // Refusal 7: an operand, counted from 1 in the order shown, whose number does not fit.
-#[derive(Drop)]
+#[derive(Clone, Copy)]
 pub struct Misfit {
     pub operand: u8,
     pub value: i32,
@@ -37,7 +37,7 @@ impl Misfit {
 }
 
 // Refusal 10: the top four bits of the base and of the address, which differ.
-#[derive(Drop)]
+#[derive(Clone, Copy)]
 pub struct Tops {
     pub base: u8,
     pub address: u8,

@@ -8,7 +8,7 @@ use crate::answer::CutOff;
 use crate::instr::{Instr, Parts};
 use crate::{build, first, form, read};
 
-#[derive(Drop)]
+#[derive(Clone, Copy)]
 pub enum Decoded {
     Found(Instr),
     // 12: no byte.
@@ -18,7 +18,7 @@ pub enum Decoded {
 }
 
 // The same with the parts of the instruction, for callers that would take it apart again.
-#[derive(Drop)]
+#[derive(Clone, Copy)]
 pub enum DecodedParts {
     Found(Parts),
     Nothing,

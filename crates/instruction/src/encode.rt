@@ -7,7 +7,7 @@ use crate::answer::Misfit;
 use crate::instr::Instr;
 use crate::{form, layout, range, write};
 
-#[derive(Drop)]
+#[derive(Clone, Copy)]
 pub enum Encoded {
     // The number of bytes written.
     Written(usize),
@@ -17,7 +17,7 @@ pub enum Encoded {
     NoRoom(usize),
 }
 
-#[derive(Drop)]
+#[derive(Clone, Copy)]
 pub enum Fit {
     Fits,
     // 7: the first field out of its range.

@@ -59,7 +59,7 @@ pub fn size_by(first: u8) -> u32
     bits(first) % 4
 }
 
-#[derive(Drop)]
+#[derive(Clone, Copy)]
 pub struct FirstByte {
     pub size: u32,
     pub flow: Flow,

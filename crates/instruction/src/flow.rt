@@ -6,7 +6,7 @@ ghost use Rattle.instruction.specs.Parts.{parts_of};
 
 use crate::instr::Instr;
 
-#[derive(Drop)]
+#[derive(Clone, Copy)]
 pub enum Flow {
     // Ret, Reti: no target.
     Stop,

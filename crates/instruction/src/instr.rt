@@ -10,7 +10,7 @@ ghost use Rattle.instruction.specs.Parts.{parts_of, made_of};
 use crate::kind::{Kind, Kinds};
 use crate::{build, form, layout};
 
-#[derive(Drop)]
+#[derive(Clone, Copy)]
 pub enum Instr {
     Add_i8(i32),
     Add_d9(i32),
@@ -85,7 +85,7 @@ pub enum Instr {
 }
 
 // The number of a form, 0 to 69 in the order of `Instr`, and the operands in the order shown, 0 where there is none.
-#[derive(Drop)]
+#[derive(Clone, Copy)]
 pub struct Parts {
     pub form: u8,
     pub a: i32,

@@ -3,7 +3,7 @@ ghost use Rattle.std.specs.Prelude.{◌≡◌};
 ghost use Rattle.instruction.specs.Kinds.{is_given, three_of};
 
 // What an operand is, and so which numbers fit it and how it is resolved.
-#[derive(Drop)]
+#[derive(Clone, Copy)]
 pub enum Kind {
     Absent,
     // `i8`: a byte.
@@ -42,7 +42,7 @@ impl Kind {
     }
 }
 
-#[derive(Drop)]
+#[derive(Clone, Copy)]
 pub struct Kinds {
     pub a: Kind,
     pub b: Kind,
@@ -58,7 +58,7 @@ impl Kinds {
 }
 
 // The operands of a form, in the order shown, by the names that the Rust gives them: `D9B3R8` for `(d9, b3, r8)`.
-#[derive(Drop)]
+#[derive(Clone, Copy)]
 pub enum Shape {
     Bare,
     Imm,

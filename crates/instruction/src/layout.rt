@@ -5,7 +5,7 @@ ghost use Rattle.instruction.specs.Layout.{blank};
 use crate::kind::Shape;
 
 // In the order shown, 0 where there is none.
-#[derive(Drop)]
+#[derive(Clone, Copy)]
 pub struct Fields {
     pub a: i32,
     pub b: i32,

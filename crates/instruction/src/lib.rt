@@ -3,6 +3,8 @@
 // Ported from src/instruction.rs of wtetzner/waterbear (Apache-2.0, see NOTICE), and changed: an instruction holds numbers alone, the
 // derived functions are a lookup by row and column and fields written out, the bits go by shapes where the Rust has a pattern for each form, and every
 // answer is an enum.
+#![tactic(auto)]
+
 pub mod answer;
 mod build;
 pub mod decode;

@@ -1,6 +1,6 @@
 // Whether a short branch, and the end of memory, wrap at sixteen bits.
 
-#[derive(Drop)]
+#[derive(Clone, Copy)]
 pub enum Mode {
     // A short branch may leave memory: its target is the sum as it is.
     Unwrapped,

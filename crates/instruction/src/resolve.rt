@@ -8,7 +8,7 @@ use crate::mode::Mode;
 use crate::resolve_operand::{Resolution, Why};
 use crate::{build, resolve_operand};
 
-#[derive(Drop)]
+#[derive(Clone, Copy)]
 pub enum Resolved {
     Fields(Instr),
     // 14: a base above 65,536.

@@ -15,7 +15,7 @@ use crate::mode::Mode;
 use crate::{range, signed};
 
 // Why an operand is refused.
-#[derive(Drop)]
+#[derive(Clone, Copy)]
 pub enum Why {
     // 7: a number that does not fit.
     Unfit(Misfit),
@@ -27,7 +27,7 @@ pub enum Why {
     OtherPage(Tops),
 }
 
-#[derive(Drop)]
+#[derive(Clone, Copy)]
 pub enum Resolution {
     All(Fields),
     // 14: a base above 65,536.
@@ -36,7 +36,7 @@ pub enum Resolution {
 }
 
 // The field of one operand, or why there is none.
-#[derive(Drop)]
+#[derive(Clone, Copy)]
 enum Field {
     Is(i32),
     Not(Why),

@@ -7,7 +7,7 @@ use crate::kind::Shape;
 use crate::{layout, signed};
 
 // The bytes of an instruction, 0 past its size.
-#[derive(Drop)]
+#[derive(Clone, Copy)]
 struct Three {
     first: u8,
     second: u8,

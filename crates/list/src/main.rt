@@ -1,4 +1,6 @@
 // The listing program: reads standard input, calls the one function that makes the output of it, and writes that.
+#![tactic(auto)]
+
 ghost use Rattle.std.specs.Prelude.{◌≡◌, length};
 
 use libc::{STDIN_FILENO, STDOUT_FILENO};

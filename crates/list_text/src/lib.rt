@@ -1,4 +1,6 @@
 // The listing program's work: its whole input text to its whole output text.
+#![tactic(auto)]
+
 mod bytes;
 pub mod decimal;
 mod entries;

@@ -1,4 +1,6 @@
 // The listing: what stands at each position of an image, as tabbed text.
+#![tactic(auto)]
+
 mod chain;
 pub mod code;
 pub mod hex;

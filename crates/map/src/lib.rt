@@ -1,4 +1,6 @@
 // The packed map, one bit for each image byte: a word and its bits, building the map, keeping it up, and asking it.
+#![tactic(auto)]
+
 pub mod ask;
 pub mod bits;
 pub mod build;

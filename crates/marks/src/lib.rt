@@ -1,4 +1,6 @@
 // Marks: their values, the exception that reads them, clearing them, positions noted in them, and one position taken up.
+#![tactic(auto)]
+
 pub mod exempt;
 pub mod flash;
 pub mod mark;

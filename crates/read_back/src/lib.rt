@@ -1,4 +1,6 @@
 // A listing read back: places and the order of lines, one line, and the whole listing.
+#![tactic(auto)]
+
 pub mod back;
 mod laying;
 mod line;

@@ -1,1 +1,3 @@
 // Theorems about listings read back; no code.
+
+#![tactic(auto)]

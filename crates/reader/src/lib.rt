@@ -1,5 +1,7 @@
 // A reader: it holds the lent text of a listing, and the place of the line that is next. Each function over it is proved by a walk of its
 // MIR, by hand; `read_back::read::read_line` does the work, and `read`, whose parameters are plain, needs no walk where it is called.
+#![tactic(auto)]
+
 ghost use Rattle.std.specs.Prelude.{◌≡◌};
 ghost use Rattle.read_back.specs.Read.{read_of, read_answer};
 

@@ -1,4 +1,6 @@
 // A log from the unit replayed over marks: a line for each executed instruction, taken whole or in blocks that are cut at any byte.
+#![tactic(auto)]
+
 pub mod answer;
 pub mod block;
 mod entry;

@@ -1,5 +1,7 @@
 // The term report: reads standard input in blocks to its end, and writes each image's line once that image is complete, and the sums at last.
 // It holds one block and one image's text, however long the term.
+#![tactic(auto)]
+
 ghost use Rattle.std.specs.Prelude.{◌≡◌, ◌≤◌, length};
 
 use libc::{STDIN_FILENO, STDOUT_FILENO};

@@ -1,4 +1,6 @@
 // The term report's work: the texts of many images to a line for each, and the sums.
+#![tactic(auto)]
+
 mod copy;
 mod count;
 mod empty;

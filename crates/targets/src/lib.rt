@@ -1,5 +1,7 @@
 // Where control goes from a position of an image: the instruction there, and its targets.
 // Ported from src/disasm.rs of wtetzner/waterbear (Apache-2.0, see NOTICE), and changed: targets are signed numbers.
+#![tactic(auto)]
+
 mod address;
 pub mod asked;
 pub mod here;

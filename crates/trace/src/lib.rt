@@ -1,4 +1,6 @@
 // The tracer: start, step and run.
+#![tactic(auto)]
+
 mod begin;
 mod damage;
 mod queue;

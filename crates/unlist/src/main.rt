@@ -1,5 +1,7 @@
 // The unlisting program: reads a listing from standard input, calls the one function that makes image lines of it, and writes those. Its one
 // argument is the image's length.
+#![tactic(auto)]
+
 ghost use Rattle.std.specs.Prelude.{◌≡◌, length};
 
 use libc::{STDERR_FILENO, STDIN_FILENO, STDOUT_FILENO};

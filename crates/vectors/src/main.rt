@@ -1,6 +1,8 @@
 // Replays a stored list of the original's answers, and of the plain side's in wrapping mode, through the exported calls, and prints how many
 // of its lines hold.
 // The list was made by `compare/run --vectors SRC` over the original Rust's sources; data/ABOUT describes its lines.
+#![tactic(auto)]
+
 ghost use Rattle.std.specs.Prelude.{◌≡◌, length};
 
 mod calls;

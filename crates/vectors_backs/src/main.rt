@@ -1,5 +1,7 @@
 // Replays a stored list of listings through `read_back`, and prints how many of its cases hold.
 // The list was made by `compare/run --backs SRC`; data/ABOUT describes its lines.
+#![tactic(auto)]
+
 ghost use Rattle.std.specs.Prelude.{◌≡◌, length};
 
 mod case;

@@ -1,5 +1,7 @@
 // Replays a stored list of listings through `list_text`, `dis_text`, `listing_with` and `listing`, and prints how many of them hold.
 // The list was made by `compare/run --lists SRC`; data/ABOUT describes its lines.
+#![tactic(auto)]
+
 ghost use Rattle.std.specs.Prelude.{◌≡◌, length};
 
 mod call;

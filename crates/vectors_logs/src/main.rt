@@ -1,5 +1,7 @@
 // Replays a stored list of logs through `replay`, whole and in blocks, and prints how many of its cases hold.
 // The list was made by `compare/run --logs SRC`; data/ABOUT describes its lines.
+#![tactic(auto)]
+
 ghost use Rattle.std.specs.Prelude.{◌≡◌, length};
 
 mod blocks;

@@ -1,6 +1,8 @@
 // Replays a stored list of terms through `report_text`, whole, and through `take` and `close`, in blocks, and prints how many of them hold; then
 // how many hold of the cases that no text reaches, with sums that are nearly full, and of those with rooms that are too short for a block.
 // The list was made by `compare/run --terms SRC`; data/ABOUT describes its lines.
+#![tactic(auto)]
+
 ghost use Rattle.std.specs.Prelude.{◌≡◌, length};
 
 mod blocks;

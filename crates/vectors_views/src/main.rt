@@ -1,5 +1,7 @@
 // Replays a stored list of views through the exported calls, and prints how many of its lines hold.
 // The list was made by `compare/run --views SRC` over the original Rust's sources; data/ABOUT describes its lines.
+#![tactic(auto)]
+
 ghost use Rattle.std.specs.Prelude.{◌≡◌, length};
 
 mod line;

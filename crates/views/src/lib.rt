@@ -1,4 +1,6 @@
 // Views over marks: what every view refuses, which positions are traced, the byte mask, the target marks, overlaps, and runs of data.
+#![tactic(auto)]
+
 mod damage;
 pub mod data;
 pub mod labels;

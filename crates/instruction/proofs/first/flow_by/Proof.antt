@@ -18,9 +18,9 @@ other (suc (suc zero)) a b c = absurd (b refl)
 other (suc (suc (suc zero))) a b c = absurd (c refl)
 other (suc (suc (suc (suc n)))) a b c = refl
 
-pub flow-by-spec : {M : Type 1} → statement M
+pub flow_by_spec : {M : Type 1} → statement M
 unfolding flow_at
-flow-by-spec =
+flow_by_spec =
     tie.close
-    (tie.spec (λ c. arm c.before 1 c.match.keys1) (λ c. arm c.before 2 c.match.keys2) (λ c. arm c.before 3 c.match.keys3)
-    (λ c. let r = c.match.rest in other c.before.args.upper r.0.0.1 r.0.1 r.1))
+    (tie.spec (λ c. arm c.before 1 c.in-1.is) (λ c. arm c.before 2 c.in-2.is) (λ c. arm c.before 3 c.in-3.is)
+    (λ c. let r = c.in_default.in_default-own.rest in other c.args.upper r.0.0.1 r.0.1 r.1))

@@ -9,5 +9,5 @@ returns : tie.Need-returns
 returns c =
     let s = c.before in ap (λ (k : ℕ). k % 4) c.bits.ensures ∙ sized s.args.first s.ranges.first.fits
 
-pub size-by-spec : {M : Type 1} → statement M
-size-by-spec = tie.close (tie.spec (λ c κs. search rules) returns)
+pub size_by_spec : {M : Type 1} → statement M
+size_by_spec = tie.close (tie.spec (λ c κs. search rules) returns)

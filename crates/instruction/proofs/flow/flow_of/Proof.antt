@@ -34,13 +34,13 @@ unfolding is
 from f low n t k h l =
     sym (back_place f) ∙ ap back (eqb→eq (place f) (place (flow_of k)) (holds_from (λ j. is f j) low n t k h l)) ∙ back_place (flow_of k)
 
-pub flow-of-spec : {M : Type 1} → statement M
+pub flow_of_spec : {M : Type 1} → statement M
 unfolding is place flow_of stops jumps branches form_at forms
-flow-of-spec =
+flow_of_spec =
     tie.close
     (tie.spec
-    (λ c. from Next 0 42 tt c.before.args.form (omega arith) (omega arith))
-    (λ c. from Jump 42 4 tt c.before.before.args.form (omega arith) (omega arith))
-    (λ c. from Branch 46 16 tt c.before.before.before.args.form (omega arith) (omega arith))
-    (λ c. from Stop 62 2 tt c.before.before.before.before.args.form (omega arith) (omega arith))
-    (λ c. from Next 64 6 tt c.before.before.before.before.args.form (omega arith) (omega arith)))
+    (λ c. from Next 0 42 tt c.args.form (omega arith) (omega arith))
+    (λ c. from Jump 42 4 tt c.args.form (omega arith) (omega arith))
+    (λ c. from Branch 46 16 tt c.args.form (omega arith) (omega arith))
+    (λ c. from Stop 62 2 tt c.args.form (omega arith) (omega arith))
+    (λ c. from Next 64 6 tt c.args.form (omega arith) (omega arith)))

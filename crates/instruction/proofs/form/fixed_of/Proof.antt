@@ -15,7 +15,7 @@ there k w r h = read fixed_at 9 tt k (omega arith) w r
 returns : tie.Need-returns
 unfolding fixed_at
 returns c =
-    let f = c.before in there f.before.args.form _ _ f.before.requires f.fixed.ensures c.byte_of.ensures
+    let f = c.before in there f.args.form _ _ f.requires f.fixed.ensures c.byte_of.ensures
 
-pub fixed-of-spec : {M : Type 1} → statement M
-fixed-of-spec = tie.close (tie.spec (λ c κs. search rules) (λ c κs. search rules) returns)
+pub fixed_of_spec : {M : Type 1} → statement M
+fixed_of_spec = tie.close (tie.spec (λ c κs. search rules) (λ c κs. search rules) returns)

@@ -31,7 +31,7 @@ in_column x c h e =
 
 -- the column's number and the place
 least : (c : tie.After-column) → c.column.result < 5
-least c = subst (λ (n : ℕ). n < 5) (sym c.column.ensures) (five (c.before.args.first % 16) (omega arith))
+least c = subst (λ (n : ℕ). n < 5) (sym c.column.ensures) (five (c.args.first % 16) (omega arith))
 
 byte : (c : tie.Start) → c.args.first < 256
 byte c = search rules
@@ -40,20 +40,20 @@ returns : tie.Need-returns
 returns c =
     let f = c.before in
     let a = f.before in
-    let x : ℕ = a.before.args.first in
+    let x : ℕ = a.args.first in
     let h : x < 256 = byte a.before in
     let l : a.column.result < 5 = least a in
     let e = there (16 * a.column.result + x / 16) _ _ (omega arith) f.forms.ensures c.byte_of.ensures
     ∙ in_column x a.column.result h a.column.ensures in
     (e, subst (λ (n : ℕ). n < 70) (sym e) (small x h))
 
-pub lookup-spec : {M : Type 1} → statement M
-lookup-spec =
+pub lookup_spec : {M : Type 1} → statement M
+lookup_spec =
     tie.close
     (tie.spec
     (λ c κs. search rules)
     (λ c. let l : c.column.result < 5 = least c in record { fits = omega arith })
-    (λ c. let l : c.column.result < 5 = least c in let h : c.before.args.first < 256 = byte c.before in record { fits = omega arith })
-    (λ c κs. let l : c.column.result < 5 = least c in let h : c.before.args.first < 256 = byte c.before in omega arith)
+    (λ c. let l : c.column.result < 5 = least c in let h : c.args.first < 256 = byte c.before in record { fits = omega arith })
+    (λ c κs. let l : c.column.result < 5 = least c in let h : c.args.first < 256 = byte c.before in omega arith)
     (λ c κs. search rules)
     returns)

@@ -4,23 +4,23 @@ use Rattle.instruction.proofs.Rest.{only}
 use Rattle.instruction.proofs.form.numbered.Statement.{statement}
 use Rattle.instruction.proofs.form.numbered.Tie as tie
 
-pub numbered-spec : {M : Type 1} → statement M
-numbered-spec =
+pub numbered_spec : {M : Type 1} → statement M
+numbered_spec =
     tie.close
     (tie.spec
-    (λ c. c.match.keys1)
-    (λ c. c.match.keys2)
-    (λ c. c.match.keys3)
-    (λ c. c.match.keys4)
-    (λ c. c.match.keys5)
-    (λ c. c.match.keys6)
-    (λ c. c.match.keys7)
-    (λ c. c.match.keys8)
-    (λ c. c.match.keys9)
-    (λ c. c.match.keys10)
-    (λ c. c.match.keys11)
-    (λ c. c.match.keys12)
-    (λ c. c.match.keys13)
-    (λ c. c.match.keys14)
-    (λ c. c.match.keys15)
-    (λ c. only 15 c.before.args.n c.match.rest c.before.requires))
+    (λ c. c.in-0.is)
+    (λ c. c.in-1.is)
+    (λ c. c.in-2.is)
+    (λ c. c.in-3.is)
+    (λ c. c.in-4.is)
+    (λ c. c.in-5.is)
+    (λ c. c.in-6.is)
+    (λ c. c.in-7.is)
+    (λ c. c.in-8.is)
+    (λ c. c.in-9.is)
+    (λ c. c.in-10.is)
+    (λ c. c.in-11.is)
+    (λ c. c.in-12.is)
+    (λ c. c.in-13.is)
+    (λ c. c.in-14.is)
+    (λ c. only 15 c.args.n c.in_default.in_default-own.rest c.requires))

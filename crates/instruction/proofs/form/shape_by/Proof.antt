@@ -18,9 +18,9 @@ unfolding shaped_by shape_at
 returns c =
     let w = c.before in
     let s = w.before in
-    same _ _ (sym c.numbered.ensures ∙ read shaped_by shaped_small s.args.first _ _ s.ranges.first.fits w.shape-word.ensures refl)
+    same _ _ (sym c.numbered.ensures ∙ read shaped_by shaped_small s.args.first _ _ s.ranges.first.fits w.shape_word.ensures refl)
 
-pub shape-by-spec : {M : Type 1} → statement M
-shape-by-spec =
+pub shape_by_spec : {M : Type 1} → statement M
+shape_by_spec =
     tie.close
     (tie.spec (λ c κs. search rules) (λ c. search rules) (λ c. search rules) (λ c. search rules) (λ c. search rules) (λ c κs. search rules) returns)

@@ -9,24 +9,24 @@ use Rattle.instruction.specs.FirstBits.{column_word, shaped_by}
 use Rattle.instruction.proofs.form.shape_word.Statement.{statement}
 use Rattle.instruction.proofs.form.shape_word.Tie as tie
 
-pub shape-word-spec : {M : Type 1} → statement M
+pub shape_word_spec : {M : Type 1} → statement M
 unfolding column_word shaped_by shape_at form_of form_at forms pattern pattern_bytes onto bits_given next_bracket
-shape-word-spec =
+shape_word_spec =
     tie.close
     (tie.spec
-    (λ c. arm (column_word shaped_by) 0 _ c.match.keys1 refl)
-    (λ c. arm (column_word shaped_by) 1 _ c.match.keys2 refl)
-    (λ c. arm (column_word shaped_by) 2 _ c.match.keys3 refl)
-    (λ c. arm (column_word shaped_by) 3 _ c.match.keys4 refl)
-    (λ c. arm (column_word shaped_by) 4 _ c.match.keys5 refl)
-    (λ c. arm (column_word shaped_by) 5 _ c.match.keys6 refl)
-    (λ c. arm (column_word shaped_by) 6 _ c.match.keys7 refl)
-    (λ c. arm (column_word shaped_by) 7 _ c.match.keys8 refl)
-    (λ c. arm (column_word shaped_by) 8 _ c.match.keys9 refl)
-    (λ c. arm (column_word shaped_by) 9 _ c.match.keys10 refl)
-    (λ c. arm (column_word shaped_by) 10 _ c.match.keys11 refl)
-    (λ c. arm (column_word shaped_by) 11 _ c.match.keys12 refl)
-    (λ c. arm (column_word shaped_by) 12 _ c.match.keys13 refl)
-    (λ c. arm (column_word shaped_by) 13 _ c.match.keys14 refl)
-    (λ c. arm (column_word shaped_by) 14 _ c.match.keys15 refl)
-    (λ c. arm (column_word shaped_by) 15 _ (only 15 c.before.args.low c.match.rest c.before.requires) refl))
+    (λ c. arm (column_word shaped_by) 0 _ c.in-0.is refl)
+    (λ c. arm (column_word shaped_by) 1 _ c.in-1.is refl)
+    (λ c. arm (column_word shaped_by) 2 _ c.in-2.is refl)
+    (λ c. arm (column_word shaped_by) 3 _ c.in-3.is refl)
+    (λ c. arm (column_word shaped_by) 4 _ c.in-4.is refl)
+    (λ c. arm (column_word shaped_by) 5 _ c.in-5.is refl)
+    (λ c. arm (column_word shaped_by) 6 _ c.in-6.is refl)
+    (λ c. arm (column_word shaped_by) 7 _ c.in-7.is refl)
+    (λ c. arm (column_word shaped_by) 8 _ c.in-8.is refl)
+    (λ c. arm (column_word shaped_by) 9 _ c.in-9.is refl)
+    (λ c. arm (column_word shaped_by) 10 _ c.in-10.is refl)
+    (λ c. arm (column_word shaped_by) 11 _ c.in-11.is refl)
+    (λ c. arm (column_word shaped_by) 12 _ c.in-12.is refl)
+    (λ c. arm (column_word shaped_by) 13 _ c.in-13.is refl)
+    (λ c. arm (column_word shaped_by) 14 _ c.in-14.is refl)
+    (λ c. arm (column_word shaped_by) 15 _ (only 15 c.args.low c.in_default.in_default-own.rest c.requires) refl))

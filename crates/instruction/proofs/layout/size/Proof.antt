@@ -11,9 +11,9 @@ use Rattle.instruction.proofs.layout.size.Tie as tie
 told : (c : tie.Start) (s : Shape) → c.args.shape ≡ s → length (blank s) ≡ length (blank c.args.shape)
 told c s e = rw e
 
-pub size-spec : {M : Type 1} → statement M
+pub size_spec : {M : Type 1} → statement M
 unfolding blank
-size-spec =
+size_spec =
     tie.close
     (tie.spec
     (λ c. search rules)
@@ -32,19 +32,19 @@ size-spec =
     (λ c. search rules)
     (λ c. search rules)
     (λ c. search rules)
-    (λ c. told c.before.before Bare c.enum_told.given.1)
-    (λ c. told c.before.before Imm c.enum-told2.given.1)
-    (λ c. told c.before.before D9 c.enum-told3.given.1)
-    (λ c. told c.before.before Ri c.enum-told4.given.1)
-    (λ c. told c.before.before ImmD9 c.enum-told5.given.1)
-    (λ c. told c.before.before ImmRi c.enum-told6.given.1)
-    (λ c. told c.before.before D9B3 c.enum-told7.given.1)
-    (λ c. told c.before.before A12 c.enum-told8.given.1)
-    (λ c. told c.before.before A16 c.enum-told9.given.1)
-    (λ c. told c.before.before R16 c.enum-told10.given.1)
-    (λ c. told c.before.before R8 c.enum-told11.given.1)
-    (λ c. told c.before.before D9B3R8 c.enum-told12.given.1)
-    (λ c. told c.before.before D9R8 c.enum-told13.given.1)
-    (λ c. told c.before.before RiR8 c.enum-told14.given.1)
-    (λ c. told c.before.before ImmR8 c.enum-told15.given.1)
-    (λ c. told c.before.before RiImmR8 c.enum-told16.given.1))
+    (λ c. told c.before Bare c.in-Bare.is)
+    (λ c. told c.before Imm c.in-Imm.is)
+    (λ c. told c.before D9 c.in-D9.is)
+    (λ c. told c.before Ri c.in-Ri.is)
+    (λ c. told c.before ImmD9 c.in-ImmD9.is)
+    (λ c. told c.before ImmRi c.in-ImmRi.is)
+    (λ c. told c.before D9B3 c.in-D9B3.is)
+    (λ c. told c.before A12 c.in-A12.is)
+    (λ c. told c.before A16 c.in-A16.is)
+    (λ c. told c.before R16 c.in-R16.is)
+    (λ c. told c.before R8 c.in-R8.is)
+    (λ c. told c.before D9B3R8 c.in-D9B3R8.is)
+    (λ c. told c.before D9R8 c.in-D9R8.is)
+    (λ c. told c.before RiR8 c.in-RiR8.is)
+    (λ c. told c.before ImmR8 c.in-ImmR8.is)
+    (λ c. told c.before RiImmR8 c.in-RiImmR8.is))

@@ -13,14 +13,14 @@ use Rattle.instruction.proofs.read.read.Tie as tie
 abbrev Read : ℤ → Type 0
 Read z = to_z w32 (of_z w32 z) ≡ z
 
-told : (c : tie.After-byte-at3) (t : Shape) → c.before.before.before.before.args.shape ≡ t
-    → closed t c.before.before.byte_at.result c.before.byte-at2.result c.byte-at3.result
-    ≡ fields_by c.before.before.before.before.args.shape c.before.before.before.before.args.bytes.now
+told : (c : tie.After-byte_at-q) (t : Shape) → c.args.shape ≡ t
+    → closed t c.byte_at-x.result c.byte_at-p.result c.byte_at-q.result
+    ≡ fields_by c.args.shape c.args.bytes.now
 told c t e =
     let d = c.before.before.before in
-    let s : List ℕ = d.before.args.bytes.now in
-    rw (c.before.before.byte_at.ensures, c.before.byte-at2.ensures, c.byte-at3.ensures, e)
-    (read t s (λ i. (d.shared-slice-known.given i).fits))
+    let s : List ℕ = d.args.bytes.now in
+    rw (c.byte_at-x.ensures, c.byte_at-p.ensures, c.byte_at-q.ensures, e)
+    (read t s (λ i. (d.shared_slice_known-1.given i).fits))
 
 pub read_spec : {M : Type 1} → statement M
 unfolding closed
@@ -71,43 +71,43 @@ read_spec =
     (λ c κs. search rules)
     (λ c κs. search rules)
     (λ c κs. search rules)
-    (λ c. told c.before.before Bare c.enum_told.given.1)
+    (λ c. told c.before Bare c.in-Bare.is)
     (λ c. let f : Read c.byte.result = search rules in
-    make3 (f ∙ c.byte.ensures) refl refl ∙ told c.before.before.before Imm c.before.enum-told2.given.1)
+    make3 (f ∙ c.byte.ensures) refl refl ∙ told c.before.before Imm c.in-Imm.is)
     (λ c. let f : Read c.d9.result = search rules in
-    make3 (f ∙ c.d9.ensures) refl refl ∙ told c.before.before.before D9 c.before.enum-told3.given.1)
+    make3 (f ∙ c.d9.ensures) refl refl ∙ told c.before.before D9 c.in-D9.is)
     (λ c. let f : Read c.register.result = search rules in
-    make3 (f ∙ c.register.ensures) refl refl ∙ told c.before.before.before Ri c.before.enum-told4.given.1)
-    (λ c. let f : Read c.before.byte2.result = search rules in let g : Read c.d92.result = search rules in
-    make3 (f ∙ c.before.byte2.ensures) (g ∙ c.d92.ensures) refl ∙ told c.before.before.before.before ImmD9 c.before.before.enum-told5.given.1)
-    (λ c. let f : Read c.before.byte3.result = search rules in let g : Read c.register2.result = search rules in
-    make3 (f ∙ c.before.byte3.ensures) (g ∙ c.register2.ensures) refl
-    ∙ told c.before.before.before.before ImmRi c.before.before.enum-told6.given.1)
-    (λ c. let f : Read c.before.d9-by-bit.result = search rules in let g : Read c.bit.result = search rules in
-    make3 (f ∙ c.before.d9-by-bit.ensures) (g ∙ c.bit.ensures) refl
-    ∙ told c.before.before.before.before D9B3 c.before.before.enum-told7.given.1)
+    make3 (f ∙ c.register.ensures) refl refl ∙ told c.before.before Ri c.in-Ri.is)
+    (λ c. let f : Read c.byte-in-ImmD9.result = search rules in let g : Read c.d9-in-ImmD9.result = search rules in
+    make3 (f ∙ c.byte-in-ImmD9.ensures) (g ∙ c.d9-in-ImmD9.ensures) refl ∙ told c.before.before.before ImmD9 c.in-ImmD9.is)
+    (λ c. let f : Read c.byte-in-ImmRi.result = search rules in let g : Read c.register-in-ImmRi.result = search rules in
+    make3 (f ∙ c.byte-in-ImmRi.ensures) (g ∙ c.register-in-ImmRi.ensures) refl
+    ∙ told c.before.before.before ImmRi c.in-ImmRi.is)
+    (λ c. let f : Read c.d9_by_bit.result = search rules in let g : Read c.bit.result = search rules in
+    make3 (f ∙ c.d9_by_bit.ensures) (g ∙ c.bit.ensures) refl
+    ∙ told c.before.before.before D9B3 c.in-D9B3.is)
     (λ c. let f : Read c.a12.result = search rules in
-    make3 (f ∙ c.a12.ensures) refl refl ∙ told c.before.before.before A12 c.before.enum-told8.given.1)
+    make3 (f ∙ c.a12.ensures) refl refl ∙ told c.before.before A12 c.in-A12.is)
     (λ c. let f : Read c.pair.result = search rules in
-    make3 (f ∙ c.pair.ensures) refl refl ∙ told c.before.before.before A16 c.before.enum-told9.given.1)
-    (λ c. let f : Read c.pair2.result = search rules in
-    make3 (f ∙ c.pair2.ensures) refl refl ∙ told c.before.before.before R16 c.before.enum-told10.given.1)
+    make3 (f ∙ c.pair.ensures) refl refl ∙ told c.before.before A16 c.in-A16.is)
+    (λ c. let f : Read c.pair-in-R16.result = search rules in
+    make3 (f ∙ c.pair-in-R16.ensures) refl refl ∙ told c.before.before R16 c.in-R16.is)
     (λ c. let f : Read c.short.result = search rules in
-    make3 (f ∙ c.short.ensures) refl refl ∙ told c.before.before.before R8 c.before.enum-told11.given.1)
-    (λ c. let f : Read c.before.before.d9-by-bit2.result = search rules in let g : Read c.before.bit2.result = search rules in
-    let h : Read c.short2.result = search rules in
-    make3 (f ∙ c.before.before.d9-by-bit2.ensures) (g ∙ c.before.bit2.ensures) (h ∙ c.short2.ensures)
-    ∙ told c.before.before.before.before.before D9B3R8 c.before.before.before.enum-told12.given.1)
-    (λ c. let f : Read c.before.d93.result = search rules in let g : Read c.short3.result = search rules in
-    make3 (f ∙ c.before.d93.ensures) (g ∙ c.short3.ensures) refl
-    ∙ told c.before.before.before.before D9R8 c.before.before.enum-told13.given.1)
-    (λ c. let f : Read c.before.register3.result = search rules in let g : Read c.short4.result = search rules in
-    make3 (f ∙ c.before.register3.ensures) (g ∙ c.short4.ensures) refl
-    ∙ told c.before.before.before.before RiR8 c.before.before.enum-told14.given.1)
-    (λ c. let f : Read c.before.byte4.result = search rules in let g : Read c.short5.result = search rules in
-    make3 (f ∙ c.before.byte4.ensures) (g ∙ c.short5.ensures) refl
-    ∙ told c.before.before.before.before ImmR8 c.before.before.enum-told15.given.1)
-    (λ c. let f : Read c.before.before.register4.result = search rules in let g : Read c.before.byte5.result = search rules in
-    let h : Read c.short6.result = search rules in
-    make3 (f ∙ c.before.before.register4.ensures) (g ∙ c.before.byte5.ensures) (h ∙ c.short6.ensures)
-    ∙ told c.before.before.before.before.before RiImmR8 c.before.before.before.enum-told16.given.1))
+    make3 (f ∙ c.short.ensures) refl refl ∙ told c.before.before R8 c.in-R8.is)
+    (λ c. let f : Read c.d9_by_bit-in-D9B3R8.result = search rules in let g : Read c.bit-in-D9B3R8.result = search rules in
+    let h : Read c.short-in-D9B3R8.result = search rules in
+    make3 (f ∙ c.d9_by_bit-in-D9B3R8.ensures) (g ∙ c.bit-in-D9B3R8.ensures) (h ∙ c.short-in-D9B3R8.ensures)
+    ∙ told c.before.before.before.before D9B3R8 c.in-D9B3R8.is)
+    (λ c. let f : Read c.d9-in-D9R8.result = search rules in let g : Read c.short-in-D9R8.result = search rules in
+    make3 (f ∙ c.d9-in-D9R8.ensures) (g ∙ c.short-in-D9R8.ensures) refl
+    ∙ told c.before.before.before D9R8 c.in-D9R8.is)
+    (λ c. let f : Read c.register-in-RiR8.result = search rules in let g : Read c.short-in-RiR8.result = search rules in
+    make3 (f ∙ c.register-in-RiR8.ensures) (g ∙ c.short-in-RiR8.ensures) refl
+    ∙ told c.before.before.before RiR8 c.in-RiR8.is)
+    (λ c. let f : Read c.byte-in-ImmR8.result = search rules in let g : Read c.short-in-ImmR8.result = search rules in
+    make3 (f ∙ c.byte-in-ImmR8.ensures) (g ∙ c.short-in-ImmR8.ensures) refl
+    ∙ told c.before.before.before ImmR8 c.in-ImmR8.is)
+    (λ c. let f : Read c.register-in-RiImmR8.result = search rules in let g : Read c.byte-in-RiImmR8.result = search rules in
+    let h : Read c.short-in-RiImmR8.result = search rules in
+    make3 (f ∙ c.register-in-RiImmR8.ensures) (g ∙ c.byte-in-RiImmR8.ensures) (h ∙ c.short-in-RiImmR8.ensures)
+    ∙ told c.before.before.before.before RiImmR8 c.in-RiImmR8.is))

@@ -16,23 +16,23 @@ at : (c : tie.Start) {o : Mode} → c.args.mode ≡ o
 at c e = ap (λ (o : Mode). difference o c.args.address c.args.base) (sym e)
 
 minus-requires : tie.Need-minus-requires
-minus-requires c κs = let s = c.before.before in rw (back s.ranges.address) s.requires
+minus-requires c κs = let s = c.before in rw (back s.ranges.address) s.requires
 
 nearest-requires : tie.Need-nearest-requires
-nearest-requires c κs = let s = c.before.before in rw (back s.ranges.address) s.requires
+nearest-requires c κs = let s = c.before in rw (back s.ranges.address) s.requires
 
-returns : tie.Need-returns
+returns : tie.Need-returns-in-Unwrapped
 returns c =
-    let s = c.before.before.before in
+    let s = c.before.before in
     let f : Read c.minus.result = search rules in
-    f ∙ (rw (back s.ranges.address) at c.minus.ensures) ∙ at s c.before.enum_told.given.1
+    f ∙ (rw (back s.ranges.address) at c.minus.ensures) ∙ at s c.in-Unwrapped.is
 
-returns-2 : tie.Need-returns-2
+returns-2 : tie.Need-returns-in-Wrapping
 returns-2 c =
-    let s = c.before.before.before in
+    let s = c.before.before in
     let f : Read c.nearest.result = search rules in
-    f ∙ (rw (back s.ranges.address) at c.nearest.ensures) ∙ at s c.before.enum-told2.given.1
+    f ∙ (rw (back s.ranges.address) at c.nearest.ensures) ∙ at s c.in-Wrapping.is
 
-pub difference-spec : {M : Type 1} → statement M
-difference-spec =
+pub difference_spec : {M : Type 1} → statement M
+difference_spec =
     tie.close (tie.spec (λ c. search rules) minus-requires (λ c. search rules) nearest-requires returns returns-2)

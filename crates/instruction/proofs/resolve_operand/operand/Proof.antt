@@ -25,9 +25,9 @@ plain : (c : tie.Start) {k : Kind} → c.args.kind ≡ k → {r : Answer ℤ}
     → r ≡ answer_of c.args.mode c.args.base c.args.n c.args.kind c.args.z
 plain c e f g = at c e ((rw e at f) ∙ g)
 
-pub operand-spec : {M : Type 1} → statement M
+pub operand_spec : {M : Type 1} → statement M
 unfolding operand_refusals field_of unfit
-operand-spec =
+operand_spec =
     tie.close
     (tie.spec
     (λ c. search rules)
@@ -47,12 +47,12 @@ operand-spec =
     (λ c κs. search rules)
     (λ c. search rules)
     (λ c κs. search rules)
-    (λ c. at c.before.before c.enum_told.given.1 (sym (done _)))
-    (λ c. plain c.before.before.before c.before.enum-told2.given.1 c.plain.ensures refl)
-    (λ c. plain c.before.before.before c.before.enum-told3.given.1 c.plain2.ensures refl)
-    (λ c. plain c.before.before.before c.before.enum-told4.given.1 c.plain3.ensures refl)
-    (λ c. plain c.before.before.before c.before.enum-told5.given.1 c.plain4.ensures refl)
-    (λ c. at c.before.before.before c.before.enum-told6.given.1 c.page.ensures)
-    (λ c. plain c.before.before.before c.before.enum-told7.given.1 c.plain5.ensures refl)
-    (λ c. at c.before.before.before c.before.enum-told8.given.1 c.short.ensures)
-    (λ c. at c.before.before.before c.before.enum-told9.given.1 c.long.ensures))
+    (λ c. at c.before c.in-Absent.is (sym (done _)))
+    (λ c. plain c.before.before c.in-Immediate.is c.plain.ensures refl)
+    (λ c. plain c.before.before c.in-Direct.is c.plain-in-Direct.ensures refl)
+    (λ c. plain c.before.before c.in-Register.is c.plain-in-Register.ensures refl)
+    (λ c. plain c.before.before c.in-BitNumber.is c.plain-in-BitNumber.ensures refl)
+    (λ c. at c.before.before c.in-Page.is c.page.ensures)
+    (λ c. plain c.before.before c.in-Far.is c.plain-in-Far.ensures refl)
+    (λ c. at c.before.before c.in-Short.is c.short.ensures)
+    (λ c. at c.before.before c.in-Long.is c.long.ensures))

@@ -11,45 +11,45 @@ use Rattle.instruction.proofs.Sign.{back}
 use Rattle.instruction.proofs.resolve_operand.page.Statement.{statement}
 use Rattle.instruction.proofs.resolve_operand.page.Tie as tie
 
-tested : (c : tie.After-is-outside) → no_address c.before.args.z ≡ c.is-outside.result
-tested c = sym (rw (back c.before.ranges.z) at c.is-outside.ensures)
+tested : (c : tie.After-is_outside) → no_address c.args.z ≡ c.is_outside.result
+tested c = sym (rw (back c.ranges.z) at c.is_outside.ensures)
 
-inside : (c : tie.After-code) → no_address c.before.before.before.args.z ≡ false
-inside c = tested c.before.before ∙ c.before.if1.false
+inside : (c : tie.After-code-address) → no_address c.args.z ≡ false
+inside c = tested c.before.before ∙ c.if-is_outside.false
 
 -- the address, as the code has it
-at : (c : tie.After-code) → c.code.result ≡ nat_abs c.before.before.before.args.z
+at : (c : tie.After-code-address) → c.code-address.result ≡ nat_abs c.args.z
 at c =
     let s = c.before.before.before in
-    (rw (back s.ranges.z) at c.code.ensures) ∙ address_is s.args.z (inside c)
+    (rw (back s.ranges.z) at c.code-address.ensures) ∙ address_is s.args.z (inside c)
 
 tops : {t : Tops} {x y x' y' : ℕ} {r : Answer ℤ} → (t.base ≡ x) × (t.address ≡ y) → x ≡ x' → y ≡ y' → refused 10 (pos x' ∷ pos y' ∷ []) ≡ r
     → refused 10 (pos t.base ∷ pos t.address ∷ []) ≡ r
 tops p q s e = let o = p.0 in let v = p.1 in cc
 
-returns : tie.Need-returns
+returns : tie.Need-returns-then-is_outside
 returns c =
     let u = c.before.before in
-    let a = u.before.args in
-    named c.new.ensures (back u.before.ranges.z) (page_no Unwrapped a.base a.n a.z (tested u ∙ c.before.if1.true))
+    let a = u.args in
+    named c.new.ensures (back u.ranges.z) (page_no Unwrapped a.base a.n a.z (tested u ∙ c.if-is_outside.true))
 
-returns-2 : tie.Need-returns-2
+returns-2 : tie.Need-returns-then-there-here
 returns-2 c =
     let k = c.before.before in
-    let a = k.before.before.before.args in
-    tops c.new2.ensures refl (ap top (at k))
-    (page_other Unwrapped a.base a.n a.z (inside k) (λ e. c.before.if2.true (ap top (at k) ∙ e)))
+    let a = k.args in
+    tops c.new-then-there-here.ensures refl (ap top (at k))
+    (page_other Unwrapped a.base a.n a.z (inside k) (λ e. c.if-there-here.true (ap top (at k) ∙ e)))
 
-returns-3 : tie.Need-returns-3
+returns-3 : tie.Need-returns
 returns-3 c =
     let k = c.before.before in
-    let a = k.before.before.before.args in
+    let a = k.args in
     let f : to_z w32 (of_z w32 c.num.result) ≡ c.num.result = search rules in
     ap accepted (f ∙ c.num.ensures ∙ ap (λ (m : ℕ). pos (m % 4096)) (at k))
-    ∙ page_is Unwrapped a.base a.n a.z (inside k) (sym (ap top (at k)) ∙ c.before.if2.false)
+    ∙ page_is Unwrapped a.base a.n a.z (inside k) (sym (ap top (at k)) ∙ c.if-there-here.false)
 
-pub page-spec : {M : Type 1} → statement M
-page-spec =
+pub page_spec : {M : Type 1} → statement M
+page_spec =
     tie.close
     (tie.spec (λ c κs. search rules) (λ c κs. search rules) returns (λ c κs. search rules) (λ c. search rules) (λ c. search rules)
     (λ c κs. search rules) returns-2 (λ c κs. search rules) returns-3)

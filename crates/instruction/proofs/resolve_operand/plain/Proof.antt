@@ -8,19 +8,19 @@ use Rattle.instruction.proofs.Sign.{back}
 use Rattle.instruction.proofs.resolve_operand.plain.Statement.{statement}
 use Rattle.instruction.proofs.resolve_operand.plain.Tie as tie
 
-tested : (c : tie.After-is-unfit) → unfit c.before.args.kind c.before.args.z ≡ c.is-unfit.result
-tested c = sym (rw (back c.before.ranges.z) at c.is-unfit.ensures)
+tested : (c : tie.After-is_unfit) → unfit c.args.kind c.args.z ≡ c.is_unfit.result
+tested c = sym (rw (back c.ranges.z) at c.is_unfit.ensures)
 
-returns : tie.Need-returns
+returns : tie.Need-returns-then-is_unfit
 returns c =
     let u = c.before.before in
-    let a = u.before.args in
-    named c.new.ensures (back u.before.ranges.z) (plain_no a.kind a.n a.z (tested u ∙ c.before.if1.true))
+    let a = u.args in
+    named c.new.ensures (back u.ranges.z) (plain_no a.kind a.n a.z (tested u ∙ c.if-is_unfit.true))
 
-returns-2 : tie.Need-returns-2
+returns-2 : tie.Need-returns
 returns-2 c =
-    let a = c.before.before.args in
-    rw (back c.before.before.ranges.z) (plain_is a.kind a.n a.z (tested c.before ∙ c.if1.false))
+    let a = c.args in
+    rw (back c.ranges.z) (plain_is a.kind a.n a.z (tested c.before ∙ c.if-is_unfit.false))
 
-pub plain-spec : {M : Type 1} → statement M
-plain-spec = tie.close (tie.spec (λ c κs. search rules) (λ c κs. search rules) returns returns-2)
+pub plain_spec : {M : Type 1} → statement M
+plain_spec = tie.close (tie.spec (λ c κs. search rules) (λ c κs. search rules) returns returns-2)

@@ -15,33 +15,33 @@ module _ (z : ℤ) (e : lt_z z (pos 0) ≡ true) (f : lt_z z (negsuc 255) ≡ fa
   sum_back : to_z w32 (of_z w32 (z +ℤ pos 256)) ≡ pos (code_of z)
   sum_back = to_z-of_z {w = w32} sum_fits ∙ code_near z e f
 
-returns : tie.Need-returns
-returns c = code_far c.before.before.args.z (rw (back c.before.before.ranges.z) at c.if2.true)
+returns : tie.Need-returns-then-z-ltminus256
+returns c = code_far c.args.z (rw (back c.ranges.z) at c.if-z-ltminus256.true)
 
-add-result : tie.Need-overflow-add-result
+add-result : tie.Need-overflow_add-result
 add-result c =
-    let y = back c.before.before.ranges.z in
-    rw y (sum_fits c.before.before.args.z (rw y at c.before.if1.true) (rw y at c.if2.false))
+    let y = back c.ranges.z in
+    rw y (sum_fits c.args.z (rw y at c.if-z-lt0.true) (rw y at c.if-z-ltminus256.false))
 
-cast-result : tie.Need-overflow-cast-result
+cast-result : tie.Need-overflow_cast-result
 cast-result c =
-    let z : ℤ = c.before.before.args.z in
-    let y = back c.before.before.ranges.z in
-    let e : lt_z z (pos 0) ≡ true = rw y at c.before.if1.true in
+    let z : ℤ = c.args.z in
+    let y = back c.ranges.z in
+    let e : lt_z z (pos 0) ≡ true = rw y at c.if-z-lt0.true in
     let h : code_of z ≤ 256 = code_le z e in
-    rw (y, sum_back z e (rw y at c.if2.false)) (tt, record { fits = omega arith })
+    rw (y, sum_back z e (rw y at c.if-z-ltminus256.false)) (tt, record { fits = omega arith })
 
-returns-2 : tie.Need-returns-2
+returns-2 : tie.Need-returns-then-z-lt0
 returns-2 c =
-    let y = back c.before.before.ranges.z in
-    rw (y, sum_back c.before.before.args.z (rw y at c.before.if1.true) (rw y at c.if2.false))
+    let y = back c.ranges.z in
+    rw (y, sum_back c.args.z (rw y at c.if-z-lt0.true) (rw y at c.if-z-ltminus256.false))
 
-cast-result-2 : tie.Need-overflow-cast-result-2
+cast-result-2 : tie.Need-overflow_cast-result-2
 cast-result-2 c =
-    let y = back c.before.ranges.z in rw y (cast_pos c.before.args.z (rw y at c.if1.false) c.before.ranges.z)
+    let y = back c.ranges.z in rw y (cast_pos c.args.z (rw y at c.if-z-lt0.false) c.ranges.z)
 
-returns-3 : tie.Need-returns-3
-returns-3 c = let y = back c.before.ranges.z in rw y (code_pos c.before.args.z (rw y at c.if1.false))
+returns-3 : tie.Need-returns
+returns-3 c = let y = back c.ranges.z in rw y (code_pos c.args.z (rw y at c.if-z-lt0.false))
 
-pub code-spec : {M : Type 1} → statement M
-code-spec = tie.close (tie.spec returns add-result cast-result returns-2 cast-result-2 returns-3)
+pub code_spec : {M : Type 1} → statement M
+code_spec = tie.close (tie.spec returns add-result cast-result returns-2 cast-result-2 returns-3)

@@ -20,10 +20,10 @@ module _ (z w : ℤ) (b : ℕ) (f : SFits w32 z) (e : w ≡ z) (v : Natural z 65
   sub_is : to_z w32 (of_z w32 (w -ℤ to_z w32 b)) ≡ z -ℤ pos b
   sub_is = to_z-of_z {w = w32} sub_fits ∙ rw (e, read)
 
-cast-arg : tie.Need-overflow-cast-result
+cast-arg : tie.Need-overflow_cast-result
 cast-arg c = search rules
 
-sub-result : tie.Need-overflow-sub-result
+sub-result : tie.Need-overflow_sub-result
 sub-result c =
     sub_fits c.args.address _ c.args.base c.ranges.address (back c.ranges.address) (natural 65535 c.args.address c.requires.0) c.requires.1
 
@@ -31,5 +31,5 @@ returns : tie.Need-returns
 returns c =
     sub_is c.args.address _ c.args.base c.ranges.address (back c.ranges.address) (natural 65535 c.args.address c.requires.0) c.requires.1
 
-pub minus-spec : {M : Type 1} → statement M
-minus-spec = tie.close (tie.spec cast-arg sub-result returns)
+pub minus_spec : {M : Type 1} → statement M
+minus_spec = tie.close (tie.spec cast-arg sub-result returns)

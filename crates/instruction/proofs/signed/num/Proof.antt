@@ -5,11 +5,11 @@ use mir.Facts.{to_z_pos}
 use Rattle.instruction.proofs.signed.num.Statement.{statement}
 use Rattle.instruction.proofs.signed.num.Tie as tie
 
-cast-result : tie.Need-overflow-cast-result
+cast-result : tie.Need-overflow_cast-result
 cast-result c = search rules
 
 returns : tie.Need-returns
 returns c = to_z_pos w32 (omega arith)
 
-pub num-spec : {M : Type 1} → statement M
-num-spec = tie.close (tie.spec cast-result returns)
+pub num_spec : {M : Type 1} → statement M
+num_spec = tie.close (tie.spec cast-result returns)

@@ -7,26 +7,26 @@ use Rattle.instruction.proofs.Rest.{arm, only}
 use Rattle.instruction.proofs.tables.shapes.Statement.{statement}
 use Rattle.instruction.proofs.tables.shapes.Tie as tie
 
-pub shapes-spec : {M : Type 1} → statement M
+pub shapes_spec : {M : Type 1} → statement M
 unfolding table_word shape_at form_at forms
-shapes-spec =
+shapes_spec =
     tie.close
     (tie.spec
-    (λ c. arm (table_word shape_at) 0 c.before.args.w (omega (arith, c.before.requires, c.match.keys1)) refl)
-    (λ c. arm (table_word shape_at) 1 c.before.args.w (omega (arith, c.before.requires, c.match.keys2)) refl)
-    (λ c. arm (table_word shape_at) 2 c.before.args.w (omega (arith, c.before.requires, c.match.keys3)) refl)
-    (λ c. arm (table_word shape_at) 3 c.before.args.w (omega (arith, c.before.requires, c.match.keys4)) refl)
-    (λ c. arm (table_word shape_at) 4 c.before.args.w (omega (arith, c.before.requires, c.match.keys5)) refl)
-    (λ c. arm (table_word shape_at) 5 c.before.args.w (omega (arith, c.before.requires, c.match.keys6)) refl)
-    (λ c. arm (table_word shape_at) 6 c.before.args.w (omega (arith, c.before.requires, c.match.keys7)) refl)
-    (λ c. arm (table_word shape_at) 7 c.before.args.w (omega (arith, c.before.requires, c.match.keys8)) refl)
-    (λ c. arm (table_word shape_at) 8 c.before.args.w (omega (arith, c.before.requires, c.match.keys9)) refl)
-    (λ c. arm (table_word shape_at) 8 c.before.args.w (omega (arith, c.before.requires, c.match.keys10)) refl)
-    (λ c. arm (table_word shape_at) 8 c.before.args.w (omega (arith, c.before.requires, c.match.keys11)) refl)
-    (λ c. arm (table_word shape_at) 8 c.before.args.w (omega (arith, c.before.requires, c.match.keys12)) refl)
-    (λ c. arm (table_word shape_at) 8 c.before.args.w (omega (arith, c.before.requires, c.match.keys13)) refl)
-    (λ c. arm (table_word shape_at) 8 c.before.args.w (omega (arith, c.before.requires, c.match.keys14)) refl)
-    (λ c. arm (table_word shape_at) 8 c.before.args.w (omega (arith, c.before.requires, c.match.keys15)) refl)
+    (λ c. arm (table_word shape_at) 0 c.args.w (omega (arith, c.requires, c.in-0.is)) refl)
+    (λ c. arm (table_word shape_at) 1 c.args.w (omega (arith, c.requires, c.in-1.is)) refl)
+    (λ c. arm (table_word shape_at) 2 c.args.w (omega (arith, c.requires, c.in-2.is)) refl)
+    (λ c. arm (table_word shape_at) 3 c.args.w (omega (arith, c.requires, c.in-3.is)) refl)
+    (λ c. arm (table_word shape_at) 4 c.args.w (omega (arith, c.requires, c.in-4.is)) refl)
+    (λ c. arm (table_word shape_at) 5 c.args.w (omega (arith, c.requires, c.in-5.is)) refl)
+    (λ c. arm (table_word shape_at) 6 c.args.w (omega (arith, c.requires, c.in-6.is)) refl)
+    (λ c. arm (table_word shape_at) 7 c.args.w (omega (arith, c.requires, c.in-7.is)) refl)
+    (λ c. arm (table_word shape_at) 8 c.args.w (omega (arith, c.requires, c.in-8.is)) refl)
+    (λ c. arm (table_word shape_at) 8 c.args.w (omega (arith, c.requires, c.in-9.is)) refl)
+    (λ c. arm (table_word shape_at) 8 c.args.w (omega (arith, c.requires, c.in-10.is)) refl)
+    (λ c. arm (table_word shape_at) 8 c.args.w (omega (arith, c.requires, c.in-11.is)) refl)
+    (λ c. arm (table_word shape_at) 8 c.args.w (omega (arith, c.requires, c.in-12.is)) refl)
+    (λ c. arm (table_word shape_at) 8 c.args.w (omega (arith, c.requires, c.in-13.is)) refl)
+    (λ c. arm (table_word shape_at) 8 c.args.w (omega (arith, c.requires, c.in-14.is)) refl)
     (λ c.
-    let l = only 15 (c.before.args.w % 16) c.match.rest (omega arith) in
-    arm (table_word shape_at) 8 c.before.args.w (omega (arith, c.before.requires, l)) refl))
+    let l = only 15 (c.args.w % 16) c.in_default.in_default-own.rest (omega arith) in
+    arm (table_word shape_at) 8 c.args.w (omega (arith, c.requires, l)) refl))

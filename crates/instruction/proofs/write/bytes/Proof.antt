@@ -16,9 +16,9 @@ told : (c : tie.Start) (s : Shape) → c.args.shape ≡ s → (l : List ℕ) →
     → take (length (blank c.args.shape)) l ≡ bytes_by c.args.fixed c.args.shape (c.args.x ∷ c.args.y ∷ c.args.z ∷ [])
 told c s e l g = rw (e, g) (write s c.args.fixed c.args.x c.args.y c.args.z)
 
-pub bytes-spec : {M : Type 1} → statement M
+pub bytes_spec : {M : Type 1} → statement M
 unfolding written
-bytes-spec =
+bytes_spec =
     tie.close
     (tie.spec
     (λ c. search rules)
@@ -90,29 +90,29 @@ bytes-spec =
     (λ c κs. search rules)
     (λ c κs. search rules)
     (λ c κs. search rules)
-    (λ c. told c.before.before.before Bare c.before.enum_told.given.1 _ (three c.low.ensures refl refl))
-    (λ c. told c.before.before.before.before Imm c.before.before.enum-told2.given.1 _ (three c.before.low2.ensures c.low3.ensures refl))
-    (λ c. told c.before.before.before.before D9 c.before.before.enum-told3.given.1 _ (three c.before.low4.ensures c.low5.ensures refl))
-    (λ c. told c.before.before.before Ri c.before.enum-told4.given.1 _ (three c.low6.ensures refl refl))
-    (λ c. told c.before.before.before.before.before ImmD9 c.before.before.before.enum-told5.given.1 _
-    (three c.before.before.low7.ensures c.before.low8.ensures c.low9.ensures))
-    (λ c. told c.before.before.before.before ImmRi c.before.before.enum-told6.given.1 _
-    (three c.before.low10.ensures c.low11.ensures refl))
-    (λ c. told c.before.before.before.before D9B3 c.before.before.enum-told7.given.1 _
-    (three c.before.low12.ensures c.low13.ensures refl))
-    (λ c. told c.before.before.before.before A12 c.before.before.enum-told8.given.1 _ (three c.before.low14.ensures c.low15.ensures refl))
-    (λ c. told c.before.before.before.before.before A16 c.before.before.before.enum-told9.given.1 _
-    (three c.before.before.low16.ensures c.before.low17.ensures c.low18.ensures))
-    (λ c. told c.before.before.before.before.before R16 c.before.before.before.enum-told10.given.1 _
-    (three c.before.before.low19.ensures c.before.low20.ensures c.low21.ensures))
-    (λ c. told c.before.before.before.before R8 c.before.before.enum-told11.given.1 _ (three c.before.low22.ensures c.low23.ensures refl))
-    (λ c. told c.before.before.before.before.before D9B3R8 c.before.before.before.enum-told12.given.1 _
-    (three c.before.before.low24.ensures c.before.low25.ensures c.low26.ensures))
-    (λ c. told c.before.before.before.before.before D9R8 c.before.before.before.enum-told13.given.1 _
-    (three c.before.before.low27.ensures c.before.low28.ensures c.low29.ensures))
-    (λ c. told c.before.before.before.before RiR8 c.before.before.enum-told14.given.1 _
-    (three c.before.low30.ensures c.low31.ensures refl))
-    (λ c. told c.before.before.before.before.before ImmR8 c.before.before.before.enum-told15.given.1 _
-    (three c.before.before.low32.ensures c.before.low33.ensures c.low34.ensures))
-    (λ c. told c.before.before.before.before.before RiImmR8 c.before.before.before.enum-told16.given.1 _
-    (three c.before.before.low35.ensures c.before.low36.ensures c.low37.ensures)))
+    (λ c. told c.before.before Bare c.in-Bare.is _ (three c.low.ensures refl refl))
+    (λ c. told c.before.before.before Imm c.in-Imm.is _ (three c.low-in-Imm.ensures c.low-in-Imm-2.ensures refl))
+    (λ c. told c.before.before.before D9 c.in-D9.is _ (three c.low-in-D9.ensures c.low-in-D9-2.ensures refl))
+    (λ c. told c.before.before Ri c.in-Ri.is _ (three c.low-in-Ri.ensures refl refl))
+    (λ c. told c.before.before.before.before ImmD9 c.in-ImmD9.is _
+    (three c.low-in-ImmD9.ensures c.low-in-ImmD9-2.ensures c.low-in-ImmD9-3.ensures))
+    (λ c. told c.before.before.before ImmRi c.in-ImmRi.is _
+    (three c.low-in-ImmRi.ensures c.low-in-ImmRi-2.ensures refl))
+    (λ c. told c.before.before.before D9B3 c.in-D9B3.is _
+    (three c.low-in-D9B3.ensures c.low-in-D9B3-2.ensures refl))
+    (λ c. told c.before.before.before A12 c.in-A12.is _ (three c.low-in-A12.ensures c.low-in-A12-2.ensures refl))
+    (λ c. told c.before.before.before.before A16 c.in-A16.is _
+    (three c.low-in-A16.ensures c.low-in-A16-2.ensures c.low-in-A16-3.ensures))
+    (λ c. told c.before.before.before.before R16 c.in-R16.is _
+    (three c.low-in-R16.ensures c.low-in-R16-2.ensures c.low-in-R16-3.ensures))
+    (λ c. told c.before.before.before R8 c.in-R8.is _ (three c.low-in-R8.ensures c.low-in-R8-2.ensures refl))
+    (λ c. told c.before.before.before.before D9B3R8 c.in-D9B3R8.is _
+    (three c.low-in-D9B3R8.ensures c.low-in-D9B3R8-2.ensures c.low-in-D9B3R8-3.ensures))
+    (λ c. told c.before.before.before.before D9R8 c.in-D9R8.is _
+    (three c.low-in-D9R8.ensures c.low-in-D9R8-2.ensures c.low-in-D9R8-3.ensures))
+    (λ c. told c.before.before.before RiR8 c.in-RiR8.is _
+    (three c.low-in-RiR8.ensures c.low-in-RiR8-2.ensures refl))
+    (λ c. told c.before.before.before.before ImmR8 c.in-ImmR8.is _
+    (three c.low-in-ImmR8.ensures c.low-in-ImmR8-2.ensures c.low-in-ImmR8-3.ensures))
+    (λ c. told c.before.before.before.before RiImmR8 c.in-RiImmR8.is _
+    (three c.low-in-RiImmR8.ensures c.low-in-RiImmR8-2.ensures c.low-in-RiImmR8-3.ensures)))

@@ -19,19 +19,19 @@ module _ (s : List ℕ) (x p q : ℕ) where
   all : 2 < length s → set (set (set s 0 x) 1 p) 2 q ≡ over three s 3
   all h = ap (λ (m : List ℕ). set m 2 q) (two (omega arith)) ∙ more three s 2 (omega arith) h
 
-returns : tie.Need-returns
+returns : tie.Need-returns-then-n-eq1
 returns c =
-    let a = c.before.args in
-    one a.out.now a.x a.p a.q (omega arith) ∙ is_over _ a.out.now a.n 1 c.if1.true
+    let a = c.args in
+    one a.out.now a.x a.p a.q (omega arith) ∙ is_over _ a.out.now a.n 1 c.if-n-eq1.true
 
-returns-2 : tie.Need-returns-2
+returns-2 : tie.Need-returns-then-n-eq2
 returns-2 c =
-    let a = c.before.before.args in
-    two a.out.now a.x a.p a.q (omega arith) ∙ is_over _ a.out.now a.n 2 c.if2.true
+    let a = c.args in
+    two a.out.now a.x a.p a.q (omega arith) ∙ is_over _ a.out.now a.n 2 c.if-n-eq2.true
 
-returns-3 : tie.Need-returns-3
+returns-3 : tie.Need-returns
 returns-3 c =
-    let a = c.before.before.args in
+    let a = c.args in
     let h : a.n ≡ 3 = omega arith in
     all a.out.now a.x a.p a.q (omega arith) ∙ is_over _ a.out.now a.n 3 h
 

@@ -8,39 +8,39 @@ use Rattle.instruction.proofs.Laid.{size_range, too_short_lem, laid}
 use Rattle.instruction.proofs.write.write.Statement.{statement}
 use Rattle.instruction.proofs.write.write.Tie as tie
 
-returns : tie.Need-returns
+returns : tie.Need-returns-then-out-n
 returns c =
-    let a = c.before.before.before.args in
-    too_short_lem a.fixed a.shape a.a a.b a.c a.out.now _ c.before.size.ensures c.if1.true
+    let a = c.args in
+    too_short_lem a.fixed a.shape a.a a.b a.c a.out.now _ c.size-n.ensures c.if-out-n.true
 
 -- from the bytes back to the test of the room, and to the start
-abbrev tested : tie.After-bytes → tie.Else1
+abbrev tested : tie.After-bytes-w → tie.Else-out-n
 tested w = w.before.before.before.before
 
-abbrev start : tie.After-bytes → tie.Start
+abbrev start : tie.After-bytes-w → tie.Start
 start w = (tested w).before.before.before
 
 put-requires : tie.Need-put-requires
 put-requires c κs =
     let w = c.before in
     let r = size_range (start w).args.shape in
-    let e = (tested w).before.size.ensures in
-    (rw e r.0, rw e r.1, (tested w).if1.false)
+    let e = (tested w).size-n.ensures in
+    (rw e r.0, rw e r.1, (tested w).if-out-n.false)
 
 -- the bytes, with the operands' numbers as they were given
-bytes : (w : tie.After-bytes) → take (length (blank (start w).args.shape)) (w.bytes.result.first ∷ w.bytes.result.second ∷ w.bytes.result.third ∷ [])
+bytes : (w : tie.After-bytes-w) → take (length (blank (start w).args.shape)) (w.bytes-w.result.first ∷ w.bytes-w.result.second ∷ w.bytes-w.result.third ∷ [])
     ≡ bytes_by (start w).args.fixed (start w).args.shape (code_of (start w).args.a ∷ code_of (start w).args.b ∷ code_of (start w).args.c ∷ [])
 bytes w =
     let f = (start w).ranges in
     let k = w.before in
-    rw (k.before.before.code.ensures, k.before.code2.ensures, k.code3.ensures, back f.a, back f.b, back f.c) at w.bytes.ensures
+    rw (k.code.ensures, k.code-2.ensures, k.code-3.ensures, back f.a, back f.b, back f.c) at w.bytes-w.ensures
 
-returns-2 : tie.Need-returns-2
+returns-2 : tie.Need-returns
 returns-2 c =
     let p = c.before.before in
     let w = p.before.before in
     let a = (start w).args in
-    laid a.fixed a.shape a.a a.b a.c a.out.now _ (tested w).before.size.ensures (tested w).if1.false _ _ (bytes w) p.put.ensures
+    laid a.fixed a.shape a.a a.b a.c a.out.now _ (tested w).size-n.ensures (tested w).if-out-n.false _ _ (bytes w) p.put.ensures
 
 pub write_spec : {M : Type 1} → statement M
 write_spec =

@@ -15,9 +15,9 @@ read : {k : ℕ} {a a' b b' c c' : ℤ} {v : Parts} → a' ≡ a → b' ≡ b �
     → ◌≡◌ {A = Parts} (record { form = k; a = a'; b = b'; c = c' }) v
 read p q r e = cc
 
-pub apart-spec : {M : Type 1} → statement M
+pub apart_spec : {M : Type 1} → statement M
 unfolding parts_of form_named forms
-apart-spec =
+apart_spec =
     tie.close
     (tie.spec
     (λ c. search rules)
@@ -160,136 +160,136 @@ apart-spec =
     (λ c κs. search rules)
     (λ c. search rules)
     (λ c κs. search rules)
-    (λ c. let f : Read c.before.before.self.given.0.0 = search rules in
-    c.new.ensures ∙ read f refl refl (ap parts_of (sym c.before.before.self.given.1)))
-    (λ c. let f : Read c.before.before.self2.given.0.0 = search rules in
-    c.new2.ensures ∙ read f refl refl (ap parts_of (sym c.before.before.self2.given.1)))
-    (λ c. let f : Read c.before.before.self3.given.0.0 = search rules in
-    c.new3.ensures ∙ read f refl refl (ap parts_of (sym c.before.before.self3.given.1)))
-    (λ c. let f : Read c.before.before.self4.given.0.0 = search rules in
-    c.new4.ensures ∙ read f refl refl (ap parts_of (sym c.before.before.self4.given.1)))
-    (λ c. let f : Read c.before.before.self5.given.0.0 = search rules in
-    c.new5.ensures ∙ read f refl refl (ap parts_of (sym c.before.before.self5.given.1)))
-    (λ c. let f : Read c.before.before.self6.given.0.0 = search rules in
-    c.new6.ensures ∙ read f refl refl (ap parts_of (sym c.before.before.self6.given.1)))
-    (λ c. let f : Read c.before.before.self7.given.0.0 = search rules in
-    c.new7.ensures ∙ read f refl refl (ap parts_of (sym c.before.before.self7.given.1)))
-    (λ c. let f : Read c.before.before.self8.given.0.0 = search rules in
-    c.new8.ensures ∙ read f refl refl (ap parts_of (sym c.before.before.self8.given.1)))
-    (λ c. let f : Read c.before.before.self9.given.0.0 = search rules in
-    c.new9.ensures ∙ read f refl refl (ap parts_of (sym c.before.before.self9.given.1)))
-    (λ c. let f : Read c.before.before.self10.given.0.0 = search rules in
-    c.new10.ensures ∙ read f refl refl (ap parts_of (sym c.before.before.self10.given.1)))
-    (λ c. let f : Read c.before.before.self11.given.0.0 = search rules in
-    c.new11.ensures ∙ read f refl refl (ap parts_of (sym c.before.before.self11.given.1)))
-    (λ c. let f : Read c.before.before.self12.given.0.0 = search rules in
-    c.new12.ensures ∙ read f refl refl (ap parts_of (sym c.before.before.self12.given.1)))
-    (λ c. let f : Read c.before.before.self13.given.0.0 = search rules in
-    c.new13.ensures ∙ read f refl refl (ap parts_of (sym c.before.before.self13.given.1)))
-    (λ c. let f : Read c.before.before.self14.given.0.0 = search rules in
-    c.new14.ensures ∙ read f refl refl (ap parts_of (sym c.before.before.self14.given.1)))
-    (λ c. let f : Read c.before.before.self15.given.0.0 = search rules in
-    c.new15.ensures ∙ read f refl refl (ap parts_of (sym c.before.before.self15.given.1)))
-    (λ c. let f : Read c.before.before.self16.given.0.0 = search rules in
-    c.new16.ensures ∙ read f refl refl (ap parts_of (sym c.before.before.self16.given.1)))
-    (λ c. c.new17.ensures ∙ ap parts_of (sym c.before.enum_told.given.1))
-    (λ c. c.new18.ensures ∙ ap parts_of (sym c.before.enum-told2.given.1))
-    (λ c. let f : Read c.before.before.self17.given.0.0 = search rules in
-    c.new19.ensures ∙ read f refl refl (ap parts_of (sym c.before.before.self17.given.1)))
-    (λ c. let f : Read c.before.before.self18.given.0.0 = search rules in
-    c.new20.ensures ∙ read f refl refl (ap parts_of (sym c.before.before.self18.given.1)))
-    (λ c. let f : Read c.before.before.self19.given.0.0 = search rules in
-    c.new21.ensures ∙ read f refl refl (ap parts_of (sym c.before.before.self19.given.1)))
-    (λ c. let f : Read c.before.before.self20.given.0.0 = search rules in
-    c.new22.ensures ∙ read f refl refl (ap parts_of (sym c.before.before.self20.given.1)))
-    (λ c. let f : Read c.before.before.self21.given.0.0 = search rules in
-    c.new23.ensures ∙ read f refl refl (ap parts_of (sym c.before.before.self21.given.1)))
-    (λ c. let f : Read c.before.before.self22.given.0.0 = search rules in
-    c.new24.ensures ∙ read f refl refl (ap parts_of (sym c.before.before.self22.given.1)))
-    (λ c. let f : Read c.before.before.self23.given.0.0 = search rules in
-    c.new25.ensures ∙ read f refl refl (ap parts_of (sym c.before.before.self23.given.1)))
-    (λ c. let f : Read c.before.before.self24.given.0.0 = search rules in
-    c.new26.ensures ∙ read f refl refl (ap parts_of (sym c.before.before.self24.given.1)))
-    (λ c. let f : Read c.before.before.self25.given.0.0 = search rules in
-    c.new27.ensures ∙ read f refl refl (ap parts_of (sym c.before.before.self25.given.1)))
-    (λ c. c.new28.ensures ∙ ap parts_of (sym c.before.enum-told3.given.1))
-    (λ c. c.new29.ensures ∙ ap parts_of (sym c.before.enum-told4.given.1))
-    (λ c. c.new30.ensures ∙ ap parts_of (sym c.before.enum-told5.given.1))
-    (λ c. c.new31.ensures ∙ ap parts_of (sym c.before.enum-told6.given.1))
-    (λ c. let f : Read c.before.before.self26.given.0.0 = search rules in
-    c.new32.ensures ∙ read f refl refl (ap parts_of (sym c.before.before.self26.given.1)))
-    (λ c. let f : Read c.before.before.self27.given.0.0 = search rules in
-    c.new33.ensures ∙ read f refl refl (ap parts_of (sym c.before.before.self27.given.1)))
-    (λ c. let f : Read c.before.before.self28.given.0.0 = search rules in
-    c.new34.ensures ∙ read f refl refl (ap parts_of (sym c.before.before.self28.given.1)))
-    (λ c. let f : Read c.before.before.self29.given.0.0 = search rules in
-    c.new35.ensures ∙ read f refl refl (ap parts_of (sym c.before.before.self29.given.1)))
-    (λ c. let f : Read c.before.before.self30.given.0.0 = search rules in let g : Read c.before.before.self30.given.0.1.0 = search rules in
-    c.new36.ensures ∙ read f g refl (ap parts_of (sym c.before.before.self30.given.1)))
-    (λ c. let f : Read c.before.before.self31.given.0.0 = search rules in let g : Read c.before.before.self31.given.0.1.0 = search rules in
-    c.new37.ensures ∙ read f g refl (ap parts_of (sym c.before.before.self31.given.1)))
-    (λ c. c.new38.ensures ∙ ap parts_of (sym c.before.enum-told7.given.1))
-    (λ c. let f : Read c.before.before.self32.given.0.0 = search rules in
-    c.new39.ensures ∙ read f refl refl (ap parts_of (sym c.before.before.self32.given.1)))
-    (λ c. let f : Read c.before.before.self33.given.0.0 = search rules in
-    c.new40.ensures ∙ read f refl refl (ap parts_of (sym c.before.before.self33.given.1)))
-    (λ c. let f : Read c.before.before.self34.given.0.0 = search rules in
-    c.new41.ensures ∙ read f refl refl (ap parts_of (sym c.before.before.self34.given.1)))
-    (λ c. let f : Read c.before.before.self35.given.0.0 = search rules in
-    c.new42.ensures ∙ read f refl refl (ap parts_of (sym c.before.before.self35.given.1)))
-    (λ c. let f : Read c.before.before.self36.given.0.0 = search rules in
-    c.new43.ensures ∙ read f refl refl (ap parts_of (sym c.before.before.self36.given.1)))
-    (λ c. let f : Read c.before.before.self37.given.0.0 = search rules in
-    c.new44.ensures ∙ read f refl refl (ap parts_of (sym c.before.before.self37.given.1)))
-    (λ c. let f : Read c.before.before.self38.given.0.0 = search rules in
-    c.new45.ensures ∙ read f refl refl (ap parts_of (sym c.before.before.self38.given.1)))
-    (λ c. let f : Read c.before.before.self39.given.0.0 = search rules in
-    c.new46.ensures ∙ read f refl refl (ap parts_of (sym c.before.before.self39.given.1)))
-    (λ c. let f : Read c.before.before.self40.given.0.0 = search rules in
-    c.new47.ensures ∙ read f refl refl (ap parts_of (sym c.before.before.self40.given.1)))
-    (λ c. let f : Read c.before.before.self41.given.0.0 = search rules in
-    c.new48.ensures ∙ read f refl refl (ap parts_of (sym c.before.before.self41.given.1)))
-    (λ c. let f : Read c.before.before.self42.given.0.0 = search rules in let g : Read c.before.before.self42.given.0.1.0 = search rules in
-    let h : Read c.before.before.self42.given.0.1.1.0 = search rules in
-    c.new49.ensures ∙ read f g h (ap parts_of (sym c.before.before.self42.given.1)))
-    (λ c. let f : Read c.before.before.self43.given.0.0 = search rules in let g : Read c.before.before.self43.given.0.1.0 = search rules in
-    let h : Read c.before.before.self43.given.0.1.1.0 = search rules in
-    c.new50.ensures ∙ read f g h (ap parts_of (sym c.before.before.self43.given.1)))
-    (λ c. let f : Read c.before.before.self44.given.0.0 = search rules in let g : Read c.before.before.self44.given.0.1.0 = search rules in
-    let h : Read c.before.before.self44.given.0.1.1.0 = search rules in
-    c.new51.ensures ∙ read f g h (ap parts_of (sym c.before.before.self44.given.1)))
-    (λ c. let f : Read c.before.before.self45.given.0.0 = search rules in let g : Read c.before.before.self45.given.0.1.0 = search rules in
-    c.new52.ensures ∙ read f g refl (ap parts_of (sym c.before.before.self45.given.1)))
-    (λ c. let f : Read c.before.before.self46.given.0.0 = search rules in let g : Read c.before.before.self46.given.0.1.0 = search rules in
-    c.new53.ensures ∙ read f g refl (ap parts_of (sym c.before.before.self46.given.1)))
-    (λ c. let f : Read c.before.before.self47.given.0.0 = search rules in let g : Read c.before.before.self47.given.0.1.0 = search rules in
-    c.new54.ensures ∙ read f g refl (ap parts_of (sym c.before.before.self47.given.1)))
-    (λ c. let f : Read c.before.before.self48.given.0.0 = search rules in let g : Read c.before.before.self48.given.0.1.0 = search rules in
-    c.new55.ensures ∙ read f g refl (ap parts_of (sym c.before.before.self48.given.1)))
-    (λ c. let f : Read c.before.before.self49.given.0.0 = search rules in let g : Read c.before.before.self49.given.0.1.0 = search rules in
-    let h : Read c.before.before.self49.given.0.1.1.0 = search rules in
-    c.new56.ensures ∙ read f g h (ap parts_of (sym c.before.before.self49.given.1)))
-    (λ c. let f : Read c.before.before.self50.given.0.0 = search rules in let g : Read c.before.before.self50.given.0.1.0 = search rules in
-    c.new57.ensures ∙ read f g refl (ap parts_of (sym c.before.before.self50.given.1)))
-    (λ c. let f : Read c.before.before.self51.given.0.0 = search rules in let g : Read c.before.before.self51.given.0.1.0 = search rules in
-    c.new58.ensures ∙ read f g refl (ap parts_of (sym c.before.before.self51.given.1)))
-    (λ c. let f : Read c.before.before.self52.given.0.0 = search rules in let g : Read c.before.before.self52.given.0.1.0 = search rules in
-    let h : Read c.before.before.self52.given.0.1.1.0 = search rules in
-    c.new59.ensures ∙ read f g h (ap parts_of (sym c.before.before.self52.given.1)))
-    (λ c. let f : Read c.before.before.self53.given.0.0 = search rules in
-    c.new60.ensures ∙ read f refl refl (ap parts_of (sym c.before.before.self53.given.1)))
-    (λ c. let f : Read c.before.before.self54.given.0.0 = search rules in
-    c.new61.ensures ∙ read f refl refl (ap parts_of (sym c.before.before.self54.given.1)))
-    (λ c. let f : Read c.before.before.self55.given.0.0 = search rules in
-    c.new62.ensures ∙ read f refl refl (ap parts_of (sym c.before.before.self55.given.1)))
-    (λ c. c.new63.ensures ∙ ap parts_of (sym c.before.enum-told8.given.1))
-    (λ c. c.new64.ensures ∙ ap parts_of (sym c.before.enum-told9.given.1))
-    (λ c. let f : Read c.before.before.self56.given.0.0 = search rules in let g : Read c.before.before.self56.given.0.1.0 = search rules in
-    c.new65.ensures ∙ read f g refl (ap parts_of (sym c.before.before.self56.given.1)))
-    (λ c. let f : Read c.before.before.self57.given.0.0 = search rules in let g : Read c.before.before.self57.given.0.1.0 = search rules in
-    c.new66.ensures ∙ read f g refl (ap parts_of (sym c.before.before.self57.given.1)))
-    (λ c. let f : Read c.before.before.self58.given.0.0 = search rules in let g : Read c.before.before.self58.given.0.1.0 = search rules in
-    c.new67.ensures ∙ read f g refl (ap parts_of (sym c.before.before.self58.given.1)))
-    (λ c. c.new68.ensures ∙ ap parts_of (sym c.before.enum-told10.given.1))
-    (λ c. c.new69.ensures ∙ ap parts_of (sym c.before.enum-told11.given.1))
-    (λ c. c.new70.ensures ∙ ap parts_of (sym c.before.enum-told12.given.1)))
+    (λ c. let f : Read c.in-Add_i8.a = search rules in
+    c.new.ensures ∙ read f refl refl (ap parts_of (sym c.in-Add_i8.is)))
+    (λ c. let f : Read c.in-Add_d9.a = search rules in
+    c.new-in-Add_d9.ensures ∙ read f refl refl (ap parts_of (sym c.in-Add_d9.is)))
+    (λ c. let f : Read c.in-Add_Ri.a = search rules in
+    c.new-in-Add_Ri.ensures ∙ read f refl refl (ap parts_of (sym c.in-Add_Ri.is)))
+    (λ c. let f : Read c.in-Addc_i8.a = search rules in
+    c.new-in-Addc_i8.ensures ∙ read f refl refl (ap parts_of (sym c.in-Addc_i8.is)))
+    (λ c. let f : Read c.in-Addc_d9.a = search rules in
+    c.new-in-Addc_d9.ensures ∙ read f refl refl (ap parts_of (sym c.in-Addc_d9.is)))
+    (λ c. let f : Read c.in-Addc_Ri.a = search rules in
+    c.new-in-Addc_Ri.ensures ∙ read f refl refl (ap parts_of (sym c.in-Addc_Ri.is)))
+    (λ c. let f : Read c.in-Sub_i8.a = search rules in
+    c.new-in-Sub_i8.ensures ∙ read f refl refl (ap parts_of (sym c.in-Sub_i8.is)))
+    (λ c. let f : Read c.in-Sub_d9.a = search rules in
+    c.new-in-Sub_d9.ensures ∙ read f refl refl (ap parts_of (sym c.in-Sub_d9.is)))
+    (λ c. let f : Read c.in-Sub_Ri.a = search rules in
+    c.new-in-Sub_Ri.ensures ∙ read f refl refl (ap parts_of (sym c.in-Sub_Ri.is)))
+    (λ c. let f : Read c.in-Subc_i8.a = search rules in
+    c.new-in-Subc_i8.ensures ∙ read f refl refl (ap parts_of (sym c.in-Subc_i8.is)))
+    (λ c. let f : Read c.in-Subc_d9.a = search rules in
+    c.new-in-Subc_d9.ensures ∙ read f refl refl (ap parts_of (sym c.in-Subc_d9.is)))
+    (λ c. let f : Read c.in-Subc_Ri.a = search rules in
+    c.new-in-Subc_Ri.ensures ∙ read f refl refl (ap parts_of (sym c.in-Subc_Ri.is)))
+    (λ c. let f : Read c.in-Inc_d9.a = search rules in
+    c.new-in-Inc_d9.ensures ∙ read f refl refl (ap parts_of (sym c.in-Inc_d9.is)))
+    (λ c. let f : Read c.in-Inc_Ri.a = search rules in
+    c.new-in-Inc_Ri.ensures ∙ read f refl refl (ap parts_of (sym c.in-Inc_Ri.is)))
+    (λ c. let f : Read c.in-Dec_d9.a = search rules in
+    c.new-in-Dec_d9.ensures ∙ read f refl refl (ap parts_of (sym c.in-Dec_d9.is)))
+    (λ c. let f : Read c.in-Dec_Ri.a = search rules in
+    c.new-in-Dec_Ri.ensures ∙ read f refl refl (ap parts_of (sym c.in-Dec_Ri.is)))
+    (λ c. c.new-in-Mul.ensures ∙ ap parts_of (sym c.in-Mul.is))
+    (λ c. c.new-in-Div.ensures ∙ ap parts_of (sym c.in-Div.is))
+    (λ c. let f : Read c.in-And_i8.a = search rules in
+    c.new-in-And_i8.ensures ∙ read f refl refl (ap parts_of (sym c.in-And_i8.is)))
+    (λ c. let f : Read c.in-And_d9.a = search rules in
+    c.new-in-And_d9.ensures ∙ read f refl refl (ap parts_of (sym c.in-And_d9.is)))
+    (λ c. let f : Read c.in-And_Ri.a = search rules in
+    c.new-in-And_Ri.ensures ∙ read f refl refl (ap parts_of (sym c.in-And_Ri.is)))
+    (λ c. let f : Read c.in-Or_i8.a = search rules in
+    c.new-in-Or_i8.ensures ∙ read f refl refl (ap parts_of (sym c.in-Or_i8.is)))
+    (λ c. let f : Read c.in-Or_d9.a = search rules in
+    c.new-in-Or_d9.ensures ∙ read f refl refl (ap parts_of (sym c.in-Or_d9.is)))
+    (λ c. let f : Read c.in-Or_Ri.a = search rules in
+    c.new-in-Or_Ri.ensures ∙ read f refl refl (ap parts_of (sym c.in-Or_Ri.is)))
+    (λ c. let f : Read c.in-Xor_i8.a = search rules in
+    c.new-in-Xor_i8.ensures ∙ read f refl refl (ap parts_of (sym c.in-Xor_i8.is)))
+    (λ c. let f : Read c.in-Xor_d9.a = search rules in
+    c.new-in-Xor_d9.ensures ∙ read f refl refl (ap parts_of (sym c.in-Xor_d9.is)))
+    (λ c. let f : Read c.in-Xor_Ri.a = search rules in
+    c.new-in-Xor_Ri.ensures ∙ read f refl refl (ap parts_of (sym c.in-Xor_Ri.is)))
+    (λ c. c.new-in-Rol.ensures ∙ ap parts_of (sym c.in-Rol.is))
+    (λ c. c.new-in-Rolc.ensures ∙ ap parts_of (sym c.in-Rolc.is))
+    (λ c. c.new-in-Ror.ensures ∙ ap parts_of (sym c.in-Ror.is))
+    (λ c. c.new-in-Rorc.ensures ∙ ap parts_of (sym c.in-Rorc.is))
+    (λ c. let f : Read c.in-Ld_d9.a = search rules in
+    c.new-in-Ld_d9.ensures ∙ read f refl refl (ap parts_of (sym c.in-Ld_d9.is)))
+    (λ c. let f : Read c.in-Ld_Ri.a = search rules in
+    c.new-in-Ld_Ri.ensures ∙ read f refl refl (ap parts_of (sym c.in-Ld_Ri.is)))
+    (λ c. let f : Read c.in-St_d9.a = search rules in
+    c.new-in-St_d9.ensures ∙ read f refl refl (ap parts_of (sym c.in-St_d9.is)))
+    (λ c. let f : Read c.in-St_Ri.a = search rules in
+    c.new-in-St_Ri.ensures ∙ read f refl refl (ap parts_of (sym c.in-St_Ri.is)))
+    (λ c. let f : Read c.in-Mov_d9.a = search rules in let g : Read c.in-Mov_d9.b = search rules in
+    c.new-in-Mov_d9.ensures ∙ read f g refl (ap parts_of (sym c.in-Mov_d9.is)))
+    (λ c. let f : Read c.in-Mov_Rj.a = search rules in let g : Read c.in-Mov_Rj.b = search rules in
+    c.new-in-Mov_Rj.ensures ∙ read f g refl (ap parts_of (sym c.in-Mov_Rj.is)))
+    (λ c. c.new-in-Ldc.ensures ∙ ap parts_of (sym c.in-Ldc.is))
+    (λ c. let f : Read c.in-Push.a = search rules in
+    c.new-in-Push.ensures ∙ read f refl refl (ap parts_of (sym c.in-Push.is)))
+    (λ c. let f : Read c.in-Pop.a = search rules in
+    c.new-in-Pop.ensures ∙ read f refl refl (ap parts_of (sym c.in-Pop.is)))
+    (λ c. let f : Read c.in-Xch_d9.a = search rules in
+    c.new-in-Xch_d9.ensures ∙ read f refl refl (ap parts_of (sym c.in-Xch_d9.is)))
+    (λ c. let f : Read c.in-Xch_Ri.a = search rules in
+    c.new-in-Xch_Ri.ensures ∙ read f refl refl (ap parts_of (sym c.in-Xch_Ri.is)))
+    (λ c. let f : Read c.in-Jmp.a = search rules in
+    c.new-in-Jmp.ensures ∙ read f refl refl (ap parts_of (sym c.in-Jmp.is)))
+    (λ c. let f : Read c.in-Jmpf.a = search rules in
+    c.new-in-Jmpf.ensures ∙ read f refl refl (ap parts_of (sym c.in-Jmpf.is)))
+    (λ c. let f : Read c.in-Br.a = search rules in
+    c.new-in-Br.ensures ∙ read f refl refl (ap parts_of (sym c.in-Br.is)))
+    (λ c. let f : Read c.in-Brf.a = search rules in
+    c.new-in-Brf.ensures ∙ read f refl refl (ap parts_of (sym c.in-Brf.is)))
+    (λ c. let f : Read c.in-Bz.a = search rules in
+    c.new-in-Bz.ensures ∙ read f refl refl (ap parts_of (sym c.in-Bz.is)))
+    (λ c. let f : Read c.in-Bnz.a = search rules in
+    c.new-in-Bnz.ensures ∙ read f refl refl (ap parts_of (sym c.in-Bnz.is)))
+    (λ c. let f : Read c.in-Bp.a = search rules in let g : Read c.in-Bp.b = search rules in
+    let h : Read c.in-Bp.c = search rules in
+    c.new-in-Bp.ensures ∙ read f g h (ap parts_of (sym c.in-Bp.is)))
+    (λ c. let f : Read c.in-Bpc.a = search rules in let g : Read c.in-Bpc.b = search rules in
+    let h : Read c.in-Bpc.c = search rules in
+    c.new-in-Bpc.ensures ∙ read f g h (ap parts_of (sym c.in-Bpc.is)))
+    (λ c. let f : Read c.in-Bn.a = search rules in let g : Read c.in-Bn.b = search rules in
+    let h : Read c.in-Bn.c = search rules in
+    c.new-in-Bn.ensures ∙ read f g h (ap parts_of (sym c.in-Bn.is)))
+    (λ c. let f : Read c.in-Dbnz_d9.a = search rules in let g : Read c.in-Dbnz_d9.b = search rules in
+    c.new-in-Dbnz_d9.ensures ∙ read f g refl (ap parts_of (sym c.in-Dbnz_d9.is)))
+    (λ c. let f : Read c.in-Dbnz_Ri.a = search rules in let g : Read c.in-Dbnz_Ri.b = search rules in
+    c.new-in-Dbnz_Ri.ensures ∙ read f g refl (ap parts_of (sym c.in-Dbnz_Ri.is)))
+    (λ c. let f : Read c.in-Be_i8.a = search rules in let g : Read c.in-Be_i8.b = search rules in
+    c.new-in-Be_i8.ensures ∙ read f g refl (ap parts_of (sym c.in-Be_i8.is)))
+    (λ c. let f : Read c.in-Be_d9.a = search rules in let g : Read c.in-Be_d9.b = search rules in
+    c.new-in-Be_d9.ensures ∙ read f g refl (ap parts_of (sym c.in-Be_d9.is)))
+    (λ c. let f : Read c.in-Be_Rj.a = search rules in let g : Read c.in-Be_Rj.b = search rules in
+    let h : Read c.in-Be_Rj.c = search rules in
+    c.new-in-Be_Rj.ensures ∙ read f g h (ap parts_of (sym c.in-Be_Rj.is)))
+    (λ c. let f : Read c.in-Bne_i8.a = search rules in let g : Read c.in-Bne_i8.b = search rules in
+    c.new-in-Bne_i8.ensures ∙ read f g refl (ap parts_of (sym c.in-Bne_i8.is)))
+    (λ c. let f : Read c.in-Bne_d9.a = search rules in let g : Read c.in-Bne_d9.b = search rules in
+    c.new-in-Bne_d9.ensures ∙ read f g refl (ap parts_of (sym c.in-Bne_d9.is)))
+    (λ c. let f : Read c.in-Bne_Rj.a = search rules in let g : Read c.in-Bne_Rj.b = search rules in
+    let h : Read c.in-Bne_Rj.c = search rules in
+    c.new-in-Bne_Rj.ensures ∙ read f g h (ap parts_of (sym c.in-Bne_Rj.is)))
+    (λ c. let f : Read c.in-Call.a = search rules in
+    c.new-in-Call.ensures ∙ read f refl refl (ap parts_of (sym c.in-Call.is)))
+    (λ c. let f : Read c.in-Callf.a = search rules in
+    c.new-in-Callf.ensures ∙ read f refl refl (ap parts_of (sym c.in-Callf.is)))
+    (λ c. let f : Read c.in-Callr.a = search rules in
+    c.new-in-Callr.ensures ∙ read f refl refl (ap parts_of (sym c.in-Callr.is)))
+    (λ c. c.new-in-Ret.ensures ∙ ap parts_of (sym c.in-Ret.is))
+    (λ c. c.new-in-Reti.ensures ∙ ap parts_of (sym c.in-Reti.is))
+    (λ c. let f : Read c.in-Clr1.a = search rules in let g : Read c.in-Clr1.b = search rules in
+    c.new-in-Clr1.ensures ∙ read f g refl (ap parts_of (sym c.in-Clr1.is)))
+    (λ c. let f : Read c.in-Set1.a = search rules in let g : Read c.in-Set1.b = search rules in
+    c.new-in-Set1.ensures ∙ read f g refl (ap parts_of (sym c.in-Set1.is)))
+    (λ c. let f : Read c.in-Not1.a = search rules in let g : Read c.in-Not1.b = search rules in
+    c.new-in-Not1.ensures ∙ read f g refl (ap parts_of (sym c.in-Not1.is)))
+    (λ c. c.new-in-Nop.ensures ∙ ap parts_of (sym c.in-Nop.is))
+    (λ c. c.new-in-Ldf.ensures ∙ ap parts_of (sym c.in-Ldf.is))
+    (λ c. c.new-in-Stf.ensures ∙ ap parts_of (sym c.in-Stf.is)))

@@ -18,59 +18,59 @@ Read z = to_z w32 (of_z w32 z) ≡ z
 seen : {t : Bool} {k k' : Kind} {z z' : ℤ} → t ≡ unfit k z → k ≡ k' → z ≡ z' → unfit k' z' ≡ t
 seen p q r = cc
 
-abbrev taken : tie.After-kinds → tie.After-apart
+abbrev taken : tie.After-kinds-k → tie.After-apart-v
 taken k = k.before.before.before.before
 
-abbrev self : tie.After-kinds → Instr
-self k = (taken k).before.args.self
+abbrev self : tie.After-kinds-k → Instr
+self k = (taken k).args.self
 
 -- the operands' values, as the code has them
-at_a : (k : tie.After-kinds) → to_z w32 (of_z w32 (taken k).apart.result.a) ≡ (parts_of (self k)).a
-at_a k = let f : Read (taken k).apart.result.a = search rules in f ∙ ap (λ (v : Parts). v.a) (taken k).apart.ensures
+at_a : (k : tie.After-kinds-k) → to_z w32 (of_z w32 (taken k).apart-v.result.a) ≡ (parts_of (self k)).a
+at_a k = let f : Read (taken k).apart-v.result.a = search rules in f ∙ ap (λ (v : Parts). v.a) (taken k).apart-v.ensures
 
-at_b : (k : tie.After-kinds) → to_z w32 (of_z w32 (taken k).apart.result.b) ≡ (parts_of (self k)).b
-at_b k = let f : Read (taken k).apart.result.b = search rules in f ∙ ap (λ (v : Parts). v.b) (taken k).apart.ensures
+at_b : (k : tie.After-kinds-k) → to_z w32 (of_z w32 (taken k).apart-v.result.b) ≡ (parts_of (self k)).b
+at_b k = let f : Read (taken k).apart-v.result.b = search rules in f ∙ ap (λ (v : Parts). v.b) (taken k).apart-v.ensures
 
-at_c : (k : tie.After-kinds) → to_z w32 (of_z w32 (taken k).apart.result.c) ≡ (parts_of (self k)).c
-at_c k = let f : Read (taken k).apart.result.c = search rules in f ∙ ap (λ (v : Parts). v.c) (taken k).apart.ensures
+at_c : (k : tie.After-kinds-k) → to_z w32 (of_z w32 (taken k).apart-v.result.c) ≡ (parts_of (self k)).c
+at_c k = let f : Read (taken k).apart-v.result.c = search rules in f ∙ ap (λ (v : Parts). v.c) (taken k).apart-v.ensures
 
-unfit1 : (c : tie.After-is-unfit) → Unfit1 (self c.before) c.is-unfit.result
-unfit1 c = seen c.is-unfit.ensures (ap (λ (k : Kinds). k.a) c.before.kinds.ensures) (at_a c.before)
+unfit1 : (c : tie.After-is_unfit) → Unfit1 (self c.before) c.is_unfit.result
+unfit1 c = seen c.is_unfit.ensures (ap (λ (k : Kinds). k.a) c.kinds-k.ensures) (at_a c.before)
 
-unfit2 : (c : tie.After-is-unfit2) → Unfit2 (self c.before.before.before) c.is-unfit2.result
+unfit2 : (c : tie.After-is_unfit-2) → Unfit2 (self c.before.before.before) c.is_unfit-2.result
 unfit2 c =
-    let k = c.before.before.before in seen c.is-unfit2.ensures (ap (λ (k : Kinds). k.b) k.kinds.ensures) (at_b k)
+    let k = c.before.before.before in seen c.is_unfit-2.ensures (ap (λ (k : Kinds). k.b) k.kinds-k.ensures) (at_b k)
 
-unfit3 : (c : tie.After-is-unfit3) → Unfit3 (self c.before.before.before.before.before) c.is-unfit3.result
+unfit3 : (c : tie.After-is_unfit-3) → Unfit3 (self c.before.before.before.before.before) c.is_unfit-3.result
 unfit3 c =
     let k = c.before.before.before.before.before in
-    seen c.is-unfit3.ensures (ap (λ (k : Kinds). k.c) k.kinds.ensures) (at_c k)
+    seen c.is_unfit-3.ensures (ap (λ (k : Kinds). k.c) k.kinds-k.ensures) (at_c k)
 
-returns : tie.Need-returns
+returns : tie.Need-returns-then-is_unfit
 returns c =
     let n = c.before.before in
-    named c.new.ensures (at_a n.before) (fit1 (self n.before) (unfit1 n ∙ c.before.if1.true))
+    named c.new.ensures (at_a n.before) (fit1 (self n.before) (unfit1 n ∙ c.if-is_unfit.true))
 
-returns-2 : tie.Need-returns-2
+returns-2 : tie.Need-returns-then-is_unfit-2
 returns-2 c =
     let n = c.before.before in
     let m = n.before.before in
-    named c.new2.ensures (at_b m.before) (fit2 (self m.before) (unfit1 m ∙ n.before.if1.false) (unfit2 n ∙ c.before.if2.true))
+    named c.new-then-is_unfit-2.ensures (at_b m.before) (fit2 (self m.before) (unfit1 m ∙ n.if-is_unfit.false) (unfit2 n ∙ c.if-is_unfit-2.true))
 
-returns-3 : tie.Need-returns-3
+returns-3 : tie.Need-returns-then-is_unfit-3
 returns-3 c =
     let n = c.before.before in
     let m = n.before.before in
     let l = m.before.before in
-    named c.new3.ensures (at_c l.before)
-    (fit3 (self l.before) (unfit1 l ∙ m.before.if1.false) (unfit2 m ∙ n.before.if2.false) (unfit3 n ∙ c.before.if3.true))
+    named c.new-then-is_unfit-3.ensures (at_c l.before)
+    (fit3 (self l.before) (unfit1 l ∙ m.if-is_unfit.false) (unfit2 m ∙ n.if-is_unfit-2.false) (unfit3 n ∙ c.if-is_unfit-3.true))
 
-returns-4 : tie.Need-returns-4
+returns-4 : tie.Need-returns
 returns-4 c =
     let n = c.before in
     let m = n.before.before in
     let l = m.before.before in
-    fits (self l.before) (unfit1 l ∙ m.before.if1.false) (unfit2 m ∙ n.before.if2.false) (unfit3 n ∙ c.if3.false)
+    fits (self l.before) (unfit1 l ∙ m.if-is_unfit.false) (unfit2 m ∙ n.if-is_unfit-2.false) (unfit3 n ∙ c.if-is_unfit-3.false)
 
 pub fit_spec : {M : Type 1} → statement M
 fit_spec =

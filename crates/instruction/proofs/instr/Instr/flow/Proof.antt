@@ -7,11 +7,11 @@ use Rattle.instruction.proofs.Known.{form_small}
 use Rattle.instruction.proofs.instr.Instr.flow.Statement.{statement}
 use Rattle.instruction.proofs.instr.Instr.flow.Tie as tie
 
-flow-of-requires : tie.Need-flow-of-requires
-flow-of-requires c κs = form_small c.before.args.self c.apart.ensures
+flow-of-requires : tie.Need-flow_of-requires
+flow-of-requires c κs = form_small c.args.self c.apart-v.ensures
 
 returns : tie.Need-returns
-returns c = c.flow-of.ensures ∙ ap (λ (v : Parts). flow_of v.form) c.before.apart.ensures
+returns c = c.flow_of.ensures ∙ ap (λ (v : Parts). flow_of v.form) c.apart-v.ensures
 
-pub flow-spec : {M : Type 1} → statement M
-flow-spec = tie.close (tie.spec (λ c κs. search rules) flow-of-requires returns)
+pub flow_spec : {M : Type 1} → statement M
+flow_spec = tie.close (tie.spec (λ c κs. search rules) flow-of-requires returns)

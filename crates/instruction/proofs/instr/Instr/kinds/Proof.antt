@@ -8,7 +8,7 @@ use Rattle.instruction.proofs.instr.Instr.kinds.Statement.{statement}
 use Rattle.instruction.proofs.instr.Instr.kinds.Tie as tie
 
 returns : tie.Need-returns
-returns c = c.kinds.ensures ∙ ap (λ (v : Parts). three_of (form_at v.form).shape) c.before.apart.ensures
+returns c = c.kinds.ensures ∙ ap (λ (v : Parts). three_of (form_at v.form).shape) c.apart.ensures
 
-pub kinds-spec : {M : Type 1} → statement M
-kinds-spec = tie.close (tie.spec (λ c κs. search rules) (λ c κs. search rules) returns)
+pub kinds_spec : {M : Type 1} → statement M
+kinds_spec = tie.close (tie.spec (λ c κs. search rules) (λ c κs. search rules) returns)

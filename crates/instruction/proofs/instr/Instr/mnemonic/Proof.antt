@@ -7,7 +7,7 @@ use Rattle.instruction.proofs.instr.Instr.mnemonic.Statement.{statement}
 use Rattle.instruction.proofs.instr.Instr.mnemonic.Tie as tie
 
 returns : tie.Need-returns
-returns c = c.mnemonic.ensures ∙ ap (λ (v : Parts). packed_letters (mnemonic_of v.form)) c.before.apart.ensures
+returns c = c.mnemonic.ensures ∙ ap (λ (v : Parts). packed_letters (mnemonic_of v.form)) c.apart.ensures
 
-pub mnemonic-spec : {M : Type 1} → statement M
-mnemonic-spec = tie.close (tie.spec (λ c κs. search rules) (λ c κs. search rules) returns)
+pub mnemonic_spec : {M : Type 1} → statement M
+mnemonic_spec = tie.close (tie.spec (λ c κs. search rules) (λ c κs. search rules) returns)

@@ -10,7 +10,7 @@ use Rattle.instruction.proofs.instr.Instr.with_first.Tie as tie
 returns : tie.Need-returns
 returns c =
     let s = c.before.before in
-    c.build.ensures ∙ ap made_of (make4 c.before.lookup.ensures.0 (back s.ranges.a) (back s.ranges.b) (back s.ranges.c))
+    c.build.ensures ∙ ap made_of (make4 c.lookup.ensures.0 (back s.ranges.a) (back s.ranges.b) (back s.ranges.c))
 
-pub with-first-spec : {M : Type 1} → statement M
-with-first-spec = tie.close (tie.spec (λ c κs. search rules) (λ c κs. search rules) returns)
+pub with_first_spec : {M : Type 1} → statement M
+with_first_spec = tie.close (tie.spec (λ c κs. search rules) (λ c κs. search rules) returns)

@@ -19,64 +19,64 @@ use Rattle.instruction.proofs.Rule.{rule_is}
 use Rattle.instruction.proofs.instr.Parts.decode.Statement.{statement}
 use Rattle.instruction.proofs.instr.Parts.decode.Tie as tie
 
-abbrev bytes : tie.After-size-by → List ℕ
-bytes c = c.before.before.before.before.args.bytes.now
+abbrev bytes : tie.After-size_by-size → List ℕ
+bytes c = c.args.bytes.now
 
-byte : (c : tie.After-size-by) → get_or (bytes c) 0 0 < 256
-byte c = (c.before.before.before.shared-slice-known.given 0).fits
+byte : (c : tie.After-size_by-size) → get_or (bytes c) 0 0 < 256
+byte c = (c.shared_slice_known-1.given 0).fits
 
 -- the form that the lookup answered is the one whose pattern matches
-by_pattern : (c : tie.After-lookup) → c.lookup.result ≡ form_of (get_or (bytes c.before.before) 0 0)
+by_pattern : (c : tie.After-lookup-form) → c.lookup-form.result ≡ form_of (get_or (bytes c.before.before) 0 0)
 by_pattern c =
     let n = c.before.before in
-    c.lookup.ensures.0 ∙ rule_is (get_or (bytes n) 0 0) (byte n)
+    c.lookup-form.ensures.0 ∙ rule_is (get_or (bytes n) 0 0) (byte n)
 
-returns : tie.Need-returns
+returns : tie.Need-returns-then-bytes-eq0
 returns c =
-    let s : List ℕ = c.before.before.args.bytes.now in
-    refused_parts s 12 _ (nothing s c.if1.true)
+    let s : List ℕ = c.args.bytes.now in
+    refused_parts s 12 _ (nothing s c.if-bytes-eq0.true)
 
 -- a form has at most three bytes
-few : (c : tie.After-size-by) → c.size-by.result < 4
-few c = omega (arith, c.size-by.ensures, short (get_or (bytes c) 0 0) (byte c))
+few : (c : tie.After-size_by-size) → c.size_by-size.result < 4
+few c = omega (arith, c.size_by-size.ensures, short (get_or (bytes c) 0 0) (byte c))
 
-sub-new : tie.Need-overflow-sub-new
-sub-new c = omega (arith, few c.before, c.if2.true)
+sub-new : tie.Need-overflow_sub-size
+sub-new c = omega (arith, few c.before, c.if-bytes-size.true)
 
-cast-new : tie.Need-overflow-cast-new
-cast-new c = record { fits = omega (arith, few c.before, c.if2.true) }
+cast-new : tie.Need-overflow_cast-size-then-bytes-size
+cast-new c = record { fits = omega (arith, few c.before, c.if-bytes-size.true) }
 
-returns-2 : tie.Need-returns-2
+returns-2 : tie.Need-returns-then-bytes-size
 returns-2 c =
     let n = c.before.before in
     let s : List ℕ = bytes n in
     refused_parts s 5 _
     (ap (λ (d : CutOff). refused 5 (cut_values d)) (cut_from_start s c.new.result c.new.ensures.0 c.new.ensures.1
-    (c.new.ensures.2 ∙ ap (λ (k : ℕ). k - length s) n.size-by.ensures))
-    ∙ cut s n.before.before.if1.false (form_of (get_or s 0 0)) refl (rw n.size-by.ensures at c.before.if2.true))
+    (c.new.ensures.2 ∙ ap (λ (k : ℕ). k - length s) n.size_by-size.ensures))
+    ∙ cut s n.if-bytes-eq0.false (form_of (get_or s 0 0)) refl (rw n.size_by-size.ensures at c.if-bytes-size.true))
 
-returns-3 : tie.Need-returns-3
+returns-3 : tie.Need-returns
 returns-3 c =
     let r = c.before.before.before.before in
     let l = r.before.before in
     let n = l.before.before in
-    let k : ℕ = l.lookup.result in
+    let k : ℕ = l.lookup-form.result in
     let s : List ℕ = bytes n in
-    let f : Fields = r.read.result in
+    let f : Fields = r.read-f.result in
     let a : to_z w32 (of_z w32 f.a) ≡ f.a = search rules in
     let b : to_z w32 (of_z w32 f.b) ≡ f.b = search rules in
     let e : to_z w32 (of_z w32 f.c) ≡ f.c = search rules in
     let v : Parts = fields_in k s in
-    let shape : r.before.shape-by.result ≡ (form_at k).shape = r.before.shape-by.ensures ∙ ap (λ (j : ℕ). (form_at j).shape) (sym (by_pattern l)) in
-    let size : n.size-by.result ≡ size_of (form_at k) = n.size-by.ensures ∙ ap (λ (j : ℕ). size_of (form_at j)) (sym (by_pattern l)) in
-    let got : c.new2.result ≡ v = c.new2.ensures ∙ make3 k a b e
-    ∙ ap (formed k) (r.read.ensures ∙ ap (λ (t : Shape). fields_by t s) shape) ∙ by_shape k l.lookup.ensures.1 s in
+    let shape : r.shape_by.result ≡ (form_at k).shape = r.shape_by.ensures ∙ ap (λ (j : ℕ). (form_at j).shape) (sym (by_pattern l)) in
+    let size : n.size_by-size.result ≡ size_of (form_at k) = n.size_by-size.ensures ∙ ap (λ (j : ℕ). size_of (form_at j)) (sym (by_pattern l)) in
+    let got : c.new-2.result ≡ v = c.new-2.ensures ∙ make3 k a b e
+    ∙ ap (formed k) (r.read-f.ensures ∙ ap (λ (t : Shape). fields_by t s) shape) ∙ by_shape k l.lookup-form.ensures.1 s in
     ap accepted got
-    ∙ found_parts s v (parts_read k l.lookup.ensures.1 s (λ i. (n.before.before.before.shared-slice-known.given i).fits))
-    (found s n.before.before.if1.false k (by_pattern l) (rw size at l.before.if2.false) v refl (made_of v) refl)
+    ∙ found_parts s v (parts_read k l.lookup-form.ensures.1 s (λ i. (n.shared_slice_known-1.given i).fits))
+    (found s n.if-bytes-eq0.false k (by_pattern l) (rw size at l.if-bytes-size.false) v refl (made_of v) refl)
 
-pub decode-spec : {M : Type 1} → statement M
-decode-spec =
+pub decode_spec : {M : Type 1} → statement M
+decode_spec =
     tie.close
     (tie.spec returns (λ c. search rules) (λ c κs. search rules) (λ c. search rules) sub-new cast-new (λ c κs. search rules) returns-2
     (λ c κs. search rules) (λ c κs. search rules) (λ c κs. search rules) (λ c κs. search rules) returns-3)

@@ -7,7 +7,7 @@ use Rattle.instruction.proofs.kind.Kind.is_unfit.Statement.{statement}
 use Rattle.instruction.proofs.kind.Kind.is_unfit.Tie as tie
 
 returns : tie.Need-returns
-returns c = let s = c.before in c.is-unfit.ensures ∙ ap (unfit s.args.self) (back s.ranges.z)
+returns c = let s = c.before in c.is_unfit.ensures ∙ ap (unfit s.args.self) (back s.ranges.z)
 
-pub is-unfit-spec : {M : Type 1} → statement M
-is-unfit-spec = tie.close (tie.spec (λ c κs. search rules) returns)
+pub is_unfit_spec : {M : Type 1} → statement M
+is_unfit_spec = tie.close (tie.spec (λ c κs. search rules) returns)

@@ -5,9 +5,9 @@ use Rattle.instruction.specs.Kinds.{kinds_of, three_of}
 use Rattle.instruction.proofs.kind.Shape.kinds.Statement.{statement}
 use Rattle.instruction.proofs.kind.Shape.kinds.Tie as tie
 
-pub kinds-spec : {M : Type 1} → statement M
+pub kinds_spec : {M : Type 1} → statement M
 unfolding kinds_of
-kinds-spec =
+kinds_spec =
     tie.close
     (tie.spec
     (λ c. search rules)
@@ -42,19 +42,19 @@ kinds-spec =
     (λ c κs. search rules)
     (λ c. search rules)
     (λ c κs. search rules)
-    (λ c. c.one.ensures ∙ ap three_of (sym c.before.enum_told.given.1))
-    (λ c. c.one2.ensures ∙ ap three_of (sym c.before.enum-told2.given.1))
-    (λ c. c.one3.ensures ∙ ap three_of (sym c.before.enum-told3.given.1))
-    (λ c. c.one4.ensures ∙ ap three_of (sym c.before.enum-told4.given.1))
-    (λ c. c.two.ensures ∙ ap three_of (sym c.before.enum-told5.given.1))
-    (λ c. c.two2.ensures ∙ ap three_of (sym c.before.enum-told6.given.1))
-    (λ c. c.two3.ensures ∙ ap three_of (sym c.before.enum-told7.given.1))
-    (λ c. c.one5.ensures ∙ ap three_of (sym c.before.enum-told8.given.1))
-    (λ c. c.one6.ensures ∙ ap three_of (sym c.before.enum-told9.given.1))
-    (λ c. c.one7.ensures ∙ ap three_of (sym c.before.enum-told10.given.1))
-    (λ c. c.one8.ensures ∙ ap three_of (sym c.before.enum-told11.given.1))
-    (λ c. c.new.ensures ∙ ap three_of (sym c.before.enum-told12.given.1))
-    (λ c. c.two4.ensures ∙ ap three_of (sym c.before.enum-told13.given.1))
-    (λ c. c.two5.ensures ∙ ap three_of (sym c.before.enum-told14.given.1))
-    (λ c. c.two6.ensures ∙ ap three_of (sym c.before.enum-told15.given.1))
-    (λ c. c.new2.ensures ∙ ap three_of (sym c.before.enum-told16.given.1)))
+    (λ c. c.one.ensures ∙ ap three_of (sym c.in-Bare.is))
+    (λ c. c.one-in-Imm.ensures ∙ ap three_of (sym c.in-Imm.is))
+    (λ c. c.one-in-D9.ensures ∙ ap three_of (sym c.in-D9.is))
+    (λ c. c.one-in-Ri.ensures ∙ ap three_of (sym c.in-Ri.is))
+    (λ c. c.two.ensures ∙ ap three_of (sym c.in-ImmD9.is))
+    (λ c. c.two-in-ImmRi.ensures ∙ ap three_of (sym c.in-ImmRi.is))
+    (λ c. c.two-in-D9B3.ensures ∙ ap three_of (sym c.in-D9B3.is))
+    (λ c. c.one-in-A12.ensures ∙ ap three_of (sym c.in-A12.is))
+    (λ c. c.one-in-A16.ensures ∙ ap three_of (sym c.in-A16.is))
+    (λ c. c.one-in-R16.ensures ∙ ap three_of (sym c.in-R16.is))
+    (λ c. c.one-in-R8.ensures ∙ ap three_of (sym c.in-R8.is))
+    (λ c. c.new.ensures ∙ ap three_of (sym c.in-D9B3R8.is))
+    (λ c. c.two-in-D9R8.ensures ∙ ap three_of (sym c.in-D9R8.is))
+    (λ c. c.two-in-RiR8.ensures ∙ ap three_of (sym c.in-RiR8.is))
+    (λ c. c.two-in-ImmR8.ensures ∙ ap three_of (sym c.in-ImmR8.is))
+    (λ c. c.new-in-RiImmR8.ensures ∙ ap three_of (sym c.in-RiImmR8.is)))
