@@ -5,7 +5,7 @@ ghost use Rattle.c_answers.specs.Reply.{reply};
 
 use instruction::CutOff;
 
-#[derive(Drop)]
+#[derive(Clone, Copy)]
 pub struct Reply {
     pub number: u32,
     pub values: [i64; 5],

@@ -7,7 +7,7 @@ use crate::asked::{Asked, Took};
 use crate::{asked, word};
 use text::cut;
 
-#[derive(Drop)]
+#[derive(Clone, Copy)]
 pub enum Read {
     Asks(Asked),
     // 13: the number of the word that may not stand where it stands; the file's name is the first.

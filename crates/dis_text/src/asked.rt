@@ -10,7 +10,7 @@ use instruction::Mode;
 use listing::Arrivals;
 
 // How many entries and pins, which stand in two rooms, and the settings.
-#[derive(Drop)]
+#[derive(Clone, Copy)]
 pub struct Asked {
     pub entries: usize,
     pub pins: usize,
@@ -20,7 +20,7 @@ pub struct Asked {
     pub pinning: bool,
 }
 
-#[derive(Drop)]
+#[derive(Clone, Copy)]
 pub enum Took {
     On(Asked),
     // The word may not stand here.

@@ -14,7 +14,7 @@ use instruction::CutOff;
 use list_text::decimal;
 
 // Why there is no listing.
-#[derive(Drop)]
+#[derive(Clone, Copy)]
 pub enum Trouble {
     // 1: the file's length.
     Long(usize),

@@ -4,7 +4,7 @@ ghost use Rattle.dis_text.specs.Told.{listing_in};
 
 use views::Viewed;
 
-#[derive(Drop)]
+#[derive(Clone, Copy)]
 pub enum Shown {
     // A listing of so many bytes was written.
     Listing(usize),

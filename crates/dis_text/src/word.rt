@@ -5,7 +5,7 @@ ghost use Rattle.dis_text.specs.Word.{value_in, number_in, word_of};
 use text::hex;
 use text::same::same;
 
-#[derive(Drop)]
+#[derive(Clone, Copy)]
 pub enum Word {
     // 1 to 4 hex digits.
     Number(u32),

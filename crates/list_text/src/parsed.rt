@@ -2,7 +2,7 @@
 ghost use Rattle.std.specs.Prelude.{◌≡◌};
 
 // What an input holds: how many entries, and how many image bytes.
-#[derive(Drop)]
+#[derive(Clone, Copy)]
 pub struct Input {
     pub entries: usize,
     pub bytes: usize,
@@ -22,7 +22,7 @@ impl Input {
     }
 }
 
-#[derive(Drop)]
+#[derive(Clone, Copy)]
 pub enum Parsed {
     // What was read.
     Accepted(Input),

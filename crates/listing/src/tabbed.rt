@@ -17,7 +17,7 @@ const MOST: usize = 60;
 const MOST_WITH: usize = 77;
 
 // Whether the listing shows arrivals.
-#[derive(Drop)]
+#[derive(Clone, Copy)]
 pub enum Arrivals {
     Chosen,
     Declined,

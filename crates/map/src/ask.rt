@@ -6,7 +6,7 @@ ghost use Rattle.map.specs.Ask.{is_told, asked_of, ask_refusals, test_answer, co
 use crate::{find, tell};
 use targets::Image;
 
-#[derive(Drop)]
+#[derive(Clone, Copy)]
 pub enum Asked {
     // What was asked for.
     Told(u32),

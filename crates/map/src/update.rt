@@ -7,7 +7,7 @@ use crate::cover;
 use marks::Mark;
 use views::Viewed;
 
-#[derive(Drop)]
+#[derive(Clone, Copy)]
 pub enum Updated {
     // How many bits were set: the instruction's bytes.
     Set(usize),

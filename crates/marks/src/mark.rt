@@ -2,7 +2,7 @@
 ghost use Rattle.std.specs.Prelude.{◌≡◌};
 ghost use Rattle.reach.specs.Mark.{traced_mark};
 
-#[derive(Drop)]
+#[derive(Clone, Copy)]
 pub struct Mark;
 
 impl Mark {

@@ -9,7 +9,7 @@ use crate::{exempt, note};
 use targets::Places;
 
 // The new mark, and what became waiting.
-#[derive(Drop)]
+#[derive(Clone, Copy)]
 pub struct Taken {
     pub mark: u8,
     pub noted: Places,

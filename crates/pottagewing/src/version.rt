@@ -1,7 +1,7 @@
 // The version of the C face, raised whenever the signature of a call changes or calls are added: `PW_VERSION` of include/pottagewing.h.
 ghost use Rattle.std.specs.Prelude.{◌≡◌};
 
-#[derive(Drop)]
+#[derive(Clone, Copy)]
 pub struct Version;
 
 impl Version {

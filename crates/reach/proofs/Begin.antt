@@ -1,5 +1,5 @@
 -- How a run's loop begins: the entries are noted over the base and in the lent order list. Assumes nothing.
-use Prim.Native.Nat.{ℕ, ◌+◌, ◌-◌, ◌≤◌, zero_le}
+use Prim.Native.Nat.{ℕ, ◌+◌, ◌-◌, ◌≤◌, zero-le}
 use native.Mathlib.Omega.{arith}
 use mathlib.Core.Path.{◌≡◌, refl, sym, ap, ap₂, ◌∙◌}
 use mathlib.Core.List.{List}
@@ -47,8 +47,8 @@ module _ {G : Tracer} {entries base lent m₀ o₀ : List ℕ} {tail₀ : ℕ} (
     marks_long = refl;
     order_long = refl;
     begun = omega arith;
-    in_tail = zero_le;
-    in_limit = zero_le;
+    in_tail = zero-le;
+    in_limit = zero-le;
     counted = rw N.marks_are (omega (arith, tail_is, touched_note G.size entries base B.long));
     rest = refl;
     line = rw (begin_queue, N.marks_are) (line_start G entries base B);

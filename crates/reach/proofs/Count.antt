@@ -1,5 +1,5 @@
 -- Laws of counting the marks that pass a test. Assumes nothing.
-use Prim.Native.Nat.{ℕ, zero, suc, ◌+◌, ◌<◌, ◌≤◌, zero_le}
+use Prim.Native.Nat.{ℕ, zero, suc, ◌+◌, ◌<◌, ◌≤◌, zero-le}
 use native.Mathlib.Omega.{arith}
 use native.Mathlib.Nat.{not-suc-le-zero, le_of_suc-le-suc}
 use mathlib.Core.Bool.{Bool, true, false, cond, not}
@@ -25,7 +25,7 @@ one_touched v h = rw (ne_eqb v 0 h)
 
 pub count_le : (f : ℕ → Bool) (l : List ℕ) → count f l ≤ length l
 unfolding count
-count_le f [] = zero_le
+count_le f [] = zero-le
 count_le f (x ∷ l) = by (f x) (count_le f l)
   where
     by : (b : Bool) → count f l ≤ length l → one b + count f l ≤ suc (length l)

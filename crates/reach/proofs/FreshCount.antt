@@ -1,5 +1,5 @@
 -- How many positions noting makes wait, and what it does to a count of marks. Assumes nothing.
-use Prim.Native.Nat.{ℕ, suc, ◌+◌, ◌*◌, ◌≤◌, zero_le}
+use Prim.Native.Nat.{ℕ, suc, ◌+◌, ◌*◌, ◌≤◌, zero-le}
 use native.Mathlib.Omega.{arith}
 use native.Mathlib.Nat.{mul-suc}
 use mathlib.Core.Bool.{Bool}
@@ -16,7 +16,7 @@ use Rattle.reach.proofs.Note.{note_open, note_shut, note_nil, fresh_open, fresh_
 
 -- at most as many as were to be noted
 pub fresh_short : (n : ℕ) (ts m : List ℕ) → length (fresh n ts m) ≤ length ts
-fresh_short n [] m = rw fresh_nil zero_le
+fresh_short n [] m = rw fresh_nil zero-le
 fresh_short n (t ∷ ts) m = by (open_or_shut n m t) (λ (m' : List ℕ). fresh_short n ts m')
   where
     by : Decided (Open n m t) → ((m' : List ℕ) → length (fresh n ts m') ≤ length ts) → length (fresh n (t ∷ ts) m) ≤ suc (length ts)

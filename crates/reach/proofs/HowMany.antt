@@ -1,5 +1,5 @@
 -- Laws of counting the positions that pass a test. Assumes nothing.
-use Prim.Native.Nat.{ℕ, zero, suc, ◌+◌, ◌<◌, ◌≤◌, zero_le}
+use Prim.Native.Nat.{ℕ, zero, suc, ◌+◌, ◌<◌, ◌≤◌, zero-le}
 use native.Mathlib.Omega.{arith}
 use native.Mathlib.Nat.{not-suc-le-zero, le_of_suc-le-suc}
 use mathlib.Core.Bool.{Bool, true, false, ◌||◌}
@@ -32,7 +32,7 @@ one_or false b = omega arith
 -- what passes one of two tests
 pub many_or : (f g : ℕ → Bool) (k p : ℕ) → how_many (λ (q : ℕ). f q || g q) k p ≤ how_many f k p + how_many g k p
 unfolding how_many
-many_or f g zero p = zero_le
+many_or f g zero p = zero-le
 many_or f g (suc k) p = let r = many_or f g k (suc p) in let e = one_or (f p) (g p) in omega arith
 
 -- the marks of the first n positions that pass a test

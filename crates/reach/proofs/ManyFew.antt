@@ -1,5 +1,5 @@
 -- How many positions lie in a stretch, and are one position. Assumes nothing.
-use Prim.Native.Nat.{ℕ, zero, suc, ◌+◌, ◌-◌, ◌<◌, ◌≤◌, zero_le}
+use Prim.Native.Nat.{ℕ, zero, suc, ◌+◌, ◌-◌, ◌<◌, ◌≤◌, zero-le}
 use native.Mathlib.Omega.{arith}
 use mathlib.Core.Bool.{Bool, ◌&&◌}
 use mathlib.Core.Path.{◌≡◌}
@@ -19,7 +19,7 @@ module _ (a s : ℕ) where
   -- counted from p on, which lies in it or past it: those that are left
   left : (k p : ℕ) → a ≤ p → how_many in_stretch k p ≤ a + s - p
   unfolding how_many
-  left zero p h = zero_le
+  left zero p h = zero-le
   left (suc k) p h = by (lt_or_le p (a + s)) (left k (suc p) (omega arith))
     where
       by : (p < a + s) ⊎ (a + s ≤ p) → how_many in_stretch k (suc p) ≤ a + s - suc p → one (leb a p && ltb p (a + s)) + how_many in_stretch k (suc p) ≤ a + s - p
@@ -28,7 +28,7 @@ module _ (a s : ℕ) where
 
   pub few_in_stretch : (k p : ℕ) → how_many in_stretch k p ≤ s
   unfolding how_many
-  few_in_stretch zero p = zero_le
+  few_in_stretch zero p = zero-le
   few_in_stretch (suc k) p = by (lt_or_le p a) (few_in_stretch k (suc p)) (λ h. left (suc k) p h)
     where
       by : (p < a) ⊎ (a ≤ p) → how_many in_stretch k (suc p) ≤ s → (a ≤ p → how_many in_stretch (suc k) p ≤ a + s - p)

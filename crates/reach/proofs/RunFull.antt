@@ -1,5 +1,5 @@
 -- A run that notes as many positions as it can: each that it takes up has two targets. Assumes nothing.
-use Prim.Native.Nat.{ℕ, zero, suc, ◌+◌, ◌≤◌, zero_le}
+use Prim.Native.Nat.{ℕ, zero, suc, ◌+◌, ◌≤◌, zero-le}
 use native.Mathlib.Omega.{arith}
 use mathlib.Core.Bool.{true, false}
 use mathlib.Core.Path.{◌≡◌, ap, ◌∙◌}
@@ -34,7 +34,7 @@ module _ (G : Tracer) (two : (p : ℕ) → length (G.ways p) ≤ 2) where
       }
 
   ended : (limit : ℕ) (m : List ℕ) → Full G [] (run_from limit G [] m)
-  ended limit m = rw (run_finished G limit m) (record { most = zero_le; each = λ e q i. absurd (Memᴰ.not-nil i) })
+  ended limit m = rw (run_finished G limit m) (record { most = zero-le; each = λ e q i. absurd (Memᴰ.not-nil i) })
 
   pub run_full : (limit : ℕ) (queue m : List ℕ) → Full G queue (run_from limit G queue m)
   run_full zero [] m = ended zero m

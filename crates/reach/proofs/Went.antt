@@ -1,5 +1,5 @@
 -- What a run from a queue comes to, and its three ends. Assumes nothing.
-use Prim.Native.Nat.{ℕ, suc, ◌+◌, ◌<◌, ◌≤◌, zero_le}
+use Prim.Native.Nat.{ℕ, suc, ◌+◌, ◌<◌, ◌≤◌, zero-le}
 use native.Mathlib.Omega.{arith}
 use mathlib.Core.Bool.{false}
 use mathlib.Core.Path.{◌≡◌, refl, subst}
@@ -35,7 +35,7 @@ module _ (G : Tracer) (m : List ℕ) where
   went_finished limit L = rw (run_finished G limit m) (record {
     takes = stay;
     line = L;
-    in_limit = zero_le;
+    in_limit = zero-le;
     over = λ e. refl;
     short = λ e. let z : ◌≡◌ {A = ℕ} 0 1 = cc in absurd (omega arith);
     broken = λ p e. let z : ◌≡◌ {A = ℕ} 0 1 = cc in absurd (omega arith);
@@ -48,7 +48,7 @@ module _ (G : Tracer) (m : List ℕ) where
     went_stopped = rw (run_stopped G p queue m) (record {
       takes = stay;
       line = L;
-      in_limit = zero_le;
+      in_limit = zero-le;
       over = λ e. let z : ◌≡◌ {A = ℕ} 0 1 = cc in absurd (omega arith);
       short = λ e. (refl, omega arith);
       broken = λ q e. let z : ◌≡◌ {A = ℕ} 0 1 = cc in absurd (omega arith);
@@ -60,7 +60,7 @@ module _ (G : Tracer) (m : List ℕ) where
     went_cut limit f = rw (run_cut G p queue m limit f) (record {
       takes = stay;
       line = L;
-      in_limit = zero_le;
+      in_limit = zero-le;
       over = λ e. let z : ◌≡◌ {A = ℕ} 0 1 = cc in absurd (omega arith);
       short = λ e. let z : ◌≡◌ {A = ℕ} 0 1 = cc in absurd (omega arith);
       broken = λ q e. let x : p ≡ q = cc in subst (λ (y : ℕ). CutNext G (p ∷ queue) y) x (record { cut = f; queue = queue; next = refl });

@@ -9,7 +9,7 @@ use crate::turn::{Turn, read_on};
 use instruction::Mode;
 use targets::Image;
 
-#[derive(Drop)]
+#[derive(Clone, Copy)]
 pub enum Restored {
     // How many lines were read.
     Written(usize),

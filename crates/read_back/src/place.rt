@@ -4,7 +4,7 @@ ghost use Rattle.read_back.specs.Order.{start};
 
 // Where a line begins, its number from 1, and what the order of lines asks: the position and the letter of the line before, or a letter
 // that begins no line where there is none before.
-#[derive(Drop)]
+#[derive(Clone, Copy)]
 pub struct Place {
     pub at: usize,
     pub line: usize,
@@ -38,7 +38,7 @@ impl Place {
 }
 
 // What a line says: its letter, its position, and how many positions (`O`, `A`) or bytes (`I`, `D`) follow.
-#[derive(Drop)]
+#[derive(Clone, Copy)]
 pub struct Record {
     pub letter: u8,
     pub position: u32,

@@ -8,7 +8,7 @@ use instruction::Mode;
 use targets::Image;
 use text::cut;
 
-#[derive(Drop)]
+#[derive(Clone, Copy)]
 pub enum Read {
     // What the line at the place says, and the place after it.
     Line(Record, Place),

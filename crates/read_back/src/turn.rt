@@ -9,7 +9,7 @@ use crate::{laying, noted, read};
 use instruction::Mode;
 use text::bytes;
 
-#[derive(Drop)]
+#[derive(Clone, Copy)]
 pub enum Turn {
     // The place of the next line, and where what is listed ends.
     On(Place, usize),

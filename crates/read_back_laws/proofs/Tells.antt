@@ -2,7 +2,7 @@
 -- Assumes nothing.
 use mathlib.Core.Path.{◌≡◌, sym, ap, ◌∙◌}
 use mathlib.Core.Bool.{true, false}
-use mathlib.Core.List.{List, ◌∷◌, ◌++◌, map, map_append, append-nil}
+use mathlib.Core.List.{List, ◌∷◌, ◌++◌, map, map-append, append-nil}
 use Prim.Native.Nat.{ℕ, suc, ◌-◌, ◌<◌, ◌≤◌}
 use native.Mathlib.Omega.{arith}
 use lib.ListN.{length, get_or, set, take, replicate, length-map}
@@ -27,7 +27,7 @@ module _ (n : ℕ) (m : List ℕ) where
     one_more_lem : (v : ℕ) → told (get_or m p 0) ≡ v → map told (take p m) ++ v ∷ replicate (n - suc p) 0 ≡ told_to (suc p)
     one_more_lem v e =
         sym
-        (rw (take-suc m p 0 (omega arith), map_append, e) (append_snoc (map told (take p m)) v (replicate (n - suc p) 0)))
+        (rw (take-suc m p 0 (omega arith), map-append, e) (append_snoc (map told (take p m)) v (replicate (n - suc p) 0)))
 
     pub told_untouched : traced_mark (get_or m p 0) ≡ false → told_to p ≡ told_to (suc p)
     told_untouched t = seam ∙ one_more_lem untouched (rw t)

@@ -9,7 +9,7 @@ use instruction::Mode;
 use read_back::Place;
 use read_back::read::{Read, read_line};
 
-#[derive(Drop)]
+#[derive(Clone, Copy)]
 pub struct Reader<'a> {
     pub text: &'a [u8],
     pub place: Place,

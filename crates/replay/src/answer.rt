@@ -7,14 +7,14 @@ use crate::log::Log;
 use crate::next;
 use views::Viewed;
 
-#[derive(Drop)]
+#[derive(Clone, Copy)]
 pub struct Totals {
     pub lines: u64,
     pub interrupts: u64,
     pub free: u64,
 }
 
-#[derive(Drop)]
+#[derive(Clone, Copy)]
 pub enum Replayed {
     Told(Totals),
     // 1: the image's length.

@@ -9,7 +9,7 @@ use crate::{answer, feed};
 use instruction::Mode;
 
 // The record after a block, and what the block is answered with.
-#[derive(Drop)]
+#[derive(Clone, Copy)]
 pub struct Fed {
     pub log: Log,
     pub answer: Replayed,

@@ -2,7 +2,7 @@
 ghost use Rattle.std.specs.Prelude.{◌≡◌};
 ghost use Rattle.replay.specs.Log.{begun};
 
-#[derive(Drop)]
+#[derive(Clone, Copy)]
 pub struct Log {
     pub lines: u64,
     pub interrupts: u64,

@@ -8,7 +8,7 @@ use crate::entry;
 use instruction::Mode;
 use marks::Mark;
 
-#[derive(Drop)]
+#[derive(Clone, Copy)]
 pub enum Move {
     // To a target that the first position had.
     Target,

@@ -10,7 +10,7 @@ use list_text::rooms;
 use marks::Mark;
 
 // Bytes that are code, and those under more than one traced instruction.
-#[derive(Drop)]
+#[derive(Clone, Copy)]
 pub struct Tally {
     pub code: usize,
     pub shared: usize,

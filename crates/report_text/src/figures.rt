@@ -1,6 +1,6 @@
 // The figures of one image.
 
-#[derive(Drop)]
+#[derive(Clone, Copy)]
 pub struct Figures {
     pub length: u64,
     pub steps: u64,

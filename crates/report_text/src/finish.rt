@@ -8,7 +8,7 @@ use crate::{image, line, sums};
 use text::cut;
 
 // The record afterwards, and how many bytes were printed.
-#[derive(Drop)]
+#[derive(Clone, Copy)]
 pub struct Finished {
     pub term: Term,
     pub printed: usize,

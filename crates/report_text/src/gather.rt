@@ -7,7 +7,7 @@ use crate::term::Term;
 use crate::{copy, empty};
 use text::cut;
 
-#[derive(Drop)]
+#[derive(Clone, Copy)]
 pub struct Gathered {
     pub held: usize,
     // The next byte begins a line.

@@ -13,7 +13,7 @@ use list_text::{Parsed, rooms};
 use text::cut;
 use trace::Ran;
 
-#[derive(Drop)]
+#[derive(Clone, Copy)]
 pub enum Reported {
     Counted(Figures),
     // The number of a refusal: 13 or 5.

@@ -6,7 +6,7 @@ ghost use Rattle.report_text.specs.Sums.{no_sums, adding, fitting};
 use crate::figures::Figures;
 use crate::image::Reported;
 
-#[derive(Drop)]
+#[derive(Clone, Copy)]
 pub struct Sums {
     pub length: u64,
     pub steps: u64,

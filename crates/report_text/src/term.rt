@@ -10,7 +10,7 @@ use crate::sums::Sums;
 use crate::{finish, gather, line};
 use views::Viewed;
 
-#[derive(Drop)]
+#[derive(Clone, Copy)]
 pub struct Term {
     pub sums: Sums,
     // How many bytes of an image's text the room holds.
@@ -22,7 +22,7 @@ pub struct Term {
 }
 
 // What one call took: the record after it, how many bytes of the text, and how many bytes it printed.
-#[derive(Drop)]
+#[derive(Clone, Copy)]
 pub struct Taken {
     pub term: Term,
     pub used: usize,

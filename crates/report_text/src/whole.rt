@@ -51,7 +51,7 @@ fn more(n: usize, k: usize) -> usize
 }
 
 // What one call of `take` left, with the count so far.
-#[derive(Drop)]
+#[derive(Clone, Copy)]
 pub struct Progress {
     pub term: Term,
     pub used: usize,

@@ -15,7 +15,7 @@ use targets::Ways;
 use trace::Started;
 
 // The sweeps, the last one counted, and the steps.
-#[derive(Drop)]
+#[derive(Clone, Copy)]
 pub struct Tally {
     pub sweeps: u32,
     pub steps: u32,
@@ -29,7 +29,7 @@ impl Tally {
     }
 }
 
-#[derive(Drop)]
+#[derive(Clone, Copy)]
 pub enum Swept {
     // A sweep took none.
     Ended(Tally),

@@ -5,7 +5,7 @@ ghost use Rattle.sweep.specs.Way.{AllBelow, Joined};
 
 use targets::Places;
 
-#[derive(Drop)]
+#[derive(Clone, Copy)]
 pub struct Way {
     // How many positions were taken up.
     pub taken: u32,

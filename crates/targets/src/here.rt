@@ -5,7 +5,7 @@ ghost use Rattle.targets.specs.Here.{here_of};
 
 use instruction::{CutOff, Decoded, Instr, first};
 
-#[derive(Drop)]
+#[derive(Clone, Copy)]
 pub enum Here {
     Whole(Instr),
     // Cut off by the end.

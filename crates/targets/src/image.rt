@@ -1,6 +1,6 @@
 // The limit of an image.
 
-#[derive(Drop)]
+#[derive(Clone, Copy)]
 pub struct Image;
 
 impl Image {

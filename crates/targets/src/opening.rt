@@ -5,7 +5,7 @@ ghost use Rattle.targets.specs.Opening.{opening_of};
 use crate::image::Image;
 use instruction::{CutOff, FirstByte, Flow};
 
-#[derive(Drop)]
+#[derive(Clone, Copy)]
 pub enum Opening {
     // Where it ends.
     Whole(u32, Flow),

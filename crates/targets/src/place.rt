@@ -11,14 +11,14 @@ use crate::{name, opening, operand};
 use instruction::{CutOff, Flow, Mode};
 
 // At most two positions, in their order.
-#[derive(Drop)]
+#[derive(Clone, Copy)]
 pub enum Places {
     Nothing,
     First(u32),
     Both(u32, u32),
 }
 
-#[derive(Drop)]
+#[derive(Clone, Copy)]
 pub enum Ways {
     // The positions that the targets name.
     Goes(Places),

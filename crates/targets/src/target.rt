@@ -1,7 +1,7 @@
 // What is answered of the targets of an instruction.
 use instruction::Misfit;
 
-#[derive(Drop)]
+#[derive(Clone, Copy)]
 pub enum Targets {
     Nowhere,
     One(i32),

@@ -10,7 +10,7 @@ ghost use Rattle.marks.specs.Taken.{going_to};
 use marks::Mark;
 use targets::Places;
 
-#[derive(Drop)]
+#[derive(Clone, Copy)]
 pub enum Damage {
     Nowhere,
     // 6: the position.

@@ -11,7 +11,7 @@ use instruction::{CutOff, Mode};
 use targets::{Image, Ways};
 
 // The steps, and the positions noted.
-#[derive(Drop)]
+#[derive(Clone, Copy)]
 pub struct Counts {
     pub steps: u32,
     pub noted: u32,
@@ -25,7 +25,7 @@ impl Counts {
     }
 }
 
-#[derive(Drop)]
+#[derive(Clone, Copy)]
 pub enum Ran {
     // Nothing waiting.
     Finished(Counts),
@@ -42,7 +42,7 @@ pub enum Ran {
 }
 
 // The list's new end, or the instruction cut off.
-#[derive(Drop)]
+#[derive(Clone, Copy)]
 enum TookNext {
     On(usize),
     Off(CutOff),

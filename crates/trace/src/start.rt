@@ -6,7 +6,7 @@ ghost use Rattle.trace.specs.Start.{started_of, start_answer, start_marks};
 use crate::begin;
 use targets::Image;
 
-#[derive(Drop)]
+#[derive(Clone, Copy)]
 pub enum Started {
     // The number of positions set.
     Set(u32),

@@ -11,7 +11,7 @@ use marks::Mark;
 use targets::{Image, Places, Ways};
 
 // The new mark, and how many positions became waiting.
-#[derive(Drop)]
+#[derive(Clone, Copy)]
 pub struct Advance {
     pub mark: u8,
     pub waiting: u32,
@@ -25,7 +25,7 @@ impl Advance {
     }
 }
 
-#[derive(Drop)]
+#[derive(Clone, Copy)]
 pub enum Stepped {
     Traced(Advance),
     // 1: the image's length.

@@ -2,7 +2,7 @@
 ghost use Rattle.std.specs.Prelude.{◌≡◌};
 ghost use Rattle.unlist_text.specs.Number.{is_decimal, argument_of};
 
-#[derive(Drop)]
+#[derive(Clone, Copy)]
 pub enum Argument {
     Number(usize),
     // Not 1 to 9 decimal digits.

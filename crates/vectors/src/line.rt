@@ -6,7 +6,7 @@ pub const WIDTH: usize = 134;
 // No ten digits make this number.
 const NO_NUMBER: u64 = 0x100_0000_0000;
 
-#[derive(Drop)]
+#[derive(Clone, Copy)]
 enum Number {
     Is(i64),
     Malformed,

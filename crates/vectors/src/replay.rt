@@ -1,7 +1,7 @@
 // All lines of the list, one after the other.
 use crate::{calls, line};
 
-#[derive(Drop)]
+#[derive(Clone, Copy)]
 pub struct Tally {
     pub held: u64,
     pub all: u64,

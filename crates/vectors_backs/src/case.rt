@@ -3,7 +3,7 @@ ghost use Rattle.std.specs.Prelude.{◌≤◌};
 
 use crate::{number, part};
 
-#[derive(Drop)]
+#[derive(Clone, Copy)]
 pub struct Case {
     // Where its text ends.
     pub text: usize,

@@ -5,7 +5,7 @@ use crate::case::Case;
 use crate::{case, judge, number};
 use text::cut;
 
-#[derive(Drop)]
+#[derive(Clone, Copy)]
 pub struct Tally {
     pub held: u64,
     pub all: u64,

@@ -28,7 +28,7 @@ fn is_old(room: &[u8]) -> bool {
 }
 
 // What any of the calls answers.
-#[derive(Drop)]
+#[derive(Clone, Copy)]
 enum Answer {
     Written(usize),
     NoRoom(usize),

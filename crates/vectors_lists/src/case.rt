@@ -5,7 +5,7 @@ use crate::part::Written;
 use crate::{line, part};
 
 // What is given stands in one room: the input or the image, then the marks or the words, then the output's beginning.
-#[derive(Drop)]
+#[derive(Clone, Copy)]
 pub struct Case {
     // Where each of the three ends.
     pub input: usize,

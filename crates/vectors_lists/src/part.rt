@@ -3,7 +3,7 @@ ghost use Rattle.std.specs.Prelude.{◌≤◌};
 
 use crate::line;
 
-#[derive(Drop)]
+#[derive(Clone, Copy)]
 pub enum Written {
     AsText,
     InHex,

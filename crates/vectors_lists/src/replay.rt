@@ -2,7 +2,7 @@
 use crate::case::Case;
 use crate::{case, judge, line};
 
-#[derive(Drop)]
+#[derive(Clone, Copy)]
 pub struct Tally {
     pub held: u64,
     pub all: u64,

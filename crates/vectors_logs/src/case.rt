@@ -5,7 +5,7 @@ use crate::wanted::Wanted;
 use crate::{counts, number, part};
 use instruction::Mode;
 
-#[derive(Drop)]
+#[derive(Clone, Copy)]
 pub struct Case {
     // Where its log ends.
     pub text: usize,

@@ -2,7 +2,7 @@
 use replay::{Replayed, Totals};
 
 // The letter says which answer is meant, and the numbers what it holds.
-#[derive(Drop)]
+#[derive(Clone, Copy)]
 pub struct Wanted {
     pub letter: u8,
     pub a: u64,

@@ -6,7 +6,7 @@ use report_text::{Term, term};
 use views::Viewed;
 
 // The record after a block, and where what was printed ends.
-#[derive(Drop)]
+#[derive(Clone, Copy)]
 struct Fed {
     term: Term,
     to: usize,

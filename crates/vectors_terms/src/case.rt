@@ -4,7 +4,7 @@ ghost use Rattle.std.specs.Prelude.{◌≤◌};
 use crate::{line, part};
 
 // What is given stands in one room: the text, then the output's beginning.
-#[derive(Drop)]
+#[derive(Clone, Copy)]
 pub struct Case {
     // Where each of the two ends.
     pub text: usize,

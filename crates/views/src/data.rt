@@ -3,7 +3,7 @@
 ghost use Rattle.std.specs.Prelude.{◌≡◌, ◌+◌, ◌≤◌, length};
 ghost use Rattle.views.specs.DataRun.{data_run, is_data, run_length};
 
-#[derive(Drop)]
+#[derive(Clone, Copy)]
 pub struct DataRun;
 
 impl DataRun {

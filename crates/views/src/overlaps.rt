@@ -9,7 +9,7 @@ use crate::{traced, view};
 use targets::Image;
 
 // At most three positions, in their order.
-#[derive(Drop)]
+#[derive(Clone, Copy)]
 pub enum Overlaps {
     Nothing,
     One(u32),

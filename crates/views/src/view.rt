@@ -6,7 +6,7 @@ ghost use Rattle.views.specs.View.{is_written, viewed_of, view_refusals};
 use crate::damage;
 use targets::Image;
 
-#[derive(Drop)]
+#[derive(Clone, Copy)]
 pub enum Viewed {
     // How much was written.
     Written(usize),
