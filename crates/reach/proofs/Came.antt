@@ -33,7 +33,7 @@ module _ {limit : ℕ} {G : Tracer} {entries base lent m₀ o₀ : List ℕ} {ta
   under = omega (arith, stand_tail (marks_fit B room N) (order_fits B room N) S, S.order_long, order_fits B room N)
 
   all_noted : take head o ++ queue ≡ take tail o
-  all_noted = ap (λ (x : List ℕ). x ++ queue) (sym (take-take head tail o S.in_Tail)) ∙ take-append-drop head (take tail o)
+  all_noted = ap (λ (x : List ℕ). x ++ queue) (sym (take-take head tail o S.in_tail)) ∙ take-append-drop head (take tail o)
 
   same_order : sets lent 0 (take tail o) ≡ o
   same_order =
@@ -51,7 +51,7 @@ module _ {limit : ℕ} {G : Tracer} {entries base lent m₀ o₀ : List ℕ} {ta
       ∙ ap (λ (l : List ℕ). record { end = e; taken = l; left = queue; marks = m }) (append-nil (take head o)) in
       rw out-is (record {
         end_is = refl;
-        steps_are = sym (length-take-le head o (omega (arith, S.in_Tail, under)));
+        steps_are = sym (length-take-le head o (omega (arith, S.in_tail, under)));
         noted_are = sym (ap length all_noted ∙ length-take-le tail o under);
         marks_are = refl;
         order_is = sym (ap (sets lent 0) all_noted ∙ same_order);

@@ -58,7 +58,7 @@ module _ (G : Tracer) (lo hi : ℕ → List ℕ) (base entries : List ℕ) (W : 
 
     follows : (a q : ℕ) → a < G.size → IsTraced (get_or (took G m p) a 0) → Among q (lo a) → Open G.size base q → Moved G m p a
         → get_or (took G m p) q 0 ≢ 0
-    follows a q h t i o (itself e x) = led q (W.at_least_lem m p q (subst (λ (y : ℕ). Among q (lo y)) e i)) o (at q)
+    follows a q h t i o (itself e x) = led q (W.at_least m p q (subst (λ (y : ℕ). Among q (lo y)) e i)) o (at q)
     follows a q h t i o (kept ne f x) = stays q (at q) (S.closed a q h (subst IsTraced x t) i o)
     follows a q h t i o (called ne j u x) = absurd (waits_not x t)
 

@@ -18,54 +18,54 @@ use Rattle.marks.proofs.flash.is_flash.Tie as tie
 abbrev image : tie.Start → List ℕ
 image s = s.args.image.now
 
-returns : tie.Need-returns
+returns : tie.Need-returns-then-at-lt2
 unfolding flash_here
-returns c = rw (lt-leb 2 c.before.args.p c.if1.true)
+returns c = rw (lt-leb 2 c.args.p c.if-at-lt2.true)
 
 -- past the end a byte counts as 0, which is no Jmpf
-returns-2 : tie.Need-returns-2
+returns-2 : tie.Need-returns-then-image-at
 unfolding flash_here
 returns-2 c =
     let e = c.before in
     let s = e.before in
-    let z : get_or (image s) s.args.p 0 ≡ 0 = get_or-eq_default (image s) 0 c.if2.true in
-    rw (le-leb 2 s.args.p e.if1.false, z, jmpf_not 0 (omega arith) (λ e. omega arith))
+    let z : get_or (image s) s.args.p 0 ≡ 0 = get_or-eq_default (image s) 0 c.if-image-at.true in
+    rw (le-leb 2 s.args.p e.if-at-lt2.false, z, jmpf_not 0 (omega arith) (λ e. omega arith))
 
 -- the first tests are passed
-begun : (c : tie.Else3) → (leb 2 c.before.before.before.before.args.p ≡ true)
-    × (eqb (form_of (get_or (image c.before.before.before.before) c.before.before.before.before.args.p 0)) (form_named "Jmpf") ≡ true)
+begun : (c : tie.Else-image-at-ne33) → (leb 2 c.args.p ≡ true)
+    × (eqb (form_of (get_or (image c.before.before.before.before) c.args.p 0)) (form_named "Jmpf") ≡ true)
 begun c =
     let k = c.before in
     let e = k.before.before in
     let s = e.before in
-    let h : get_or (image s) s.args.p 0 < 256 = (k.shared-slice-known.given s.args.p).fits in
-    (le-leb 2 s.args.p e.if1.false, jmpf_is (get_or (image s) s.args.p 0) h c.if3.false)
+    let h : get_or (image s) s.args.p 0 < 256 = (k.shared_slice_known-1.given s.args.p).fits in
+    (le-leb 2 s.args.p e.if-at-lt2.false, jmpf_is (get_or (image s) s.args.p 0) h c.if-image-at-ne33.false)
 
-returns-3 : tie.Need-returns-3
+returns-3 : tie.Need-returns-then-image-at-ne33
 unfolding flash_here
 returns-3 c =
     let k = c.before in
     let e = k.before.before in
     let s = e.before in
-    let h : get_or (image s) s.args.p 0 < 256 = (k.shared-slice-known.given s.args.p).fits in
-    rw (le-leb 2 s.args.p e.if1.false, jmpf_not (get_or (image s) s.args.p 0) h c.if3.true)
+    let h : get_or (image s) s.args.p 0 < 256 = (k.shared_slice_known-1.given s.args.p).fits in
+    rw (le-leb 2 s.args.p e.if-at-lt2.false, jmpf_not (get_or (image s) s.args.p 0) h c.if-image-at-ne33.true)
 
-returns-4 : tie.Need-returns-4
+returns-4 : tie.Need-returns-then-image-at-2
 unfolding flash_here
 returns-4 c =
     let e = c.before.before in
     let s = e.before.before.before.before in
-    rw ((begun e).0, (begun e).1, ne_eqb (get_or (image s) (s.args.p - 2) 0) 0xB8 c.if4.true)
+    rw ((begun e).0, (begun e).1, ne_eqb (get_or (image s) (s.args.p - 2) 0) 0xB8 c.if-image-at-2.true)
 
-returns-5 : tie.Need-returns-5
+returns-5 : tie.Need-returns
 unfolding flash_here
 returns-5 c =
     let l = c.before in
     let e = l.before.before in
     let s = e.before.before.before.before in
-    rw ((begun e).0, (begun e).1, eq-eqb (get_or (image s) (s.args.p - 2) 0) 0xB8 l.if4.false)
+    rw ((begun e).0, (begun e).1, eq-eqb (get_or (image s) (s.args.p - 2) 0) 0xB8 l.if-image-at-2.false)
 
-pub is-flash-spec : {M : Type 1} → statement M
-is-flash-spec =
+pub is_flash_spec : {M : Type 1} → statement M
+is_flash_spec =
     tie.close
     (tie.spec returns returns-2 (λ c. search rules) returns-3 (λ c. search rules) returns-4 (λ c. search rules) (λ c. search rules) returns-5)

@@ -23,14 +23,14 @@ one : (n q : ℕ) (m : List ℕ) → q < n → set m q pinned ≡ pin n (q ∷ [
 unfolding pin
 one n q m h = rw (lt-ltb q n h)
 
-returns : tie.Need-returns
-returns c = let a = c.before.args in past a.n a.q a.marks.now c.if1.true
+returns : tie.Need-returns-then-n-at
+returns c = let a = c.args in past a.n a.q a.marks.now c.if-n-at.true
 
-returns-2 : tie.Need-returns-2
-returns-2 c = let a = c.before.before.args in none a.n a.q a.marks.now c.before.if1.false c.if2.true
+returns-2 : tie.Need-returns-then-marks-at
+returns-2 c = let a = c.args in none a.n a.q a.marks.now c.if-n-at.false c.if-marks-at.true
 
-returns-3 : tie.Need-returns-3
-returns-3 c = let e = c.before in let a = e.before.args in one a.n a.q a.marks.now e.if1.false
+returns-3 : tie.Need-returns
+returns-3 c = let e = c.before in let a = e.args in one a.n a.q a.marks.now e.if-n-at.false
 
-pub pin-one-spec : {M : Type 1} → statement M
-pin-one-spec = tie.close (tie.spec returns returns-2 (λ c. search rules) (λ c. search rules) returns-3)
+pub pin_one_spec : {M : Type 1} → statement M
+pin_one_spec = tie.close (tie.spec returns returns-2 (λ c. search rules) (λ c. search rules) returns-3)

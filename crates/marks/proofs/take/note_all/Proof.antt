@@ -16,27 +16,27 @@ said : (n : ℕ) (m : List ℕ) {w w' : Places} (r m' : List ℕ) → w ≡ w' �
     → (r ≡ fresh n (places_in w) m) × (m' ≡ note n (places_in w) m)
 said n m r m' e p = rw e p
 
-returns : tie.Need-returns
+returns : tie.Need-returns-in-Nothing
 returns c =
-    let a = c.before.before.before.args in
-    said a.n a.marks.now _ _ c.enum_told.given.1 (sym (fresh_nil a.n a.marks.now), sym (note_nil a.n a.marks.now))
+    let a = c.args in
+    said a.n a.marks.now _ _ c.in-Nothing.is (sym (fresh_nil a.n a.marks.now), sym (note_nil a.n a.marks.now))
 
-returns-2 : tie.Need-returns-2
+returns-2 : tie.Need-returns-in-First
 returns-2 c =
     let o = c.before.before in
-    let w = o.before.before.before in
-    let a = w.before.before.before.args in
-    said a.n a.marks.now _ _ w.ps.given.1 o.note-place.ensures
+    let w = o.before.before in
+    let a = w.args in
+    said a.n a.marks.now _ _ w.in-First.is o.note_place.ensures
 
-returns-3 : tie.Need-returns-3
+returns-3 : tie.Need-returns-in-Both
 returns-3 c =
     let o = c.before.before in
-    let w = o.before.before.before in
-    let a = w.before.before.before.args in
-    said a.n a.marks.now _ _ w.ps2.given.1 o.note-both.ensures
+    let w = o.before.before in
+    let a = w.args in
+    said a.n a.marks.now _ _ w.in-Both.is o.note_both.ensures
 
-pub note-all-spec : {M : Type 1} → statement M
-note-all-spec =
+pub note_all_spec : {M : Type 1} → statement M
+note_all_spec =
     tie.close
     (tie.spec (λ c. search rules) (λ c. search rules) (λ c κs. search rules) (λ c. search rules) (λ c κs. search rules) returns
     (λ c. search rules) returns-2 (λ c. search rules) returns-3)

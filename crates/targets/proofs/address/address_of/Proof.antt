@@ -23,9 +23,9 @@ answered : (c : tie.Start) {k : Kind} → c.args.kind ≡ k → {r : ℤ} → Re
     → to_z w32 (of_z w32 r) ≡ address_of c.args.mode c.args.next c.args.kind c.args.z
 answered c e f g = f ∙ at c e g
 
-pub address-of-spec : {M : Type 1} → statement M
+pub address_of_spec : {M : Type 1} → statement M
 unfolding address_of
-address-of-spec =
+address_of_spec =
     tie.close
     (tie.spec
     (λ c. search rules)
@@ -34,18 +34,18 @@ address-of-spec =
     (λ c. search rules)
     (λ c. search rules)
     (λ c. search rules)
-    (λ c κs. (c.before.before.requires.1, fitting c.before.before c.enum-told6.given.1))
+    (λ c κs. (c.requires.1, fitting c.before c.in-Page.is))
     (λ c. search rules)
     (λ c. search rules)
-    (λ c κs. (c.before.before.requires.1, fitting c.before.before c.enum-told8.given.1))
+    (λ c κs. (c.requires.1, fitting c.before c.in-Short.is))
     (λ c. search rules)
-    (λ c κs. (c.before.before.requires.0, c.before.before.requires.1, fitting c.before.before c.enum-told9.given.1))
-    (λ c. at c.before.before c.enum_told.given.1 refl)
-    (λ c. at c.before.before c.enum-told2.given.1 refl)
-    (λ c. at c.before.before c.enum-told3.given.1 refl)
-    (λ c. at c.before.before c.enum-told4.given.1 refl)
-    (λ c. at c.before.before c.enum-told5.given.1 refl)
-    (λ c. answered c.before.before.before c.before.enum-told6.given.1 (search rules) c.page.ensures)
-    (λ c. at c.before.before c.enum-told7.given.1 refl)
-    (λ c. answered c.before.before.before c.before.enum-told8.given.1 (search rules) c.short.ensures)
-    (λ c. answered c.before.before.before c.before.enum-told9.given.1 (search rules) c.long.ensures))
+    (λ c κs. (c.requires.0, c.requires.1, fitting c.before c.in-Long.is))
+    (λ c. at c.before c.in-Absent.is refl)
+    (λ c. at c.before c.in-Immediate.is refl)
+    (λ c. at c.before c.in-Direct.is refl)
+    (λ c. at c.before c.in-Register.is refl)
+    (λ c. at c.before c.in-BitNumber.is refl)
+    (λ c. answered c.before.before c.in-Page.is (search rules) c.page.ensures)
+    (λ c. at c.before c.in-Far.is refl)
+    (λ c. answered c.before.before c.in-Short.is (search rules) c.short.ensures)
+    (λ c. answered c.before.before c.in-Long.is (search rules) c.long.ensures))

@@ -13,16 +13,16 @@ at : (c : tie.Start) {o : Mode} → c.args.mode ≡ o → in_mode o c.args.t ≡
 at c e = ap (λ (o : Mode). in_mode o c.args.t) (sym e)
 
 wrap-requires : tie.Need-wrap-requires
-wrap-requires c κs = rw (back c.before.before.ranges.t) c.before.before.requires
+wrap-requires c κs = rw (back c.ranges.t) c.requires
 
-returns : tie.Need-returns
-returns c = back c.before.before.ranges.t ∙ at c.before.before c.enum_told.given.1
+returns : tie.Need-returns-in-Unwrapped
+returns c = back c.ranges.t ∙ at c.before c.in-Unwrapped.is
 
-returns-2 : tie.Need-returns-2
+returns-2 : tie.Need-returns-in-Wrapping
 returns-2 c =
-    let s = c.before.before.before in
+    let s = c.before.before in
     let f : Read c.wrap.result = search rules in
-    f ∙ (rw (back s.ranges.t) at c.wrap.ensures) ∙ at s c.before.enum-told2.given.1
+    f ∙ (rw (back s.ranges.t) at c.wrap.ensures) ∙ at s c.in-Wrapping.is
 
-pub in-mode-spec : {M : Type 1} → statement M
-in-mode-spec = tie.close (tie.spec (λ c. search rules) (λ c. search rules) wrap-requires returns returns-2)
+pub in_mode_spec : {M : Type 1} → statement M
+in_mode_spec = tie.close (tie.spec (λ c. search rules) (λ c. search rules) wrap-requires returns returns-2)

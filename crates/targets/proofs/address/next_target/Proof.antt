@@ -7,17 +7,17 @@ use Rattle.targets.proofs.Wrapping.{next_near}
 use Rattle.targets.proofs.address.next_target.Statement.{statement}
 use Rattle.targets.proofs.address.next_target.Tie as tie
 
-next_is : (c : tie.After-signed) → to_z w32 (of_z w32 c.signed.result) ≡ pos c.before.args.next
+next_is : (c : tie.After-signed) → to_z w32 (of_z w32 c.signed.result) ≡ pos c.args.next
 next_is c = let f : Read c.signed.result = search rules in f ∙ c.signed.ensures
 
-in-mode-requires : tie.Need-in-mode-requires
-in-mode-requires c κs = rw (next_is c) (next_near c.before.args.next c.before.requires)
+in-mode-requires : tie.Need-in_mode-requires
+in-mode-requires c κs = rw (next_is c) (next_near c.args.next c.requires)
 
 returns : tie.Need-returns
 returns c =
     let s = c.before in
-    let f : Read c.in-mode.result = search rules in
-    f ∙ c.in-mode.ensures ∙ ap (in_mode s.before.args.mode) (next_is s)
+    let f : Read c.in_mode.result = search rules in
+    f ∙ c.in_mode.ensures ∙ ap (in_mode s.args.mode) (next_is s)
 
-pub next-target-spec : {M : Type 1} → statement M
-next-target-spec = tie.close (tie.spec (λ c κs. search rules) in-mode-requires returns)
+pub next_target_spec : {M : Type 1} → statement M
+next_target_spec = tie.close (tie.spec (λ c κs. search rules) in-mode-requires returns)

@@ -9,22 +9,22 @@ use Rattle.targets.proofs.Wrapping.{sum_near}
 use Rattle.targets.proofs.address.short.Statement.{statement}
 use Rattle.targets.proofs.address.short.Tie as tie
 
-add-sum : tie.Need-overflow-add-sum
+add-sum : tie.Need-overflow_add-sum
 add-sum c = short_fits c.args.next c.args.z _ (back c.ranges.z) c.requires.0 c.requires.1
 
 -- the sum, as the code has it
 sum : (c : tie.Start) → to_z w32 (of_z w32 (to_z w32 c.args.next +ℤ to_z w32 (of_z w32 c.args.z))) ≡ pos c.args.next +ℤ c.args.z
 sum c = short_is c.args.next c.args.z _ (back c.ranges.z) c.requires.0 c.requires.1
 
-in-mode-requires : tie.Need-in-mode-requires
+in-mode-requires : tie.Need-in_mode-requires
 in-mode-requires c κs = rw (sum c) (sum_near c.args.next c.args.z c.requires.0 c.requires.1)
 
 returns : tie.Need-returns
 unfolding address_of
 returns c =
     let s = c.before in
-    let f : Read c.in-mode.result = search rules in
-    f ∙ c.in-mode.ensures ∙ ap (in_mode s.args.mode) (sum s)
+    let f : Read c.in_mode.result = search rules in
+    f ∙ c.in_mode.ensures ∙ ap (in_mode s.args.mode) (sum s)
 
-pub short-spec : {M : Type 1} → statement M
-short-spec = tie.close (tie.spec (λ c. search rules) add-sum in-mode-requires returns)
+pub short_spec : {M : Type 1} → statement M
+short_spec = tie.close (tie.spec (λ c. search rules) add-sum in-mode-requires returns)

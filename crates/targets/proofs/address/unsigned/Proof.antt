@@ -6,8 +6,8 @@ use Rattle.instruction.proofs.FieldSign.{cast_pos}
 use Rattle.targets.proofs.address.unsigned.Statement.{statement}
 use Rattle.targets.proofs.address.unsigned.Tie as tie
 
-cast-result : tie.Need-overflow-cast-result
+cast-result : tie.Need-overflow_cast-result
 cast-result c = rw (back c.ranges.z) (cast_pos c.args.z c.requires c.ranges.z)
 
-pub unsigned-spec : {M : Type 1} → statement M
-unsigned-spec = tie.close (tie.spec cast-result (λ c. search rules))
+pub unsigned_spec : {M : Type 1} → statement M
+unsigned_spec = tie.close (tie.spec cast-result (λ c. search rules))

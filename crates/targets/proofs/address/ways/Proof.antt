@@ -9,16 +9,16 @@ use Rattle.targets.proofs.address.ways.Statement.{statement}
 use Rattle.targets.proofs.address.ways.Tie as tie
 
 abbrev Targets : tie.After-flow → List ℤ → Type 0
-Targets c ts = ts ≡ targets_in c.before.args.mode c.before.args.next c.before.args.instr
+Targets c ts = ts ≡ targets_in c.args.mode c.args.next c.args.instr
 
 -- the targets at the flow that the arm has
 at : (c : tie.After-flow) {f : Flow} → c.flow.result ≡ f
-    → Targets c (by_flow f (address_in c.before.args.mode c.before.args.next c.before.args.instr)
-    (in_mode c.before.args.mode (pos c.before.args.next)))
+    → Targets c (by_flow f (address_in c.args.mode c.args.next c.args.instr)
+    (in_mode c.args.mode (pos c.args.next)))
 unfolding targets_in
 at c e =
-    ap (λ (g : Flow). by_flow g (address_in c.before.args.mode c.before.args.next c.before.args.instr)
-    (in_mode c.before.args.mode (pos c.before.args.next)))
+    ap (λ (g : Flow). by_flow g (address_in c.args.mode c.args.next c.args.instr)
+    (in_mode c.args.mode (pos c.args.next)))
     (sym e ∙ c.flow.ensures)
 
 -- a target read back from the machine's number
@@ -28,28 +28,28 @@ one p q e = cc
 two : {x y z x' y' z' : ℤ} {ts : List ℤ} → x ≡ y → y ≡ z → x' ≡ y' → y' ≡ z' → z ∷ z' ∷ [] ≡ ts → accepted (x ∷ x' ∷ []) ≡ accepted ts
 two p q p' q' e = cc
 
-returns : tie.Need-returns
-returns c = ap accepted (at c.before.before c.enum_told.given.1)
+returns : tie.Need-returns-in-Stop
+returns c = ap accepted (at c.before c.in-Stop.is)
 
-returns-2 : tie.Need-returns-2
+returns-2 : tie.Need-returns-in-Next
 returns-2 c =
-    let f : Read c.next-target.result = search rules in
-    one f c.next-target.ensures (at c.before.before.before c.before.enum-told2.given.1)
+    let f : Read c.next_target.result = search rules in
+    one f c.next_target.ensures (at c.before.before c.in-Next.is)
 
-returns-3 : tie.Need-returns-3
+returns-3 : tie.Need-returns-in-Jump
 returns-3 c =
-    let f : Read c.address-in.result = search rules in
-    one f c.address-in.ensures (at c.before.before.before c.before.enum-told3.given.1)
+    let f : Read c.address_in.result = search rules in
+    one f c.address_in.ensures (at c.before.before c.in-Jump.is)
 
-returns-4 : tie.Need-returns-4
+returns-4 : tie.Need-returns-in-Branch
 returns-4 c =
     let a = c.before in
-    let f : Read a.address-in2.result = search rules in
-    let g : Read c.next-target2.result = search rules in
-    two f a.address-in2.ensures g c.next-target2.ensures (at a.before.before.before a.before.enum-told4.given.1)
+    let f : Read a.address_in-in-Branch.result = search rules in
+    let g : Read c.next_target-in-Branch.result = search rules in
+    two f a.address_in-in-Branch.ensures g c.next_target-in-Branch.ensures (at a.before.before a.in-Branch.is)
 
-pub ways-spec : {M : Type 1} → statement M
-ways-spec =
+pub ways_spec : {M : Type 1} → statement M
+ways_spec =
     tie.close
     (tie.spec (λ c κs. search rules) (λ c. search rules) (λ c. search rules) (λ c κs. search rules) (λ c. search rules)
     (λ c κs. search rules) (λ c. search rules) (λ c κs. search rules) (λ c κs. search rules) returns returns-2 returns-3 returns-4)

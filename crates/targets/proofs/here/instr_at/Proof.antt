@@ -6,38 +6,38 @@ use Rattle.targets.proofs.HereIs.{to_end, outside_here, whole_here, cut_here, ne
 use Rattle.targets.proofs.here.instr_at.Statement.{statement}
 use Rattle.targets.proofs.here.instr_at.Tie as tie
 
-returns : tie.Need-returns
-returns c = let a = c.before.before.args in outside_here a.image.now a.p c.if1.true
+returns : tie.Need-returns-then-image-at
+returns c = let a = c.args in outside_here a.image.now a.p c.if-image-at.true
 
 decoded : (d : tie.After-decode)
-    → decoded_of d.decode.result ≡ decode_answer (drop d.before.before.before.before.args.p d.before.before.before.before.args.image.now)
+    → decoded_of d.decode.result ≡ decode_answer (drop d.args.p d.args.image.now)
 decoded d =
-    let a = d.before.before.before.before.args in d.decode.ensures ∙ ap decode_answer (to_end a.image.now a.p)
+    let a = d.args in d.decode.ensures ∙ ap decode_answer (to_end a.image.now a.p)
 
-returns-2 : tie.Need-returns-2
+returns-2 : tie.Need-returns-in-Found
 returns-2 c =
-    let d = c.before.before.before in
+    let d = c.before in
     let e = d.before.before in
-    let a = e.before.before.args in
-    whole_here a.image.now a.p e.if1.false c.before.i.given.0.0 (ap decoded_of (sym c.before.i.given.1) ∙ decoded d)
+    let a = e.args in
+    whole_here a.image.now a.p e.if-image-at.false c.in-Found.i (ap decoded_of (sym c.in-Found.is) ∙ decoded d)
 
-returns-3 : tie.Need-returns-3
+returns-3 : tie.Need-returns-in-Cut
 returns-3 c =
-    let k = c.before.before in
-    let d = k.before.before in
+    let k = c.before in
+    let d = k.before in
     let e = d.before.before in
-    let a = e.before.before.args in
-    cut_here a.image.now a.p e.if1.false k.c.given.0.0 c.new.result (ap decoded_of (sym k.c.given.1) ∙ decoded d) c.new.ensures
+    let a = e.args in
+    cut_here a.image.now a.p e.if-image-at.false k.in-Cut.c c.new.result (ap decoded_of (sym k.in-Cut.is) ∙ decoded d) c.new.ensures
 
-returns-4 : tie.Need-returns-4
+returns-4 : tie.Need-returns-in-Nothing
 returns-4 c =
-    let d = c.before.before in
+    let d = c.before in
     let e = d.before.before in
-    let a = e.before.before.args in
-    absurd (never_nothing a.image.now a.p e.if1.false (ap decoded_of (sym c.enum_told.given.1) ∙ decoded d))
+    let a = e.args in
+    absurd (never_nothing a.image.now a.p e.if-image-at.false (ap decoded_of (sym c.in-Nothing.is) ∙ decoded d))
 
-pub instr-at-spec : {M : Type 1} → statement M
-instr-at-spec =
+pub instr_at_spec : {M : Type 1} → statement M
+instr_at_spec =
     tie.close
     (tie.spec returns (λ c. search rules) (λ c. search rules) (λ c. search rules) (λ c κs. search rules) (λ c. search rules)
     (λ c. search rules) (λ c κs. search rules) (λ c. search rules) returns-2 returns-3 returns-4)

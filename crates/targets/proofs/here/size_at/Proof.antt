@@ -12,10 +12,10 @@ past : 1 ≡ size_of (form_at (form_of 0))
 unfolding forms form_at form_of pattern pattern_bytes onto bits_given next_bracket
 past = refl
 
-returns : tie.Need-returns
+returns : tie.Need-returns-then-image-at
 returns c =
-    let a = c.before.before.args in
-    past ∙ ap (λ (x : ℕ). size_of (form_at (form_of x))) (sym (get_or-eq_default a.image.now 0 c.if1.true))
+    let a = c.args in
+    past ∙ ap (λ (x : ℕ). size_of (form_at (form_of x))) (sym (get_or-eq_default a.image.now 0 c.if-image-at.true))
 
-pub size-at-spec : {M : Type 1} → statement M
-size-at-spec = tie.close (tie.spec returns (λ c. search rules) (λ c κs. search rules) (λ c. c.size-by.ensures))
+pub size_at_spec : {M : Type 1} → statement M
+size_at_spec = tie.close (tie.spec returns (λ c. search rules) (λ c κs. search rules) (λ c. c.size_by.ensures))

@@ -14,24 +14,24 @@ at : (c : tie.Start) {o : Mode} → c.args.mode ≡ o → {r : ℕ} → r ≡ pl
     → r ≡ place_of (in_mode c.args.mode (pos c.args.next +ℤ short_of c.args.offset))
 at c e f = f ∙ ap (λ (o : Mode). place_of (in_mode o (pos c.args.next +ℤ short_of c.args.offset))) (sym e)
 
-returns : tie.Need-returns
+returns : tie.Need-returns-then-more-lt128
 returns c =
     let e = c.before in
-    let s = e.before.before in
-    at s e.enum_told.given.1 (below s.args.next s.args.offset s.ranges.offset.fits c.if1.true)
+    let s = e.before in
+    at s e.in-Unwrapped.is (below s.args.next s.args.offset s.ranges.offset.fits c.if-more-lt128.true)
 
-returns-2 : tie.Need-returns-2
+returns-2 : tie.Need-returns-else-more-lt128
 returns-2 c =
     let e = c.before in
-    let s = e.before.before in
-    at s e.enum_told.given.1 (not_below s.args.next s.args.offset s.ranges.offset.fits c.if1.false)
+    let s = e.before in
+    at s e.in-Unwrapped.is (not_below s.args.next s.args.offset s.ranges.offset.fits c.if-more-lt128.false)
 
-returns-3 : tie.Need-returns-3
+returns-3 : tie.Need-returns-in-Wrapping
 returns-3 c =
-    let s = c.before.before in
-    at s c.enum-told2.given.1 (around s.args.next s.args.offset s.ranges.offset.fits)
+    let s = c.before in
+    at s c.in-Wrapping.is (around s.args.next s.args.offset s.ranges.offset.fits)
 
-pub short-spec : {M : Type 1} → statement M
-short-spec =
+pub short_spec : {M : Type 1} → statement M
+short_spec =
     tie.close
     (tie.spec (λ c. search rules) (λ c. search rules) (λ c. search rules) returns (λ c. search rules) (λ c. search rules) returns-2 returns-3)

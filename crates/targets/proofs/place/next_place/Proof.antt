@@ -10,8 +10,8 @@ use Rattle.targets.proofs.place.next_place.Tie as tie
 at : (n : ℕ) {o o' : Mode} → o ≡ o' → place_of (in_mode o' (pos n)) ≡ place_of (in_mode o (pos n))
 at n e = ap (λ (m : Mode). place_of (in_mode m (pos n))) (sym e)
 
-pub next-place-spec : {M : Type 1} → statement M
-next-place-spec =
+pub next_place_spec : {M : Type 1} → statement M
+next_place_spec =
     tie.close
-    (tie.spec (λ c. search rules) (λ c. search rules) (λ c. at c.before.before.args.next c.enum_told.given.1)
-    (λ c. at c.before.before.args.next c.enum-told2.given.1))
+    (tie.spec (λ c. search rules) (λ c. search rules) (λ c. at c.args.next c.in-Unwrapped.is)
+    (λ c. at c.args.next c.in-Wrapping.is))

@@ -19,15 +19,15 @@ at : (z : ℤ) → lt_z z (pos 0) ≡ false → nat_abs z ≡ place_of z
 at (pos n) e = refl
 at (negsuc n) e = absurd (never e)
 
-returns : tie.Need-returns
-returns c = below c.before.args.t (rw (back c.before.ranges.t) at c.if1.true)
+returns : tie.Need-returns-then-t-lt0
+returns c = below c.args.t (rw (back c.ranges.t) at c.if-t-lt0.true)
 
-cast-result : tie.Need-overflow-cast-result
+cast-result : tie.Need-overflow_cast-result
 cast-result c =
-    let y = back c.before.ranges.t in rw y (cast c.before.args.t (rw y at c.if1.false) c.before.ranges.t)
+    let y = back c.ranges.t in rw y (cast c.args.t (rw y at c.if-t-lt0.false) c.ranges.t)
 
-returns-2 : tie.Need-returns-2
-returns-2 c = let y = back c.before.ranges.t in rw y (at c.before.args.t (rw y at c.if1.false))
+returns-2 : tie.Need-returns
+returns-2 c = let y = back c.ranges.t in rw y (at c.args.t (rw y at c.if-t-lt0.false))
 
-pub place-spec : {M : Type 1} → statement M
-place-spec = tie.close (tie.spec returns cast-result returns-2)
+pub place_spec : {M : Type 1} → statement M
+place_spec = tie.close (tie.spec returns cast-result returns-2)

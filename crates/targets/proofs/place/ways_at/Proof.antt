@@ -7,40 +7,40 @@ use Rattle.targets.proofs.WaysAre.{whole_goes}
 use Rattle.targets.proofs.place.ways_at.Statement.{statement}
 use Rattle.targets.proofs.place.ways_at.Tie as tie
 
-abbrev mode : tie.After-opening-at → Mode
-mode c = c.before.before.args.mode
+abbrev mode : tie.After-opening_at → Mode
+mode c = c.args.mode
 
-abbrev image : tie.After-opening-at → List ℕ
-image c = c.before.before.args.image.now
+abbrev image : tie.After-opening_at → List ℕ
+image c = c.args.image.now
 
-abbrev p : tie.After-opening-at → ℕ
-p c = c.before.before.args.p
+abbrev p : tie.After-opening_at → ℕ
+p c = c.args.p
 
-says : (c : tie.After-next) → IsWhole (image c.before.before) (p c.before.before) c.next.given.0.0 c.next.given.0.1.0
-says c = let a = c.before.before in whole_says (image a) (p a) _ _ (sym c.next.given.1 ∙ a.opening-at.ensures)
+says : (c : tie.In-Whole) → IsWhole (image c.before) (p c.before) c.in-Whole.next c.in-Whole.flow
+says c = let a = c.before in whole_says (image a) (p a) _ _ (sym c.in-Whole.is ∙ a.opening_at.ensures)
 
-places-by-requires : tie.Need-places-by-requires
+places-by-requires : tie.Need-places_by-requires
 places-by-requires c κs =
-    let w = says c.before in ((w.inside, w.small), (w.fits, w.next, w.flow))
+    let w = says c in ((w.inside, w.small), (w.fits, w.next, w.flow))
 
-returns : tie.Need-returns
+returns : tie.Need-returns-in-Whole
 returns c =
-    let n = c.before.before in
-    let a = n.before.before in
+    let n = c.before in
+    let a = n.before in
     let w = says n in
-    whole_goes (mode a) (image a) (p a) w.inside w.small w.fits c.places-by.result c.places-by.ensures
+    whole_goes (mode a) (image a) (p a) w.inside w.small w.fits c.places_by.result c.places_by.ensures
 
-returns-2 : tie.Need-returns-2
+returns-2 : tie.Need-returns-in-Cut
 returns-2 c =
-    let k = c.before in
-    let a = k.before.before in
-    (cut_says (mode a) (image a) (p a) k.c.given.0.0 (sym k.c.given.1 ∙ a.opening-at.ensures)).0
+    let k = c in
+    let a = k.before in
+    (cut_says (mode a) (image a) (p a) k.in-Cut.c (sym k.in-Cut.is ∙ a.opening_at.ensures)).0
 
-returns-3 : tie.Need-returns-3
+returns-3 : tie.Need-returns-in-Outside
 returns-3 c =
-    let a = c.before.before in (outside_says (mode a) (image a) (p a) (sym c.enum_told.given.1 ∙ a.opening-at.ensures)).0
+    let a = c.before in (outside_says (mode a) (image a) (p a) (sym c.in-Outside.is ∙ a.opening_at.ensures)).0
 
-pub ways-at-spec : {M : Type 1} → statement M
-ways-at-spec =
+pub ways_at_spec : {M : Type 1} → statement M
+ways_at_spec =
     tie.close
     (tie.spec (λ c κs. search rules) (λ c. search rules) places-by-requires (λ c. search rules) (λ c. search rules) returns returns-2 returns-3)

@@ -8,30 +8,30 @@ use Rattle.text.proofs.Pairs.{odd, none, many, few}
 use Rattle.text.proofs.bytes.is_bytes.Statement.{statement}
 use Rattle.text.proofs.bytes.is_bytes.Tie as tie
 
-returns : tie.Need-returns
-returns c = let a = c.before.before.args in odd a.most a.s.now _ refl c.if1.true
+returns : tie.Need-returns-then-s-n
+returns c = let a = c.args in odd a.most a.s.now _ refl c.if-s-n.true
 
-abbrev s : tie.Else1 → List ℕ
-s c = c.before.before.args.s.now
+abbrev s : tie.Else-s-n → List ℕ
+s c = c.args.s.now
 
-abbrev most : tie.Else1 → ℕ
-most c = c.before.before.args.most
+abbrev most : tie.Else-s-n → ℕ
+most c = c.args.most
 
-returns-2 : tie.Need-returns-2
-returns-2 c = let a = c.before in none (most a) (s a) _ refl a.if1.false c.if2.true
+returns-2 : tie.Need-returns-then-n-eq0
+returns-2 c = let a = c.before in none (most a) (s a) _ refl a.if-s-n.false c.if-n-eq0.true
 
-returns-3 : tie.Need-returns-3
+returns-3 : tie.Need-returns-then-most-n
 returns-3 c =
     let b = c.before in
     let a = b.before in
-    many (most a) (s a) _ refl a.if1.false b.if2.false c.if3.true
+    many (most a) (s a) _ refl a.if-s-n.false b.if-n-eq0.false c.if-most-n.true
 
-returns-4 : tie.Need-returns-4
+returns-4 : tie.Need-returns
 returns-4 c =
     let d = c.before in
     let b = d.before in
     let a = b.before in
-    c.is-hex.ensures ∙ few (most a) (s a) _ refl a.if1.false b.if2.false d.if3.false
+    c.is_hex.ensures ∙ few (most a) (s a) _ refl a.if-s-n.false b.if-n-eq0.false d.if-most-n.false
 
-pub is-bytes-spec : {M : Type 1} → statement M
-is-bytes-spec = tie.close (tie.spec (λ c. search rules) returns returns-2 returns-3 (λ c κs. search rules) returns-4)
+pub is_bytes_spec : {M : Type 1} → statement M
+is_bytes_spec = tie.close (tie.spec (λ c. search rules) returns returns-2 returns-3 (λ c κs. search rules) returns-4)

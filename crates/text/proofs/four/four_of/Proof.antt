@@ -9,8 +9,8 @@ returns : tie.Need-returns
 unfolding four_of
 returns c = search rules
 
-pub four-of-spec : {M : Type 1} → statement M
-four-of-spec =
+pub four_of_spec : {M : Type 1} → statement M
+four_of_spec =
     tie.close
     (tie.spec (λ c κs. search rules) (λ c. search rules) (λ c κs. search rules) (λ c. search rules) (λ c. search rules) (λ c κs. search rules)
     (λ c. search rules) (λ c. search rules) (λ c κs. search rules) (λ c. search rules) returns)

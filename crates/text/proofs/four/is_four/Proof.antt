@@ -7,13 +7,13 @@ use Rattle.text.specs.Four.{is_four}
 use Rattle.text.proofs.four.is_four.Statement.{statement}
 use Rattle.text.proofs.four.is_four.Tie as tie
 
-returns : tie.Need-returns
+returns : tie.Need-returns-then-field-ne4
 unfolding is_four
-returns c = rw (ne_eqb (length c.before.before.args.field.now) 4 c.if1.true)
+returns c = rw (ne_eqb (length c.args.field.now) 4 c.if-field-ne4.true)
 
-returns-2 : tie.Need-returns-2
+returns-2 : tie.Need-returns
 unfolding is_four
-returns-2 c = let e = c.before in rw (eq-eqb (length e.before.before.args.field.now) 4 e.if1.false) c.is-hex.ensures
+returns-2 c = let e = c.before in rw (eq-eqb (length e.args.field.now) 4 e.if-field-ne4.false) c.is_hex.ensures
 
-pub is-four-spec : {M : Type 1} → statement M
-is-four-spec = tie.close (tie.spec returns (λ c κs. search rules) returns-2)
+pub is_four_spec : {M : Type 1} → statement M
+is_four_spec = tie.close (tie.spec returns (λ c κs. search rules) returns-2)

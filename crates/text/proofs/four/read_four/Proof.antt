@@ -6,56 +6,56 @@ use Rattle.text.proofs.FourRead.{other_length, too_high, as_told}
 use Rattle.text.proofs.four.read_four.Statement.{statement}
 use Rattle.text.proofs.four.read_four.Tie as tie
 
-returns : tie.Need-returns
-returns c = other_length c.before.before.args.field.now c.if1.true
+returns : tie.Need-returns-then-n-ne4
+returns c = other_length c.args.field.now c.if-n-ne4.true
 
-mul-high : tie.Need-overflow-mul-high
+mul-high : tie.Need-overflow_mul-high
 mul-high c = record { fits = omega (arith, c.value.ensures.1) }
 
-add-high : tie.Need-overflow-add-high
-add-high c = record { fits = omega (arith, c.before.before.value.ensures.1, c.value2.ensures.1) }
+add-high : tie.Need-overflow_add-high
+add-high c = record { fits = omega (arith, c.value.ensures.1, c.value-2.ensures.1) }
 
-mul-sum : tie.Need-overflow-mul-sum
-mul-sum c = record { fits = omega (arith, c.before.before.value.ensures.1, c.value2.ensures.1) }
+mul-sum : tie.Need-overflow_mul-sum
+mul-sum c = record { fits = omega (arith, c.value.ensures.1, c.value-2.ensures.1) }
 
-add-sum : tie.Need-overflow-add-sum
+add-sum : tie.Need-overflow_add-sum
 add-sum c =
     let b = c.before.before in
-    record { fits = omega (arith, b.before.before.value.ensures.1, b.value2.ensures.1, c.value3.ensures.1) }
+    record { fits = omega (arith, b.value.ensures.1, b.value-2.ensures.1, c.value-3.ensures.1) }
 
-mul-sum-2 : tie.Need-overflow-mul-sum-2
+mul-sum-2 : tie.Need-overflow_mul-sum-2
 mul-sum-2 c =
     let b = c.before.before in
-    record { fits = omega (arith, b.before.before.value.ensures.1, b.value2.ensures.1, c.value3.ensures.1) }
+    record { fits = omega (arith, b.value.ensures.1, b.value-2.ensures.1, c.value-3.ensures.1) }
 
-add-sum-2 : tie.Need-overflow-add-sum-2
+add-sum-2 : tie.Need-overflow_add-sum-2
 add-sum-2 d =
     let c = d.before.before in
     let b = c.before.before in
-    record { fits = omega (arith, b.before.before.value.ensures.1, b.value2.ensures.1, c.value3.ensures.1, d.value4.ensures.1) }
+    record { fits = omega (arith, b.value.ensures.1, b.value-2.ensures.1, c.value-3.ensures.1, d.value-4.ensures.1) }
 
-returns-2 : tie.Need-returns-2
+returns-2 : tie.Need-returns-then-sum-ge65536
 returns-2 t =
     let d = t.before in
     let c = d.before.before in
     let b = c.before.before in
     let a = b.before.before in
     let e = a.before.before in
-    too_high e.before.before.args.field.now e.if1.false _ _ _ _ a.value.ensures.0 b.value2.ensures.0 c.value3.ensures.0
-    d.value4.ensures.0 t.if2.true
+    too_high e.args.field.now e.if-n-ne4.false _ _ _ _ a.value.ensures.0 b.value-2.ensures.0 c.value-3.ensures.0
+    d.value-4.ensures.0 t.if-sum-ge65536.true
 
-returns-3 : tie.Need-returns-3
+returns-3 : tie.Need-returns
 returns-3 t =
     let d = t.before in
     let c = d.before.before in
     let b = c.before.before in
     let a = b.before.before in
     let e = a.before.before in
-    as_told e.before.before.args.field.now e.if1.false _ _ _ _ a.value.ensures.0 b.value2.ensures.0 c.value3.ensures.0
-    d.value4.ensures.0 t.if2.false
+    as_told e.args.field.now e.if-n-ne4.false _ _ _ _ a.value.ensures.0 b.value-2.ensures.0 c.value-3.ensures.0
+    d.value-4.ensures.0 t.if-sum-ge65536.false
 
-pub read-four-spec : {M : Type 1} → statement M
-read-four-spec =
+pub read_four_spec : {M : Type 1} → statement M
+read_four_spec =
     tie.close
     (tie.spec
     returns

@@ -6,8 +6,8 @@ use Rattle.text.proofs.Digits.{none_at}
 use Rattle.text.proofs.hex.digit_at.Statement.{statement}
 use Rattle.text.proofs.hex.digit_at.Tie as tie
 
-returns : tie.Need-returns
-returns c = let a = c.before.before.args in (none_at a.s.now a.i c.if1.true, omega arith)
+returns : tie.Need-returns-then-s-i
+returns c = let a = c.args in (none_at a.s.now a.i c.if-s-i.true, omega arith)
 
-pub digit-at-spec : {M : Type 1} → statement M
-digit-at-spec = tie.close (tie.spec returns (λ c. search rules) (λ c κs. search rules) (λ c. search rules))
+pub digit_at_spec : {M : Type 1} → statement M
+digit_at_spec = tie.close (tie.spec returns (λ c. search rules) (λ c κs. search rules) (λ c. search rules))

@@ -6,8 +6,8 @@ use Rattle.text.proofs.Digits.{digit_by_bits}
 use Rattle.text.proofs.hex.value_of.Statement.{statement}
 use Rattle.text.proofs.hex.value_of.Tie as tie
 
-pub value-of-spec : {M : Type 1} → statement M
-value-of-spec = tie.close
+pub value_of_spec : {M : Type 1} → statement M
+value_of_spec = tie.close
     (tie.spec
     (λ c. search rules)
     (λ c. search rules)
