@@ -7,16 +7,16 @@ use Rattle.arrivals.proofs.Arriving.{not_inside, by_targets}
 use Rattle.arrivals.proofs.arrival.arrives.Statement.{statement}
 use Rattle.arrivals.proofs.arrival.arrives.Tie as tie
 
-returns : tie.Need-returns
+returns : tie.Need-returns-then-image-p
 returns c =
-    let a = c.before.before.before.args in not_inside a.mode a.image.now a.marks.now a.p c.if1.true a.q
+    let a = c.args in not_inside a.mode a.image.now a.marks.now a.p c.if-image-p.true a.q
 
-returns-2 : tie.Need-returns-2
+returns-2 : tie.Need-returns
 returns-2 c =
     let h = c.before in
     let e = h.before in
-    let a = e.before.before.before.args in
-    c.has.ensures ∙ by_targets a.mode a.image.now a.marks.now a.p e.if1.false a.q (places_in h.held_at.result) h.held_at.ensures
+    let a = e.args in
+    c.has.ensures ∙ by_targets a.mode a.image.now a.marks.now a.p e.if-image-p.false a.q (places_in h.held_at.result) h.held_at.ensures
 
-pub arrives-spec : {M : Type 1} → statement M
-arrives-spec = tie.close (tie.spec returns (λ c κs. search rules) (λ c κs. search rules) returns-2)
+pub arrives_spec : {M : Type 1} → statement M
+arrives_spec = tie.close (tie.spec returns (λ c κs. search rules) (λ c κs. search rules) returns-2)

@@ -12,71 +12,71 @@ use Rattle.arrivals.proofs.Arriving.{left_from, all_left, none_left, few, Next, 
 use Rattle.arrivals.proofs.arrival.count_arrivals.Statement.{statement}
 use Rattle.arrivals.proofs.arrival.count_arrivals.Tie as tie
 
-abbrev invariant_loop : tie.invariant-loop
+abbrev invariant_loop : tie.invariant-loop-from
 invariant_loop mode image marks p n count₀ from₀ count from =
     count + length (left_from mode image marks p from) ≡ length (arrivals_of mode image marks p)
 
-abbrev decreases_loop : tie.decreases-loop
+abbrev decreases_loop : tie.decreases-loop-from
 decreases_loop mode image marks p n count₀ from₀ count from = length (left_from mode image marks p from)
 
-abbrev start : tie.At-loop invariant_loop decreases_loop → tie.Start invariant_loop decreases_loop
+abbrev start : tie.At-loop-from invariant_loop decreases_loop → tie.Start invariant_loop decreases_loop
 start l = l.before.before.before
 
-abbrev mode : tie.At-loop invariant_loop decreases_loop → Mode
+abbrev mode : tie.At-loop-from invariant_loop decreases_loop → Mode
 mode l = (start l).args.mode
 
-abbrev image : tie.At-loop invariant_loop decreases_loop → List ℕ
+abbrev image : tie.At-loop-from invariant_loop decreases_loop → List ℕ
 image l = (start l).args.image.now
 
-abbrev marks : tie.At-loop invariant_loop decreases_loop → List ℕ
+abbrev marks : tie.At-loop-from invariant_loop decreases_loop → List ℕ
 marks l = (start l).args.marks.now
 
-abbrev p : tie.At-loop invariant_loop decreases_loop → ℕ
+abbrev p : tie.At-loop-from invariant_loop decreases_loop → ℕ
 p l = (start l).args.p
 
-fits : (l : tie.At-loop invariant_loop decreases_loop) → length (image l) ≤ 65536
+fits : (l : tie.At-loop-from invariant_loop decreases_loop) → length (image l) ≤ 65536
 fits l = (start l).requires.0
 
-loop-holds : tie.Need-loop-init invariant_loop decreases_loop
+loop-holds : tie.Need-loop-from-init invariant_loop decreases_loop
 loop-holds c =
-    let a = c.before.before.args in omega (arith, ap length (all_left a.mode a.image.now a.marks.now a.p))
+    let a = c.args in omega (arith, ap length (all_left a.mode a.image.now a.marks.now a.p))
 
-abbrev Found : tie.At-loop invariant_loop decreases_loop → ℕ → Type 0
-Found l q = Next (mode l) (image l) (marks l) (p l) l.loop.from q
+abbrev Found : tie.At-loop-from invariant_loop decreases_loop → ℕ → Type 0
+Found l q = Next (mode l) (image l) (marks l) (p l) l.loop-from.from q
 
 -- the arrival that is found
-next : (c : tie.After-next-arrival invariant_loop decreases_loop) → Found c.before.before c.next-arrival.result
+next : (c : tie.After-next_arrival-q invariant_loop decreases_loop) → Found c.before.before c.next_arrival-q.result
 next c =
     let l = c.before.before in
-    next_is (mode l) (image l) (marks l) (p l) (fits l) l.loop.from c.next-arrival.result c.next-arrival.ensures
+    next_is (mode l) (image l) (marks l) (p l) (fits l) l.loop-from.from c.next_arrival-q.result c.next_arrival-q.ensures
 
-returns : tie.Need-returns invariant_loop decreases_loop
+returns : tie.Need-returns-then-n-q invariant_loop decreases_loop
 returns c =
     let w = c.before in
-    omega (arith, w.before.before.loop.invariant, ap length (next_none (next w) c.if1.true))
+    omega (arith, w.loop-from.invariant, ap length (next_none (next w) c.if-n-q.true))
 
-add-count : tie.Need-overflow-add-count invariant_loop decreases_loop
+add-count : tie.Need-overflow_add-count invariant_loop decreases_loop
 add-count c =
     let w = c.before in
     let l = w.before.before in
     let h = fits l in
-    record { fits = omega (arith, l.loop.invariant, h, few (mode l) (image l) (marks l) (p l), ap length (next_one (next w) c.if1.false)) }
+    record { fits = omega (arith, l.loop-from.invariant, h, few (mode l) (image l) (marks l) (p l), ap length (next_one (next w) c.if-n-q.false)) }
 
-loop-less : tie.Need-loop-smaller invariant_loop decreases_loop
-loop-less c = omega (arith, ap length (next_one (next c.before) c.if1.false))
+loop-less : tie.Need-loop-from-smaller invariant_loop decreases_loop
+loop-less c = omega (arith, ap length (next_one (next c.before) c.if-n-q.false))
 
-loop-again : tie.Need-loop-preserved invariant_loop decreases_loop
+loop-again : tie.Need-loop-from-preserved invariant_loop decreases_loop
 loop-again c =
     let w = c.before in
-    omega (arith, w.before.before.loop.invariant, ap length (next_one (next w) c.if1.false))
+    omega (arith, w.loop-from.invariant, ap length (next_one (next w) c.if-n-q.false))
 
-returns-2 : tie.Need-returns-2 invariant_loop decreases_loop
+returns-2 : tie.Need-returns invariant_loop decreases_loop
 returns-2 c =
     let l = c.before in
-    omega (arith, l.loop.invariant, ap length (none_left (mode l) (image l) (marks l) (p l) l.loop.from c.loop-test.false))
+    omega (arith, l.loop-from.invariant, ap length (none_left (mode l) (image l) (marks l) (p l) l.loop-from.from c.loop-from-test.false))
 
-pub count-arrivals-spec : {M : Type 1} → statement M
-count-arrivals-spec =
+pub count_arrivals_spec : {M : Type 1} → statement M
+count_arrivals_spec =
     tie.close
     (tie.spec
     invariant_loop
@@ -86,7 +86,7 @@ count-arrivals-spec =
     (λ c κs. search rules)
     returns
     add-count
-    (λ c. let h = fits c.before.before.before in record { fits = omega (arith, h, c.if1.false) })
+    (λ c. let h = fits c.before.before.before in record { fits = omega (arith, h, c.if-n-q.false) })
     loop-less
     loop-again
     returns-2)

@@ -16,27 +16,27 @@ use Rattle.arrivals.proofs.arrival.has.Tie as tie
 arm : (p : ℕ) {w w' : Places} (r : Bool) → w ≡ w' → r ≡ some (eqb p) (places_in w') → r ≡ some (eqb p) (places_in w)
 arm p r e f = rw e f
 
-returns : tie.Need-returns
+returns : tie.Need-returns-then-p-a
 returns c =
-    let w = c.before.before in
-    let p = w.before.before.args.p in
-    arm p _ w.ps2.given.1 (the_first p w.ps2.given.0.0 c.if1.true w.ps2.given.0.1.0)
-
-returns-2 : tie.Need-returns-2
-returns-2 c = let p = c.before.before.args.p in arm p _ c.enum_told.given.1 (nowhere p)
-
-returns-3 : tie.Need-returns-3
-returns-3 c =
     let w = c.before in
-    let p = w.before.before.args.p in
-    arm p _ w.ps.given.1 (the_one p w.ps.given.0.0)
+    let p = w.args.p in
+    arm p _ w.in-Both.is (the_first p w.in-Both.a c.if-p-a.true w.in-Both.b)
 
-returns-4 : tie.Need-returns-4
+returns-2 : tie.Need-returns-in-Nothing
+returns-2 c = let p = c.args.p in arm p _ c.in-Nothing.is (nowhere p)
+
+returns-3 : tie.Need-returns-in-First
+returns-3 c =
+    let w = c in
+    let p = w.args.p in
+    arm p _ w.in-First.is (the_one p w.in-First.a)
+
+returns-4 : tie.Need-returns-else-p-a
 returns-4 c =
-    let w = c.before.before in
-    let p = w.before.before.args.p in
-    arm p _ w.ps2.given.1 (the_second p w.ps2.given.0.0 c.if1.false w.ps2.given.0.1.0)
+    let w = c.before in
+    let p = w.args.p in
+    arm p _ w.in-Both.is (the_second p w.in-Both.a c.if-p-a.false w.in-Both.b)
 
-pub has-spec : {M : Type 1} → statement M
-has-spec =
+pub has_spec : {M : Type 1} → statement M
+has_spec =
     tie.close (tie.spec (λ c. search rules) (λ c. search rules) (λ c. search rules) returns returns-2 returns-3 returns-4)

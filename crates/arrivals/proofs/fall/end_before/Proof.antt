@@ -13,17 +13,17 @@ use Rattle.arrivals.proofs.fall.end_before.Tie as tie
 abbrev by : ℕ → ℕ → Bool → ℕ
 by n p b = cond b n p
 
-returns : tie.Need-returns
+returns : tie.Need-returns-then-p-eq0
 returns c =
-    let a = c.before.args in
-    sym (ap (by (length a.image.now) a.p) (eq-eqb a.p 0 c.if1.true))
+    let a = c.args in
+    sym (ap (by (length a.image.now) a.p) (eq-eqb a.p 0 c.if-p-eq0.true))
 
-returns-2 : tie.Need-returns-2
+returns-2 : tie.Need-returns
 returns-2 c =
-    let a = c.before.args in
-    sym (ap (by (length a.image.now) a.p) (ne_eqb a.p 0 c.if1.false))
+    let a = c.args in
+    sym (ap (by (length a.image.now) a.p) (ne_eqb a.p 0 c.if-p-eq0.false))
 
-pub end-before-spec : {M : Type 1} → statement M
-end-before-spec =
+pub end_before_spec : {M : Type 1} → statement M
+end_before_spec =
     tie.close
-    (tie.spec (λ c. let h : length c.before.args.image.now ≤ 65536 = c.before.requires in record { fits = omega arith }) returns returns-2)
+    (tie.spec (λ c. let h : length c.args.image.now ≤ 65536 = c.requires in record { fits = omega arith }) returns returns-2)

@@ -10,32 +10,32 @@ use Rattle.arrivals.proofs.Falls.{untraced_falls, flash_falls, held_falls}
 use Rattle.arrivals.proofs.fall.falls.Statement.{statement}
 use Rattle.arrivals.proofs.fall.falls.Tie as tie
 
-abbrev start : tie.After-is-traced-at → tie.Start
+abbrev start : tie.After-is_traced_at → tie.Start
 start t = t.before.before.before
 
-returns : tie.Need-returns
+returns : tie.Need-returns-then-not-is_traced_at
 returns c =
     let t = c.before in
     let a = (start t).args in
-    untraced_falls a.mode a.image.now a.marks.now a.p a.q (sym t.is-traced-at.ensures ∙ not-true _ c.if1.true)
+    untraced_falls a.mode a.image.now a.marks.now a.p a.q (sym t.is_traced_at.ensures ∙ not-true _ c.if-not-is_traced_at.true-raw)
 
-traced : (i : tie.Else1) → let a = (start i.before).args in traced_at a.image.now a.marks.now a.q ≡ true
-traced i = sym i.before.is-traced-at.ensures ∙ not-false _ i.if1.false
+traced : (i : tie.Else-not-is_traced_at) → let a = (start i.before).args in traced_at a.image.now a.marks.now a.q ≡ true
+traced i = sym i.is_traced_at.ensures ∙ not-false _ i.if-not-is_traced_at.false-raw
 
-returns-2 : tie.Need-returns-2
+returns-2 : tie.Need-returns-then-marks-at-eq-FLASH
 returns-2 c =
     let a = (start c.before.before.before).args in
-    flash_falls a.mode a.image.now a.marks.now a.p a.q c.if2.true
+    flash_falls a.mode a.image.now a.marks.now a.p a.q c.if-marks-at-eq-FLASH.true
 
-returns-3 : tie.Need-returns-3
+returns-3 : tie.Need-returns
 returns-3 c =
     let k = c.before in
     let i = k.before.before in
     let a = (start i.before).args in
-    c.falls-to.ensures ∙ held_falls a.mode a.image.now a.marks.now a.p a.q (traced i) k.if2.false
+    c.falls_to.ensures ∙ held_falls a.mode a.image.now a.marks.now a.p a.q (traced i) k.if-marks-at-eq-FLASH.false
 
-pub falls-spec : {M : Type 1} → statement M
-falls-spec =
+pub falls_spec : {M : Type 1} → statement M
+falls_spec =
     tie.close
     (tie.spec
     (λ c κs. search rules)

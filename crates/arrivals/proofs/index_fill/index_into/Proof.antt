@@ -13,47 +13,47 @@ use Rattle.arrivals.proofs.Indexing.{blank_entered, all_entered, past_room, othe
 use Rattle.arrivals.proofs.index_fill.index_into.Statement.{statement}
 use Rattle.arrivals.proofs.index_fill.index_into.Tie as tie
 
-abbrev invariant_loop : tie.invariant-loop
+abbrev invariant_loop : tie.invariant-loop-q
 invariant_loop mode image marks index₀ q₀ index q = (q ≤ length image) × Entered mode image marks (q - 1) index
 
-abbrev decreases_loop : tie.decreases-loop
+abbrev decreases_loop : tie.decreases-loop-q
 decreases_loop mode image marks index₀ q₀ index q = q
 
-abbrev start : tie.Else1 invariant_loop decreases_loop → tie.Start invariant_loop decreases_loop
+abbrev start : tie.Else-image-gt-LIMIT invariant_loop decreases_loop → tie.Start invariant_loop decreases_loop
 start e = e.before.before.before.before
 
-abbrev mode : tie.Else1 invariant_loop decreases_loop → Mode
+abbrev mode : tie.Else-image-gt-LIMIT invariant_loop decreases_loop → Mode
 mode e = (start e).args.mode
 
-abbrev image : tie.Else1 invariant_loop decreases_loop → List ℕ
+abbrev image : tie.Else-image-gt-LIMIT invariant_loop decreases_loop → List ℕ
 image e = (start e).args.image.now
 
-abbrev marks : tie.Else1 invariant_loop decreases_loop → List ℕ
+abbrev marks : tie.Else-image-gt-LIMIT invariant_loop decreases_loop → List ℕ
 marks e = (start e).args.marks.now
 
-abbrev room : tie.Else1 invariant_loop decreases_loop → List ℕ
+abbrev room : tie.Else-image-gt-LIMIT invariant_loop decreases_loop → List ℕ
 room e = (start e).args.index.now
 
-fits : (e : tie.Else1 invariant_loop decreases_loop) → length (image e) ≤ 65536
-fits e = e.if1.false
+fits : (e : tie.Else-image-gt-LIMIT invariant_loop decreases_loop) → length (image e) ≤ 65536
+fits e = e.if-image-gt-LIMIT.false
 
-bytes : (e : tie.Else1 invariant_loop decreases_loop) → Small (image e)
-bytes e = λ n. (e.before.before.before.shared-slice-known.given n).fits
+bytes : (e : tie.Else-image-gt-LIMIT invariant_loop decreases_loop) → Small (image e)
+bytes e = λ n. (e.shared_slice_known-1.given n).fits
 
-returns : tie.Need-returns invariant_loop decreases_loop
-returns c = let a = c.before.before.before.before.args in past_room a.mode a.image.now a.marks.now a.index.now c.if1.true
+returns : tie.Need-returns-then-image-gt-LIMIT invariant_loop decreases_loop
+returns c = let a = c.args in past_room a.mode a.image.now a.marks.now a.index.now c.if-image-gt-LIMIT.true
 
-mul-if2 : tie.Need-overflow-mul-if2 invariant_loop decreases_loop
+mul-if2 : tie.Need-overflow_mul-image invariant_loop decreases_loop
 mul-if2 c = let h = fits c in record { fits = omega (arith, h) }
 
-returns-2 : tie.Need-returns-2 invariant_loop decreases_loop
-returns-2 c = let e = c.before in other_room (mode e) (image e) (marks e) (room e) (fits e) c.if2.true
+returns-2 : tie.Need-returns-then-index-image invariant_loop decreases_loop
+returns-2 c = let e = c.before in other_room (mode e) (image e) (marks e) (room e) (fits e) c.if-index-image.true
 
 -- the room has two cells for each position
-own : (e : tie.Else2 invariant_loop decreases_loop) → length (room e.before) ≡ 2 * length (image e.before)
-own e = e.if2.false
+own : (e : tie.Else-index-image invariant_loop decreases_loop) → length (room e.before) ≡ 2 * length (image e.before)
+own e = e.if-index-image.false
 
-loop-holds : tie.Need-loop-init invariant_loop decreases_loop
+loop-holds : tie.Need-loop-q-init invariant_loop decreases_loop
 loop-holds c =
     let b = c.before.before in
     let o = b.before.before in
@@ -63,15 +63,15 @@ loop-holds c =
           (blank_entered (mode e) (image e) (marks e) (bytes e) (fits e) (length (room e)) (own o)),
     )
 
-abbrev from : tie.At-loop invariant_loop decreases_loop → tie.Else2 invariant_loop decreases_loop
+abbrev from : tie.At-loop-q invariant_loop decreases_loop → tie.Else-index-image invariant_loop decreases_loop
 from l = l.before.before.before.before.before
 
 -- the position before
-lower : (t : tie.In-loop invariant_loop decreases_loop) → let l = t.before in
-    (l.loop.q - 1 ≡ l.loop.q - 1 - 1 + 1) × (l.loop.q - 1 - 1 + 1 < length (image (from l).before))
-lower t = let l = t.before in let h : 1 < l.loop.q = t.loop-test.true in (omega arith, omega (arith, h, l.loop.invariant.0))
+lower : (t : tie.In-loop-q invariant_loop decreases_loop) → let l = t.before in
+    (l.loop-q.q - 1 ≡ l.loop-q.q - 1 - 1 + 1) × (l.loop-q.q - 1 - 1 + 1 < length (image (from l).before))
+lower t = let l = t.before in let h : 1 < l.loop-q.q = t.loop-q-test.true in (omega arith, omega (arith, h, l.loop-q.invariant.0))
 
-cast-enter : tie.Need-overflow-cast-enter invariant_loop decreases_loop
+cast-enter : tie.Need-overflow_cast-q invariant_loop decreases_loop
 cast-enter c =
     let t = c.before in
     let h = fits (from t.before).before in
@@ -83,30 +83,30 @@ enter-requires c κs =
     let t = c.before in
     let l = t.before in
     let e = (from l).before in
-    ((lower t).1, fits e, subst (λ (k : ℕ). Entered (mode e) (image e) (marks e) k l.loop.index) (lower t).0 l.loop.invariant.1)
+    ((lower t).1, fits e, subst (λ (k : ℕ). Entered (mode e) (image e) (marks e) k l.loop-q.index) (lower t).0 l.loop-q.invariant.1)
 
-loop-again : tie.Need-loop-preserved invariant_loop decreases_loop
-loop-again c = let n = c.before.before in let t = n.before.before in let g = (lower t).1 in (omega (arith, t.before.loop.invariant.0), n.enter.ensures)
+loop-again : tie.Need-loop-q-preserved invariant_loop decreases_loop
+loop-again c = let n = c.before.before in let t = n.before.before in let g = (lower t).1 in (omega (arith, t.loop-q.invariant.0), n.enter.ensures)
 
 -- all are entered
-entered : (c : tie.After-loop invariant_loop decreases_loop) → let l = c.before in let e = (from l).before in Entered (mode e) (image e) (marks e) 0 l.loop.index
+entered : (c : tie.After-loop-q invariant_loop decreases_loop) → let l = c.before in let e = (from l).before in Entered (mode e) (image e) (marks e) 0 l.loop-q.index
 entered c =
     let l = c.before in
     let e = (from l).before in
-    let h : l.loop.q ≤ 1 = c.loop-test.false in
-    let z : l.loop.q - 1 ≡ 0 = omega arith in
-    subst (λ (k : ℕ). Entered (mode e) (image e) (marks e) k l.loop.index) z l.loop.invariant.1
+    let h : l.loop-q.q ≤ 1 = c.loop-q-test.false in
+    let z : l.loop-q.q - 1 ≡ 0 = omega arith in
+    subst (λ (k : ℕ). Entered (mode e) (image e) (marks e) k l.loop-q.index) z l.loop-q.invariant.1
 
-returns-3 : tie.Need-returns-3 invariant_loop decreases_loop
+returns-3 : tie.Need-returns invariant_loop decreases_loop
 returns-3 c =
     let l = c.before in
     let o = from l in
     let e = o.before in
     let w = own_room (mode e) (image e) (marks e) (room e) (fits e) (own o) in
-    (w.0, all_entered (mode e) (image e) (marks e) l.loop.index (entered c) ∙ w.1)
+    (w.0, all_entered (mode e) (image e) (marks e) l.loop-q.index (entered c) ∙ w.1)
 
-pub index-into-spec : {M : Type 1} → statement M
-index-into-spec =
+pub index_into_spec : {M : Type 1} → statement M
+index_into_spec =
     tie.close
     (tie.spec
     invariant_loop
@@ -116,11 +116,11 @@ index-into-spec =
     returns-2
     (λ c κs. search rules)
     loop-holds
-    (λ c. let h = c.loop-test.true in omega arith)
-    (λ c. let h = c.before.loop-test.true in omega arith)
+    (λ c. let h = c.loop-q-test.true in omega arith)
+    (λ c. let h = c.loop-q-test.true in omega arith)
     cast-enter
     enter-requires
-    (λ c. let h = c.before.before.before.before.loop-test.true in omega arith)
+    (λ c. let h = c.loop-q-test.true in omega arith)
     loop-again
-    (λ c. c.before.loop.invariant.1.long ∙ sym (own (from c.before)))
+    (λ c. c.loop-q.invariant.1.long ∙ sym (own (from c.before)))
     returns-3)

@@ -8,14 +8,14 @@ use Rattle.arrivals.proofs.Asking.{any_default}
 use Rattle.arrivals.proofs.index_lookup.cell.Statement.{statement}
 use Rattle.arrivals.proofs.index_lookup.cell.Tie as tie
 
-returns : tie.Need-returns
+returns : tie.Need-returns-then-at-index
 returns c =
     let t = c.before.before in
-    let a = t.before.before.args in
-    c.says.ensures ∙ ap cell_says (any_default a.index.now a.at 0 65535 t.if1.true)
+    let a = t.args in
+    c.says.ensures ∙ ap cell_says (any_default a.index.now a.at 0 65535 t.if-at-index.true)
 
-returns-2 : tie.Need-returns-2
-returns-2 c = ap cell_says (sym (get_or-eq_default c.before.before.args.index.now 65535 c.if1.false))
+returns-2 : tie.Need-returns
+returns-2 c = ap cell_says (sym (get_or-eq_default c.args.index.now 65535 c.if-at-index.false))
 
-pub cell-spec : {M : Type 1} → statement M
-cell-spec = tie.close (tie.spec (λ c. search rules) (λ c. search rules) (λ c κs. search rules) returns returns-2)
+pub cell_spec : {M : Type 1} → statement M
+cell_spec = tie.close (tie.spec (λ c. search rules) (λ c. search rules) (λ c κs. search rules) returns returns-2)

@@ -10,41 +10,41 @@ use Rattle.map.proofs.Asking.{Good, good, refused_all, told_all}
 use Rattle.map.proofs.ask.first_data.Statement.{statement}
 use Rattle.map.proofs.ask.first_data.Tie as tie
 
-abbrev start : tie.After-is-told → tie.Start
+abbrev start : tie.After-is_told → tie.Start
 start c = c.before.before.before
 
-returns : tie.Need-returns
+returns : tie.Need-returns-then-not-is_told
 unfolding first_answer
 returns c =
     let w = c.before in
     let a = (start w).args in
-    refused_all a.words.now a.length (leb a.length a.p) a.p _ w.before.check.result w.before.check.ensures
-    (sym w.is-told.ensures ∙ not-true _ c.if1.true)
+    refused_all a.words.now a.length (leb a.length a.p) a.p _ w.check-a.result w.check-a.ensures
+    (sym w.is_told.ensures ∙ not-true _ c.if-not-is_told.true-raw)
 
-accepted : (c : tie.Else1) → let a = (start c.before).args in Good a.words.now a.length (leb a.length a.p)
+accepted : (c : tie.Else-not-is_told) → let a = (start c.before).args in Good a.words.now a.length (leb a.length a.p)
 accepted c =
     let w = c.before in
     let a = (start w).args in
-    good a.words.now a.length (leb a.length a.p) a.p w.before.check.result w.before.check.ensures
-    (sym w.is-told.ensures ∙ not-false _ c.if1.false)
+    good a.words.now a.length (leb a.length a.p) a.p w.check-a.result w.check-a.ensures
+    (sym w.is_told.ensures ∙ not-false _ c.if-not-is_told.false-raw)
 
-cast : tie.Need-overflow-cast-next-data
-cast c = let h = (accepted c).ranges in record { fits = omega arith }
+cast : tie.Need-overflow_cast-length
+cast c = let h = (accepted c).fits in record { fits = omega arith }
 
-next-data-requires : tie.Need-next-data-requires
+next-data-requires : tie.Need-next_data-requires
 next-data-requires c κs =
     let a = (start c.before).args in
     let g = accepted c in
     let h = leb-false a.length a.p g.inside in
     (omega arith, omega (arith, g.room), g.fits)
 
-returns-2 : tie.Need-returns-2
+returns-2 : tie.Need-returns
 unfolding first_answer
 returns-2 c =
     let e = c.before in
     let a = (start e.before).args in
-    told_all a.words.now a.length (leb a.length a.p) a.p _ (accepted e) _ c.next-data.ensures
+    told_all a.words.now a.length (leb a.length a.p) a.p _ (accepted e) _ c.next_data.ensures
 
-pub first-data-spec : {M : Type 1} → statement M
-first-data-spec =
+pub first_data_spec : {M : Type 1} → statement M
+first_data_spec =
     tie.close (tie.spec (λ c κs. search rules) (λ c κs. search rules) returns cast next-data-requires returns-2)

@@ -11,5 +11,5 @@ returns c =
     let a = s.args in
     zero_is a.w s.ranges.w.fits a.from c.low.result c.low.ensures
 
-pub first-zero-spec : {M : Type 1} → statement M
-first-zero-spec = tie.close (tie.spec (λ c κs. search rules) returns)
+pub first_zero_spec : {M : Type 1} → statement M
+first_zero_spec = tie.close (tie.spec (λ c κs. search rules) returns)

@@ -11,5 +11,5 @@ returns c =
     let a = s.args in
     ones_is a.w s.ranges.w.fits a.from a.to c.stretch.result c.stretch.ensures
 
-pub ones-between-spec : {M : Type 1} → statement M
-ones-between-spec = tie.close (tie.spec (λ c κs. search rules) returns)
+pub ones_between_spec : {M : Type 1} → statement M
+ones_between_spec = tie.close (tie.spec (λ c κs. search rules) returns)

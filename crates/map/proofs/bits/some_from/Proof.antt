@@ -6,7 +6,7 @@ use Rattle.map.proofs.bits.some_from.Statement.{statement}
 use Rattle.map.proofs.bits.some_from.Tie as tie
 
 returns : tie.Need-returns
-returns c = let a = c.before.args in some_is a.from a.n c.low.result c.low.ensures
+returns c = let a = c.args in some_is a.from a.n c.low.result c.low.ensures
 
-pub some-from-spec : {M : Type 1} → statement M
-some-from-spec = tie.close (tie.spec (λ c κs. search rules) (λ c. search rules) returns)
+pub some_from_spec : {M : Type 1} → statement M
+some_from_spec = tie.close (tie.spec (λ c κs. search rules) (λ c. search rules) returns)

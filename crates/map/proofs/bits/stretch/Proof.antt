@@ -7,8 +7,8 @@ use Rattle.map.proofs.bits.stretch.Tie as tie
 
 returns : tie.Need-returns
 returns c =
-    let a = c.before.before.args in
-    stretch_is a.from a.to c.before.low.result c.low2.result c.before.low.ensures c.low2.ensures
+    let a = c.args in
+    stretch_is a.from a.to c.low.result c.low-2.result c.low.ensures c.low-2.ensures
 
-pub stretch-spec : {M : Type 1} → statement M
-stretch-spec = tie.close (tie.spec (λ c κs. search rules) (λ c κs. search rules) returns)
+pub stretch_spec : {M : Type 1} → statement M
+stretch_spec = tie.close (tie.spec (λ c κs. search rules) (λ c κs. search rules) returns)

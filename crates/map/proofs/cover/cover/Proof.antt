@@ -13,45 +13,45 @@ use Rattle.map.proofs.cover.cover.Tie as tie
 within : (s : tie.Start) → s.args.p / 64 < length s.args.words.now
 within s = let h : s.args.p + s.args.size ≤ 64 * length s.args.words.now = s.requires.2 in omega (arith, h, s.requires.0)
 
-abbrev start : tie.After-with-ones → tie.Start
+abbrev start : tie.After-with_ones → tie.Start
 start c = c.before.before.before
 
 -- the words once the first is written
-abbrev begun : tie.After-with-ones → List ℕ
-begun c = let a = (start c).args in set a.words.now (a.p / 64) c.with-ones.result
+abbrev begun : tie.After-with_ones → List ℕ
+begun c = let a = (start c).args in set a.words.now (a.p / 64) c.with_ones.result
 
-same : (c : tie.After-with-ones) → length (begun c) ≡ length (start c).args.words.now
-same c = let a = (start c).args in length-set a.words.now (a.p / 64) c.with-ones.result
+same : (c : tie.After-with_ones) → length (begun c) ≡ length (start c).args.words.now
+same c = let a = (start c).args in length-set a.words.now (a.p / 64) c.with_ones.result
 
-returns : tie.Need-returns
+returns : tie.Need-returns-then-from-size-le64
 returns c =
     let w = c.before in
     let s = start w in
     let a = s.args in
-    covered_one a.size a.words.now a.p s.pre.0 c.if1.true (within s) w.with-ones.result w.with-ones.ensures
+    covered_one a.size a.words.now a.p s.requires.0 c.if-from-size-le64.true (within s) w.with_ones.result w.with_ones.ensures
 
 -- where the bits reach into the next word there is one
-next : (c : tie.Else1) → let a = (start c.before).args in a.p / 64 + 1 < length a.words.now
+next : (c : tie.Else-from-size-le64) → let a = (start c.before).args in a.p / 64 + 1 < length a.words.now
 next c =
     let s = start c.before in
-    let h : s.args.p + s.args.size ≤ 64 * length s.args.words.now = s.pre.2 in
-    let k : 64 < s.args.p % 64 + s.args.size = c.if1.false in
+    let h : s.args.p + s.args.size ≤ 64 * length s.args.words.now = s.requires.2 in
+    let k : 64 < s.args.p % 64 + s.args.size = c.if-from-size-le64.false in
     omega (arith, h)
 
-next_begun : (c : tie.Else1) → (start c.before).args.p / 64 + 1 < length (begun c.before)
+next_begun : (c : tie.Else-from-size-le64) → (start c.before).args.p / 64 + 1 < length (begun c.before)
 next_begun c = omega (arith, next c, same c.before)
 
-returns-2 : tie.Need-returns-2
+returns-2 : tie.Need-returns
 returns-2 c =
     let e = c.before.before in
     let w = e.before in
     let s = start w in
     let a = s.args in
-    covered_two a.words.now a.p a.size e.if1.false s.pre.1 (next e) w.with-ones.result w.with-ones.ensures
-    c.with-ones2.result c.with-ones2.ensures
+    covered_two a.words.now a.p a.size e.if-from-size-le64.false s.requires.1 (next e) w.with_ones.result w.with_ones.ensures
+    c.with_ones-2.result c.with_ones-2.ensures
 
-pub cover-spec : {M : Type 1} → statement M
-cover-spec =
+pub cover_spec : {M : Type 1} → statement M
+cover_spec =
     tie.close
     (tie.spec
     (λ c. search rules)
@@ -72,5 +72,5 @@ cover-spec =
     (λ c. search rules)
     (λ c. search rules)
     (λ c. next_begun c.before.before)
-    (λ c. let e = c.before.before in length-set (begun e.before) ((start e.before).args.p / 64 + 1) c.with-ones2.result ∙ same e.before)
+    (λ c. let e = c.before.before in length-set (begun e.before) ((start e.before).args.p / 64 + 1) c.with_ones-2.result ∙ same e.before)
     returns-2)

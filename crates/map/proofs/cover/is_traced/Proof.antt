@@ -7,5 +7,5 @@ use Rattle.map.proofs.cover.is_traced.Tie as tie
 returns : tie.Need-returns
 returns s = by_bit s.args.mark s.requires
 
-pub is-traced-spec : {M : Type 1} → statement M
-is-traced-spec = tie.close (tie.spec returns)
+pub is_traced_spec : {M : Type 1} → statement M
+is_traced_spec = tie.close (tie.spec returns)

@@ -6,8 +6,8 @@ use Rattle.views.specs.View.{viewed_of}
 use Rattle.map.proofs.update.as_updated.Statement.{statement}
 use Rattle.map.proofs.update.as_updated.Tie as tie
 
-pub as-updated-spec : {M : Type 1} → statement M
-as-updated-spec =
+pub as_updated_spec : {M : Type 1} → statement M
+as_updated_spec =
     tie.close
     (tie.spec
     (λ c. search rules)
@@ -15,8 +15,8 @@ as-updated-spec =
     (λ c. search rules)
     (λ c. search rules)
     (λ c. search rules)
-    (λ c. sym (ap viewed_of c.before.v.given.1))
-    (λ c. sym (ap viewed_of c.before.v2.given.1))
-    (λ c. sym (ap viewed_of c.before.v3.given.1))
-    (λ c. sym (ap viewed_of c.before.v4.given.1))
-    (λ c. sym (ap viewed_of c.before.v5.given.1)))
+    (λ c. sym (ap viewed_of c.in-Written.is))
+    (λ c. sym (ap viewed_of c.in-LongImage.is))
+    (λ c. sym (ap viewed_of c.in-ShortMarks.is))
+    (λ c. sym (ap viewed_of c.in-Damaged.is))
+    (λ c. sym (ap viewed_of c.in-NoRoom.is)))

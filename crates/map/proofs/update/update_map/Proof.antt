@@ -17,71 +17,71 @@ use Rattle.map.proofs.Updating.{refused_all, no_room_lem, outside, not_traced, s
 use Rattle.map.proofs.update.update_map.Statement.{statement}
 use Rattle.map.proofs.update.update_map.Tie as tie
 
-abbrev start : tie.After-is-written → tie.Start
+abbrev start : tie.After-is_written → tie.Start
 start c = c.before.before.before.before.before
 
-abbrev image : tie.After-is-written → List ℕ
+abbrev image : tie.After-is_written → List ℕ
 image c = (start c).args.image.now
 
-abbrev marks : tie.After-is-written → List ℕ
+abbrev marks : tie.After-is_written → List ℕ
 marks c = (start c).args.marks.now
 
-abbrev words : tie.After-is-written → List ℕ
+abbrev words : tie.After-is_written → List ℕ
 words c = (start c).args.words.now
 
-abbrev place : tie.After-is-written → ℕ
+abbrev place : tie.After-is_written → ℕ
 place c = (start c).args.p
 
-returns : tie.Need-returns
+returns : tie.Need-returns-then-not-is_written
 returns c =
     let w = c.before.before in
-    refused_all (image w) (marks w) (words w) (place w) w.before.check.result _ c.as-updated.ensures w.before.check.ensures
-    (sym w.is-written.ensures ∙ not-true _ c.before.if1.true)
+    refused_all (image w) (marks w) (words w) (place w) w.check-v.result _ c.as_updated.ensures w.check-v.ensures
+    (sym w.is_written.ensures ∙ not-true _ c.if-not-is_written.true-raw)
 
-sound : (c : tie.Else1) → Sound (image c.before) (marks c.before)
+sound : (c : tie.Else-not-is_written) → Sound (image c.before) (marks c.before)
 sound c =
     let w = c.before in
-    is_sound (image w) (marks w) w.before.check.result w.before.check.ensures (sym w.is-written.ensures ∙ not-false _ c.if1.false)
+    is_sound (image w) (marks w) w.check-v.result w.check-v.ensures (sym w.is_written.ensures ∙ not-false _ c.if-not-is_written.false-raw)
 
-add-need : tie.Need-overflow-add-need
+add-need : tie.Need-overflow_add-need
 add-need c = let h = small (image c.before) (marks c.before) (sound c) in record { fits = omega arith }
 
-returns-2 : tie.Need-returns-2
+returns-2 : tie.Need-returns-then-words-need
 returns-2 c =
     let e = c.before in
     let w = e.before in
-    no_room_lem (image w) (marks w) (words w) (place w) (sound e) c.if2.true
+    no_room_lem (image w) (marks w) (words w) (place w) (sound e) c.if-words-need.true
 
-returns-3 : tie.Need-returns-3
+returns-3 : tie.Need-returns-then-image-p
 returns-3 c =
     let r = c.before in
     let e = r.before in
     let w = e.before in
-    outside (image w) (marks w) (words w) (place w) (sound e) r.if2.false c.if3.true
+    outside (image w) (marks w) (words w) (place w) (sound e) r.if-words-need.false c.if-image-p.true
 
-read : tie.Need-shared-slice-read-is-traced
+read : tie.Need-bounds-marks-p
 read c =
     let i = c.before in
     let e = i.before.before in
     let w = e.before in
     let h : length (image w) ≤ length (marks w) = covered (image w) (marks w) (sound e) in
-    let k : place w < length (image w) = i.if3.false in
+    let k : place w < length (image w) = i.if-image-p.false in
     omega arith
 
-abbrev inner : tie.After-is-traced → tie.Else3
+abbrev inner : tie.After-is_traced → tie.Else-image-p
 inner c = c.before.before
 
-returns-4 : tie.Need-returns-4
+returns-4 : tie.Need-returns-then-not-is_traced
 returns-4 c =
     let t = c.before in
     let i = inner t in
     let r = i.before in
     let e = r.before in
     let w = e.before in
-    not_traced (image w) (marks w) (words w) (place w) (sound e) r.if2.left i.if3.left (sym t.is_traced.ensures ∙ not-true _ c.if4.true)
+    not_traced (image w) (marks w) (words w) (place w) (sound e) r.if-words-need.false i.if-image-p.false (sym t.is_traced.ensures ∙ not-true _ c.if-not-is_traced.true-raw)
 
-traced : (c : tie.Else4) → let w = (inner c.before).before.before.before in traced_mark (get_or (marks w) (place w) 0) ≡ true
-traced c = sym c.before.is_traced.ensures ∙ not-false _ c.if4.false
+traced : (c : tie.Else-not-is_traced) → let w = (inner c.before).before.before.before in traced_mark (get_or (marks w) (place w) 0) ≡ true
+traced c = sym c.is_traced.ensures ∙ not-false _ c.if-not-is_traced.false-raw
 
 cover-requires : tie.Need-cover-requires
 cover-requires c κs =
@@ -91,18 +91,18 @@ cover-requires c κs =
     let r = i.before in
     let e = r.before in
     let w = e.before in
-    let k : place w < length (image w) = i.if3.left in
+    let k : place w < length (image w) = i.if-image-p.false in
     let h = fits_within (image w) (place w) (fitting (image w) (marks w) (place w) (undamaged (image w) (marks w) (sound e) (place w) k) (traced o)) in
     let l = small (image w) (marks w) (sound e) in
-    let n = size_short (image w) (place w) (λ i. (w.before.before.before.before.shared-slice-known.given i).fits) in
-    let f = z.size-at.ensures in (
+    let n = size_short (image w) (place w) (λ i. (w.shared_slice_known-1.given i).fits) in
+    let f = z.size_at-size.ensures in (
       omega (arith, n.0, f),
       omega (arith, n.1, f),
-      omega (arith, f, r.if2.left),
+      omega (arith, f, r.if-words-need.false),
       omega (arith, f),
     )
 
-returns-5 : tie.Need-returns-5
+returns-5 : tie.Need-returns
 returns-5 c =
     let v = c.before.before in
     let z = v.before.before in
@@ -111,11 +111,11 @@ returns-5 c =
     let r = i.before in
     let e = r.before in
     let w = e.before in
-    set_all (image w) (marks w) (words w) (place w) (sound e) r.if2.left i.if3.left (traced o) z.size-at.result z.size-at.ensures _
+    set_all (image w) (marks w) (words w) (place w) (sound e) r.if-words-need.false i.if-image-p.false (traced o) z.size_at-size.result z.size_at-size.ensures _
     v.cover.ensures
 
-pub update-map-spec : {M : Type 1} → statement M
-update-map-spec =
+pub update_map_spec : {M : Type 1} → statement M
+update_map_spec =
     tie.close
     (tie.spec
     (λ c κs. search rules)

@@ -11,22 +11,22 @@ use Rattle.sweep.proofs.Sized.{refused_too, small, begun_long, begun_count, swep
 use Rattle.sweep.proofs.sweep.sweep.Statement.{statement}
 use Rattle.sweep.proofs.sweep.sweep.Tie as tie
 
-abbrev started : tie.After-slice-known2 → tie.After-start
+abbrev started : tie.After-slice_known-2-1 → tie.After-start
 started c = c.before.before
 
-abbrev start : tie.After-slice-known2 → tie.Start
+abbrev start : tie.After-slice_known-2-1 → tie.Start
 start c = (started c).before.before.before.before.before.before
 
-abbrev Accepted : tie.After-slice-known2 → ℕ → Type 0
+abbrev Accepted : tie.After-slice_known-2-1 → ℕ → Type 0
 Accepted c k = accepted k ≡ start_answer (start c).args.image.now (start c).args.marks.now (start c).args.entries.now (start c).args.pins.now
 
-set : (c : tie.After-enum-told) → Accepted c.before.before c.enum_told.given.0.0
-set c = sym (ap started_of c.enum_told.given.1) ∙ (started c.before.before).start.ensures.0
+set : (c : tie.In-Set) → Accepted c.before c.in-Set.field-0
+set c = sym (ap started_of c.in-Set.is) ∙ (started c.before).start.ensures.0
 
-sweep-on-requires : tie.Need-sweep-on-requires
+sweep-on-requires : tie.Need-sweep_on-requires
 sweep-on-requires c κs =
     let e = c.before in
-    let k = e.before.before in
+    let k = e.before in
     let a = (start k).args in
     let m = (started k).start.ensures.1 in (
       small a.mode a.image.now a.marks.now a.entries.now a.pins.now _ (set e),
@@ -34,33 +34,33 @@ sweep-on-requires c κs =
       rw m (begun_count a.mode a.image.now a.marks.now a.entries.now a.pins.now _ (set e)),
     )
 
-returns : tie.Need-returns
+returns : tie.Need-returns-in-Set
 returns c =
     let o = c.before.before in
     let e = o.before.before in
-    let k = e.before.before in
+    let k = e.before in
     let a = (start k).args in
-    swept a.mode a.image.now a.marks.now a.entries.now a.pins.now _ (set e) o.sweep-on.result _ _ (started k).start.ensures.1
-    o.sweep-on.ensures
+    swept a.mode a.image.now a.marks.now a.entries.now a.pins.now _ (set e) o.sweep_on.result _ _ (started k).start.ensures.1
+    o.sweep_on.ensures
 
-returns-2 : tie.Need-returns-2
+returns-2 : tie.Need-returns-in-LongImage
 returns-2 c =
-    let n = c.before in
-    let k = n.before.before in
+    let n = c in
+    let k = n.before in
     let a = (start k).args in
-    refused_too a.mode a.image.now a.marks.now a.entries.now a.pins.now 1 (pos n.n.given.0.0 ∷ []) _
-    (sym (ap started_of n.n.given.1) ∙ (started k).start.ensures.0) (started k).start.ensures.1
+    refused_too a.mode a.image.now a.marks.now a.entries.now a.pins.now 1 (pos n.in-LongImage.n ∷ []) _
+    (sym (ap started_of n.in-LongImage.is) ∙ (started k).start.ensures.0) (started k).start.ensures.1
 
-returns-3 : tie.Need-returns-3
+returns-3 : tie.Need-returns-in-ShortMarks
 returns-3 c =
-    let n = c.before in
-    let k = n.before.before in
+    let n = c in
+    let k = n.before in
     let a = (start k).args in
-    refused_too a.mode a.image.now a.marks.now a.entries.now a.pins.now 2 (pos n.n2.given.0.0 ∷ []) _
-    (sym (ap started_of n.n2.given.1) ∙ (started k).start.ensures.0) (started k).start.ensures.1
+    refused_too a.mode a.image.now a.marks.now a.entries.now a.pins.now 2 (pos n.in-ShortMarks.n ∷ []) _
+    (sym (ap started_of n.in-ShortMarks.is) ∙ (started k).start.ensures.0) (started k).start.ensures.1
 
-pub sweep-spec : {M : Type 1} → statement M
-sweep-spec =
+pub sweep_spec : {M : Type 1} → statement M
+sweep_spec =
     tie.close
     (tie.spec (λ c κs. search rules) (λ c. search rules) sweep-on-requires (λ c. search rules) (λ c. search rules) (λ c. search rules) returns
     (λ c. search rules) returns-2 (λ c. search rules) returns-3)

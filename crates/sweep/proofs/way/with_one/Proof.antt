@@ -7,31 +7,31 @@ use Rattle.sweep.proofs.Covering.{behind, within, past}
 use Rattle.sweep.proofs.way.with_one.Statement.{statement}
 use Rattle.sweep.proofs.way.with_one.Tie as tie
 
-returns : tie.Need-returns
+returns : tie.Need-returns-then-way-t
 returns c =
     let n = c.before in
-    let a = n.before.before.before.args in
-    behind a.way a.at a.t n.before.before.if1.true a.way.from (omega arith) (omega (arith, n.if2.true)) c.new.result
+    let a = n.args in
+    behind a.way a.at a.t n.if-t-at.true a.way.from (omega arith) (omega (arith, n.if-way-t.true)) c.new.result
     c.new.ensures
 
-returns-2 : tie.Need-returns-2
+returns-2 : tie.Need-returns-then-t-at
 returns-2 c =
     let n = c.before in
-    let a = n.before.before.before.args in
-    behind a.way a.at a.t n.before.before.if1.true a.t n.if2.false (omega arith) c.new2.result c.new2.ensures
+    let a = n.args in
+    behind a.way a.at a.t n.if-t-at.true a.t n.if-way-t.false (omega arith) c.new-then-t-at.result c.new-then-t-at.ensures
 
-returns-3 : tie.Need-returns-3
+returns-3 : tie.Need-returns-then-t-way
 returns-3 c =
-    let a = c.before.before.before.args in
-    within a.way a.at a.t c.before.before.if1.false c.if3.true
+    let a = c.args in
+    within a.way a.at a.t c.if-t-at.false c.if-t-way.true
 
-returns-4 : tie.Need-returns-4
+returns-4 : tie.Need-returns
 returns-4 c =
     let n = c.before in
-    let a = n.before.before.before.args in
-    past a.way a.at a.t n.before.before.if1.false n.if3.false c.new3.result c.new3.ensures
+    let a = n.args in
+    past a.way a.at a.t n.if-t-at.false n.if-t-way.false c.new-2.result c.new-2.ensures
 
-pub with-one-spec : {M : Type 1} → statement M
-with-one-spec =
+pub with_one_spec : {M : Type 1} → statement M
+with_one_spec =
     tie.close
     (tie.spec (λ c κs. search rules) returns (λ c κs. search rules) returns-2 returns-3 (λ c. search rules) (λ c κs. search rules) returns-4)

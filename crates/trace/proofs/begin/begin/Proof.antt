@@ -15,5 +15,5 @@ returns c =
     let a = s.args in
     o.pin.ensures ∙ ap (pin a.n a.pins.now) (d.clear.ensures.1 ∙ wiped_is _ a.marks.now s.requires)
 
-pub begin-spec : {M : Type 1} → statement M
-begin-spec = tie.close (tie.spec (λ c κs. search rules) (λ c κs. search rules) (λ c. search rules) returns)
+pub begin_spec : {M : Type 1} → statement M
+begin_spec = tie.close (tie.spec (λ c κs. search rules) (λ c κs. search rules) (λ c. search rules) returns)

@@ -15,34 +15,34 @@ use Rattle.trace.proofs.damage.damage_all.Tie as tie
 said : (n : ℕ) (m : List ℕ) {w w' : Places} (a : Answer (Unit {0})) → w ≡ w' → a ≡ judged n m (places_in w') → a ≡ judged n m (places_in w)
 said n m a e p = rw e p
 
-returns : tie.Need-returns
+returns : tie.Need-returns-then-is_damaged_mark
 returns c =
     let h = c.before in
-    let w = h.before.before in
-    let a = w.before.before.before.args in
-    said a.n a.marks.now _ w.ps2.given.1 (damaged_first a.n a.marks.now _ _ (sym h.is-damaged-mark.ensures ∙ c.if1.true))
+    let w = h.before in
+    let a = w.args in
+    said a.n a.marks.now _ w.in-Both.is (damaged_first a.n a.marks.now _ _ (sym h.is_damaged_mark.ensures ∙ c.if-is_damaged_mark.true))
 
-returns-2 : tie.Need-returns-2
+returns-2 : tie.Need-returns-in-Nothing
 returns-2 c =
-    let a = c.before.before.before.args in
-    said a.n a.marks.now _ c.enum_told.given.1 (sound_end a.n a.marks.now)
+    let a = c.args in
+    said a.n a.marks.now _ c.in-Nothing.is (sound_end a.n a.marks.now)
 
-returns-3 : tie.Need-returns-3
+returns-3 : tie.Need-returns-in-First
 returns-3 c =
-    let w = c.before.before in
-    let a = w.before.before.before.args in
-    said a.n a.marks.now _ w.ps.given.1 c.damage-one.ensures
+    let w = c.before in
+    let a = w.args in
+    said a.n a.marks.now _ w.in-First.is c.damage_one.ensures
 
-returns-4 : tie.Need-returns-4
+returns-4 : tie.Need-returns-else-is_damaged_mark
 returns-4 c =
     let h = c.before.before in
-    let w = h.before.before in
-    let a = w.before.before.before.args in
-    said a.n a.marks.now _ w.ps2.given.1
-    (c.damage-one2.ensures ∙ sound_first a.n a.marks.now _ _ (sym h.is-damaged-mark.ensures ∙ c.before.if1.false))
+    let w = h.before in
+    let a = w.args in
+    said a.n a.marks.now _ w.in-Both.is
+    (c.damage_one-in-Both.ensures ∙ sound_first a.n a.marks.now _ _ (sym h.is_damaged_mark.ensures ∙ c.if-is_damaged_mark.false))
 
-pub damage-all-spec : {M : Type 1} → statement M
-damage-all-spec =
+pub damage_all_spec : {M : Type 1} → statement M
+damage_all_spec =
     tie.close
     (tie.spec (λ c. search rules) (λ c. search rules) (λ c κs. search rules) (λ c. search rules) (λ c κs. search rules) returns
     (λ c κs. search rules) returns-2 returns-3 returns-4)

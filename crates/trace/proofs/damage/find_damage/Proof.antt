@@ -16,28 +16,28 @@ use Rattle.marks.proofs.Jmpf.{two_before}
 use Rattle.trace.proofs.damage.find_damage.Statement.{statement}
 use Rattle.trace.proofs.damage.find_damage.Tie as tie
 
-abbrev start : tie.After-is-flash → tie.Start
+abbrev start : tie.After-is_flash → tie.Start
 start c = c.before.before.before
 
-abbrev image : tie.After-is-flash → List ℕ
+abbrev image : tie.After-is_flash → List ℕ
 image c = (start c).args.image.now
 
-abbrev marks : tie.After-is-flash → List ℕ
+abbrev marks : tie.After-is_flash → List ℕ
 marks c = (start c).args.marks.now
 
-abbrev ways : tie.After-is-flash → List ℕ
+abbrev ways : tie.After-is_flash → List ℕ
 ways c = places_in (start c).args.to
 
-abbrev p : tie.After-is-flash → ℕ
+abbrev p : tie.After-is_flash → ℕ
 p c = (start c).args.p
 
-flash : (c : tie.Then1) → flash_here (image c.before) (p c.before) ≡ true
-flash c = sym c.before.is-flash.ensures ∙ c.if1.true
+flash : (c : tie.Then-is_flash) → flash_here (image c.before) (p c.before) ≡ true
+flash c = sym c.is_flash.ensures ∙ c.if-is_flash.true
 
-two : (c : tie.Then1) → 2 ≤ p c.before
+two : (c : tie.Then-is_flash) → 2 ≤ p c.before
 two c = two_before (image c.before) (p c.before) (flash c)
 
-read-before : tie.Need-shared-slice-read-before
+read-before : tie.Need-bounds-marks-p
 read-before c =
     let f = c.before.before in
     let h : 2 ≤ p f = two c.before in
@@ -45,30 +45,31 @@ read-before c =
     let l : length (image f) ≤ length (marks f) = (start f).requires.1 in
     omega arith
 
-returns : tie.Need-returns
+returns : tie.Need-returns-then-before-gt-HIGHEST
 returns c =
     let t = c.before.before in
     let f = t.before in
-    before_damaged (image f) (marks f) (ways f) (p f) (flash t) (lt-ltb 4 _ c.if2.true)
+    before_damaged (image f) (marks f) (ways f) (p f) (flash t) (lt-ltb 4 _ c.if-before-gt-HIGHEST.true)
 
-returns-2 : tie.Need-returns-2
+returns-2 : tie.Need-returns-then-is_traced
 returns-2 c =
     let r = c.before in
     let e = r.before in
     let t = e.before.before in
     let f = t.before in
-    exempted (image f) (marks f) (ways f) (p f) (flash t) (le-ltb 4 _ e.if2.false) (sym r.is_traced.ensures ∙ c.if3.true)
+    exempted (image f) (marks f) (ways f) (p f) (flash t) (le-ltb 4 _ e.if-before-gt-HIGHEST.false) (sym r.is_traced.ensures ∙ c.if-is_traced.true)
 
-returns-3 : tie.Need-returns-3
+returns-3 : tie.Need-returns
 returns-3 c =
     let j = c.before in
     let f = j.before in
-    let e = f.is-flash.ensures in
-    c.damage-all.ensures ∙ by_ways (image f) (marks f) (ways f) (p f)
-    (⊎_elim (λ w. inr (sym e ∙ w.0.taken, le-ltb 4 _ w.2.left, sym w.3.ensures ∙ w.4.left)) (λ w. inl (sym e ∙ w.left)) j.if1.branch)
+    let e = f.is_flash.ensures in
+    c.damage_all.ensures ∙ by_ways (image f) (marks f) (ways f) (p f)
+    (⊎_elim (λ w. inr (sym e ∙ w.if-is_flash.true, le-ltb 4 _ w.if-before-gt-HIGHEST.false, sym w.is_traced.ensures ∙ w.if-is_traced.false))
+    (λ w. inl (sym e ∙ w.if-is_flash.false)) j.if-is_flash.branch-raw)
 
-pub find-damage-spec : {M : Type 1} → statement M
-find-damage-spec =
+pub find_damage_spec : {M : Type 1} → statement M
+find_damage_spec =
     tie.close
     (tie.spec (λ c κs. search rules) (λ c. two c) read-before (λ c. two c.before.before) returns (λ c κs. search rules) returns-2
     (λ c κs. search rules) returns-3)

@@ -5,11 +5,11 @@ use Rattle.trace.proofs.Damages.{read_inside, read_outside}
 use Rattle.trace.proofs.damage.is_damaged_mark.Statement.{statement}
 use Rattle.trace.proofs.damage.is_damaged_mark.Tie as tie
 
-returns : tie.Need-returns
-returns c = let a = c.before.before.args in read_inside a.n a.marks.now a.t c.before.if1.true
+returns : tie.Need-returns-then-at-n
+returns c = let a = c.args in read_inside a.n a.marks.now a.t c.if-at-n.true
 
-returns-2 : tie.Need-returns-2
-returns-2 c = let a = c.before.args in read_outside a.n a.marks.now a.t c.if1.false
+returns-2 : tie.Need-returns
+returns-2 c = let a = c.args in read_outside a.n a.marks.now a.t c.if-at-n.false
 
-pub is-damaged-mark-spec : {M : Type 1} → statement M
-is-damaged-mark-spec = tie.close (tie.spec (λ c. search rules) returns returns-2)
+pub is_damaged_mark_spec : {M : Type 1} → statement M
+is_damaged_mark_spec = tie.close (tie.spec (λ c. search rules) returns returns-2)

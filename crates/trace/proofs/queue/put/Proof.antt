@@ -22,15 +22,15 @@ said o t r o' e p = rw e p
 both : (o : List ℕ) (t a b : ℕ) → set (set o t a) (t + 1) b ≡ sets o t (a ∷ b ∷ [])
 both o t a b = let e : t + 1 ≡ suc t = omega arith in ap (λ (k : ℕ). set (set o t a) k b) e
 
-one : (c : tie.After-ps) → c.before.before.args.tail + 1 ≤ length c.before.before.args.order.now
+one : (c : tie.In-First) → c.args.tail + 1 ≤ length c.args.order.now
 one c =
-    let s = c.before.before in
-    room_for s.args.tail (length s.args.order.now) _ _ (sym (ap places_in c.ps.given.1)) s.requires
+    let s = c.before in
+    room_for s.args.tail (length s.args.order.now) _ _ (sym (ap places_in c.in-First.is)) s.requires
 
-two : (c : tie.After-ps2) → c.before.before.args.tail + 2 ≤ length c.before.before.args.order.now
+two : (c : tie.In-Both) → c.args.tail + 2 ≤ length c.args.order.now
 two c =
-    let s = c.before.before in
-    room_for s.args.tail (length s.args.order.now) _ _ (sym (ap places_in c.ps2.given.1)) s.requires
+    let s = c.before in
+    room_for s.args.tail (length s.args.order.now) _ _ (sym (ap places_in c.in-Both.is)) s.requires
 
 pub put_spec : {M : Type 1} → statement M
 put_spec =
@@ -38,19 +38,19 @@ put_spec =
     (tie.spec
     (λ c. search rules)
     (λ c. search rules)
-    (λ c. let h = one c.before in omega arith)
-    (λ c. let h = one c.before in omega arith)
-    (λ c. let h = one c.before in omega arith)
+    (λ c. let h = one c in omega arith)
+    (λ c. let h = one c in omega arith)
+    (λ c. let h = one c in omega arith)
     (λ c. search rules)
-    (λ c. let h = two c.before in omega arith)
-    (λ c. let h = two c.before in omega arith)
-    (λ c. let h = two c.before in omega arith)
-    (λ c. let h = two c.before in omega arith)
-    (λ c. let h = two c.before in simp length-set (omega arith))
-    (λ c. let h = two c.before in omega arith)
-    (λ c. let s = c.before.before in said s.args.order.now s.args.tail _ _ c.enum_told.given.1 (sym (add-zero s.args.tail), refl))
+    (λ c. let h = two c in omega arith)
+    (λ c. let h = two c in omega arith)
+    (λ c. let h = two c in omega arith)
+    (λ c. let h = two c in omega arith)
+    (λ c. let h = two c in simp length-set (omega arith))
+    (λ c. let h = two c in omega arith)
+    (λ c. let s = c.before in said s.args.order.now s.args.tail _ _ c.in-Nothing.is (sym (add-zero s.args.tail), refl))
     (λ c. search rules)
-    (λ c. let w = c.before in let s = w.before.before in said s.args.order.now s.args.tail _ _ w.ps.given.1 (refl, refl))
+    (λ c. let w = c in let s = w.before in said s.args.order.now s.args.tail _ _ w.in-First.is (refl, refl))
     (λ c. search rules)
-    (λ c. let w = c.before in let s = w.before.before in
-    said s.args.order.now s.args.tail _ _ w.ps2.given.1 (refl, both s.args.order.now s.args.tail _ _)))
+    (λ c. let w = c in let s = w.before in
+    said s.args.order.now s.args.tail _ _ w.in-Both.is (refl, both s.args.order.now s.args.tail _ _)))

@@ -15,94 +15,94 @@ use Rattle.trace.proofs.StepAnswers.{long, short, outside, damaged_mark, not_wai
 use Rattle.trace.proofs.step.step.Statement.{statement}
 use Rattle.trace.proofs.step.step.Tie as tie
 
-abbrev start : tie.Else1 → tie.Start
+abbrev start : tie.Else-n-gt-LIMIT → tie.Start
 start c = c.before.before.before
 
-abbrev mode : tie.Else1 → Mode
+abbrev mode : tie.Else-n-gt-LIMIT → Mode
 mode c = (start c).args.mode
 
-abbrev image : tie.Else1 → List ℕ
+abbrev image : tie.Else-n-gt-LIMIT → List ℕ
 image c = (start c).args.image.now
 
-abbrev marks : tie.Else1 → List ℕ
+abbrev marks : tie.Else-n-gt-LIMIT → List ℕ
 marks c = (start c).args.marks.now
 
-abbrev p : tie.Else1 → ℕ
+abbrev p : tie.Else-n-gt-LIMIT → ℕ
 p c = (start c).args.p
 
-returns : tie.Need-returns
-returns c = let a = c.before.before.before.args in long a.mode a.image.now a.marks.now a.p c.if1.true
+returns : tie.Need-returns-then-n-gt-LIMIT
+returns c = let a = c.args in long a.mode a.image.now a.marks.now a.p c.if-n-gt-LIMIT.true
 
-returns-2 : tie.Need-returns-2
-returns-2 c = let f = c.before in short (mode f) (image f) (marks f) (p f) f.if1.false c.if2.true
+returns-2 : tie.Need-returns-then-marks-n
+returns-2 c = let f = c.before in short (mode f) (image f) (marks f) (p f) f.if-n-gt-LIMIT.false c.if-marks-n.true
 
-returns-3 : tie.Need-returns-3
+returns-3 : tie.Need-returns-then-n-at
 returns-3 c =
     let e = c.before in
     let f = e.before in
-    outside (mode f) (image f) (marks f) (p f) f.if1.false e.if2.false c.if3.true
+    outside (mode f) (image f) (marks f) (p f) f.if-n-gt-LIMIT.false e.if-marks-n.false c.if-n-at.true
 
-returns-4 : tie.Need-returns-4
+returns-4 : tie.Need-returns-then-mark-gt-HIGHEST
 returns-4 c =
     let g = c.before.before in
     let e = g.before in
     let f = e.before in
-    damaged_mark (mode f) (image f) (marks f) (p f) f.if1.false e.if2.false g.if3.false c.if4.true
+    damaged_mark (mode f) (image f) (marks f) (p f) f.if-n-gt-LIMIT.false e.if-marks-n.false g.if-n-at.false c.if-mark-gt-HIGHEST.true
 
-returns-5 : tie.Need-returns-5
+returns-5 : tie.Need-returns-then-mark-ne-WAITING
 returns-5 c =
     let h = c.before in
     let g = h.before.before in
     let e = g.before in
     let f = e.before in
-    not_waiting (mode f) (image f) (marks f) (p f) f.if1.false e.if2.false g.if3.false h.if4.false c.if5.true
+    not_waiting (mode f) (image f) (marks f) (p f) f.if-n-gt-LIMIT.false e.if-marks-n.false g.if-n-at.false h.if-mark-gt-HIGHEST.false c.if-mark-ne-WAITING.true
 
 -- the tests passed where the instruction is read
-abbrev third : tie.After-ways-at → tie.Else3
+abbrev third : tie.After-ways_at → tie.Else-n-at
 third c = c.before.before.before.before
 
-abbrev first : tie.After-ways-at → tie.Else1
+abbrev first : tie.After-ways_at → tie.Else-n-gt-LIMIT
 first c = (third c).before.before
 
-inside : (c : tie.After-ways-at) → p (first c) < length (image (first c))
-inside c = (third c).if3.false
+inside : (c : tie.After-ways_at) → p (first c) < length (image (first c))
+inside c = (third c).if-n-at.false
 
 -- where control goes from p, where its instruction is whole
-found : (c : tie.After-to) → (fits_here (image (first c.before.before)) (p (first c.before.before)) ≡ true)
-    × (places_in c.to.given.0.0 ≡ ways_here (mode (first c.before.before)) (image (first c.before.before)) (p (first c.before.before)))
+found : (c : tie.In-Goes) → (fits_here (image (first c.before)) (p (first c.before)) ≡ true)
+    × (places_in c.in-Goes.to ≡ ways_here (mode (first c.before)) (image (first c.before)) (p (first c.before)))
 found c =
-    let a = c.before.before in
-    goes_whole (mode (first a)) (image (first a)) (p (first a)) (inside a) (first a).if1.false c.to.given.0.0
-    (sym c.to.given.1 ∙ a.ways-at.ensures)
+    let a = c.before in
+    goes_whole (mode (first a)) (image (first a)) (p (first a)) (inside a) (first a).if-n-gt-LIMIT.false c.in-Goes.to
+    (sym c.in-Goes.is ∙ a.ways_at.ensures)
 
-step-whole-requires : tie.Need-step-whole-requires
+step-whole-requires : tie.Need-step_whole-requires
 step-whole-requires c κs =
-    let i = c.before.before in
-    let a = i.before.before in
-    (inside a, (third a).before.if2.false)
+    let i = c.before in
+    let a = i.before in
+    (inside a, (third a).if-marks-n.false)
 
-returns-6 : tie.Need-returns-6
+returns-6 : tie.Need-returns-in-Goes
 returns-6 c =
     let s = c.before.before in
-    let i = s.before.before.before in
-    let a = i.before.before in
+    let i = s.before.before in
+    let a = i.before in
     let f = first a in
-    whole (mode f) (image f) (marks f) (p f) f.if1.left (third a).before.if2.false (inside a) a.before.if5.false (found i).0 _ _
-    (inner_ways (mode f) (image f) _ (marks f) (p f) _ _ (found i).1 s.step-whole.ensures)
+    whole (mode f) (image f) (marks f) (p f) f.if-n-gt-LIMIT.false (third a).if-marks-n.false (inside a) a.if-mark-ne-WAITING.false (found i).0 _ _
+    (inner_ways (mode f) (image f) _ (marks f) (p f) _ _ (found i).1 s.step_whole.ensures)
 
-returns-7 : tie.Need-returns-7
+returns-7 : tie.Need-returns-in-Cut
 returns-7 c =
-    let k = c.before in
-    let a = k.before.before in
+    let k = c in
+    let a = k.before in
     let f = first a in
-    cut (mode f) (image f) (marks f) (p f) f.if1.left (third a).before.if2.false (inside a) a.before.if5.false k.c.given.0.0
-    (goes_cut (mode f) (image f) (p f) (inside a) f.if1.left k.c.given.0.0 (sym k.c.given.1 ∙ a.ways-at.ensures))
+    cut (mode f) (image f) (marks f) (p f) f.if-n-gt-LIMIT.false (third a).if-marks-n.false (inside a) a.if-mark-ne-WAITING.false k.in-Cut.c
+    (goes_cut (mode f) (image f) (p f) (inside a) f.if-n-gt-LIMIT.false k.in-Cut.c (sym k.in-Cut.is ∙ a.ways_at.ensures))
 
-returns-8 : tie.Need-returns-8
+returns-8 : tie.Need-returns-in-Outside
 returns-8 c =
-    let a = c.before.before in
+    let a = c.before in
     let f = first a in
-    absurd (never_outside (mode f) (image f) (p f) (inside a) f.if1.left (sym c.enum_told.given.1 ∙ a.ways-at.ensures))
+    absurd (never_outside (mode f) (image f) (p f) (inside a) f.if-n-gt-LIMIT.false (sym c.in-Outside.is ∙ a.ways_at.ensures))
 
 pub step_spec : {M : Type 1} → statement M
 step_spec =

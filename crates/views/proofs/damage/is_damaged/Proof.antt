@@ -7,18 +7,18 @@ use Rattle.views.proofs.Checking.{over, not_over}
 use Rattle.views.proofs.damage.is_damaged.Statement.{statement}
 use Rattle.views.proofs.damage.is_damaged.Tie as tie
 
-returns : tie.Need-returns
+returns : tie.Need-returns-then-mark-gt-HIGHEST
 returns c =
-    let a = c.before.before.before.before.args in
-    over a.image.now a.p a.marks.now (lt-ltb 4 _ c.if1.true)
+    let a = c.args in
+    over a.image.now a.p a.marks.now (lt-ltb 4 _ c.if-mark-gt-HIGHEST.true)
 
-returns-2 : tie.Need-returns-2
+returns-2 : tie.Need-returns
 returns-2 c =
     let e = c.before in
-    let a = e.before.before.before.before.args in
-    c.is-misplaced.ensures ∙ not_over a.image.now a.p a.marks.now (le-ltb 4 _ e.if1.false)
+    let a = e.args in
+    c.is_misplaced.ensures ∙ not_over a.image.now a.p a.marks.now (le-ltb 4 _ e.if-mark-gt-HIGHEST.false)
 
-pub is-damaged-spec : {M : Type 1} → statement M
-is-damaged-spec =
+pub is_damaged_spec : {M : Type 1} → statement M
+is_damaged_spec =
     tie.close
     (tie.spec (λ c. search rules) returns (λ c κs. search rules) returns-2)

@@ -14,56 +14,56 @@ use Rattle.views.proofs.Labelling.{labels_length}
 use Rattle.views.proofs.labels.target_marks.Statement.{statement}
 use Rattle.views.proofs.labels.target_marks.Tie as tie
 
-abbrev start : tie.After-is-written → tie.Start
+abbrev start : tie.After-is_written → tie.Start
 start c = c.before.before.before.before.before
 
-abbrev mode : tie.After-is-written → Mode
+abbrev mode : tie.After-is_written → Mode
 mode c = (start c).args.mode
 
-abbrev image : tie.After-is-written → List ℕ
+abbrev image : tie.After-is_written → List ℕ
 image c = (start c).args.image.now
 
-abbrev marks : tie.After-is-written → List ℕ
+abbrev marks : tie.After-is_written → List ℕ
 marks c = (start c).args.marks.now
 
-abbrev room : tie.After-is-written → List ℕ
+abbrev room : tie.After-is_written → List ℕ
 room c = (start c).args.room.now
 
-returns : tie.Need-returns
+returns : tie.Need-returns-then-not-is_written
 returns c =
     let w = c.before in
-    refused_all (image w) (marks w) (labels_of (mode w) (image w) (marks w)) (room w) w.before.check.result w.before.check.ensures
-    (sym w.is-written.ensures ∙ not-true _ c.if1.true)
+    refused_all (image w) (marks w) (labels_of (mode w) (image w) (marks w)) (room w) w.check-v.result w.check-v.ensures
+    (sym w.is_written.ensures ∙ not-true _ c.if-not-is_written.true-raw)
 
-sound : (c : tie.Else1) → Sound (image c.before) (marks c.before)
+sound : (c : tie.Else-not-is_written) → Sound (image c.before) (marks c.before)
 sound c =
     let w = c.before in
-    is_sound (image w) (marks w) w.before.check.result w.before.check.ensures (sym w.is-written.ensures ∙ not-false _ c.if1.false)
+    is_sound (image w) (marks w) w.check-v.result w.check-v.ensures (sym w.is_written.ensures ∙ not-false _ c.if-not-is_written.false-raw)
 
-returns-2 : tie.Need-returns-2
+returns-2 : tie.Need-returns-then-room-n
 returns-2 c =
     let e = c.before in
     let w = e.before in
     no_room_for (image w) (marks w) (labels_of (mode w) (image w) (marks w)) (room w) (sound e) (length (image w)) (labels_length (mode w) (image w) (marks w))
-    c.if2.true
+    c.if-room-n.true
 
-write-labels-requires : tie.Need-write-labels-requires
+write-labels-requires : tie.Need-write_labels-requires
 write-labels-requires c κs =
     let k = c.before in
     let e = k.before in
     let w = e.before in
-    (covered (image w) (marks w) (sound e), small (image w) (marks w) (sound e), k.if2.false)
+    (covered (image w) (marks w) (sound e), small (image w) (marks w) (sound e), k.if-room-n.false)
 
-returns-3 : tie.Need-returns-3
+returns-3 : tie.Need-returns
 returns-3 c =
     let p = c.before.before in
     let k = p.before.before in
     let e = k.before in
     let w = e.before in
     shown_as (image w) (marks w) (labels_of (mode w) (image w) (marks w)) (room w) (sound e) (length (image w)) (labels_length (mode w) (image w) (marks w))
-    k.if2.false _ p.write-labels.ensures
+    k.if-room-n.false _ p.write_labels.ensures
 
-pub target-marks-spec : {M : Type 1} → statement M
-target-marks-spec =
+pub target_marks_spec : {M : Type 1} → statement M
+target_marks_spec =
     tie.close
     (tie.spec (λ c κs. search rules) (λ c κs. search rules) returns returns-2 write-labels-requires (λ c. search rules) returns-3)

@@ -21,14 +21,14 @@ module _ (room : List ℕ) {o o' : Overlaps} (e : o ≡ o') (fits : length (over
   arm_fits : length (overlaps_in o') ≤ length room
   arm_fits = rw e at fits
 
-one : (c : tie.After-o) → 1 ≤ length c.before.before.args.room.now
-one c = let s = c.before.before in arm_fits s.args.room.now c.o.given.1 s.requires
+one : (c : tie.In-One) → 1 ≤ length c.args.room.now
+one c = let s = c.before in arm_fits s.args.room.now c.in-One.is s.requires
 
-two : (c : tie.After-o2) → 2 ≤ length c.before.before.args.room.now
-two c = let s = c.before.before in arm_fits s.args.room.now c.o2.given.1 s.requires
+two : (c : tie.In-Two) → 2 ≤ length c.args.room.now
+two c = let s = c.before in arm_fits s.args.room.now c.in-Two.is s.requires
 
-three : (c : tie.After-o3) → 3 ≤ length c.before.before.args.room.now
-three c = let s = c.before.before in arm_fits s.args.room.now c.o3.given.1 s.requires
+three : (c : tie.In-Three) → 3 ≤ length c.args.room.now
+three c = let s = c.before in arm_fits s.args.room.now c.in-Three.is s.requires
 
 pub put_spec : {M : Type 1} → statement M
 put_spec =
@@ -36,18 +36,18 @@ put_spec =
     (tie.spec
     (λ c. search rules)
     (λ c. search rules)
-    (λ c. let h = one c.before in omega arith)
+    (λ c. let h = one c in omega arith)
     (λ c. search rules)
-    (λ c. let h = two c.before in omega arith)
-    (λ c. let h = two c.before in simp length-set (omega arith))
+    (λ c. let h = two c in omega arith)
+    (λ c. let h = two c in simp length-set (omega arith))
     (λ c. search rules)
-    (λ c. let h = three c.before in omega arith)
-    (λ c. let h = three c.before in simp length-set (omega arith))
-    (λ c. let h = three c.before in simp length-set (omega arith))
-    (λ c. let s = c.before.before in arm s.args.room.now c.enum_told.given.1 s.requires)
+    (λ c. let h = three c in omega arith)
+    (λ c. let h = three c in simp length-set (omega arith))
+    (λ c. let h = three c in simp length-set (omega arith))
+    (λ c. let s = c.before in arm s.args.room.now c.in-Nothing.is s.requires)
     (λ c. search rules)
-    (λ c. let w = c.before in let s = w.before.before in arm s.args.room.now w.o.given.1 s.requires)
+    (λ c. let w = c in let s = w.before in arm s.args.room.now w.in-One.is s.requires)
     (λ c. search rules)
-    (λ c. let w = c.before in let s = w.before.before in arm s.args.room.now w.o2.given.1 s.requires)
+    (λ c. let w = c in let s = w.before in arm s.args.room.now w.in-Two.is s.requires)
     (λ c. search rules)
-    (λ c. let w = c.before in let s = w.before.before in arm s.args.room.now w.o3.given.1 s.requires))
+    (λ c. let w = c in let s = w.before in arm s.args.room.now w.in-Three.is s.requires))

@@ -5,14 +5,14 @@ use Rattle.views.proofs.Unmasking.{no_byte, by_trace}
 use Rattle.views.proofs.unmasked.is_untraced.Statement.{statement}
 use Rattle.views.proofs.unmasked.is_untraced.Tie as tie
 
-returns : tie.Need-returns
-returns c = let a = c.before.before.before.args in no_byte a.image.now a.marks.now a.b c.if1.true
+returns : tie.Need-returns-then-image-b
+returns c = let a = c.args in no_byte a.image.now a.marks.now a.b c.if-image-b.true
 
-returns-2 : tie.Need-returns-2
+returns-2 : tie.Need-returns
 returns-2 c =
     let i = c.before in
-    let a = i.before.before.before.args in
-    by_trace a.image.now a.marks.now a.b i.if1.false c.is-traced-at.result c.is-traced-at.ensures
+    let a = i.args in
+    by_trace a.image.now a.marks.now a.b i.if-image-b.false c.is_traced_at.result c.is_traced_at.ensures
 
-pub is-untraced-spec : {M : Type 1} → statement M
-is-untraced-spec = tie.close (tie.spec returns (λ c κs. search rules) returns-2)
+pub is_untraced_spec : {M : Type 1} → statement M
+is_untraced_spec = tie.close (tie.spec returns (λ c κs. search rules) returns-2)

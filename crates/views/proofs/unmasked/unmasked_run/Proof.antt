@@ -5,26 +5,26 @@ use Rattle.views.proofs.Unmasking.{run_covered, run_past, run_in}
 use Rattle.views.proofs.unmasked.unmasked_run.Statement.{statement}
 use Rattle.views.proofs.unmasked.unmasked_run.Tie as tie
 
-returns : tie.Need-returns
+returns : tie.Need-returns-then-at-end
 returns c =
     let t = c.before in
-    let a = t.before.before.before.args in run_covered a.image.now a.marks.now a.p a.end t.if1.true
+    let a = t.args in run_covered a.image.now a.marks.now a.p a.end t.if-at-end.true
 
-returns-2 : tie.Need-returns-2
+returns-2 : tie.Need-returns-then-image-at
 returns-2 c =
     let t = c.before in
     let i = t.before in
-    let a = i.before.before.before.args in run_past a.image.now a.marks.now a.p a.end i.if1.false t.if2.true
+    let a = i.args in run_past a.image.now a.marks.now a.p a.end i.if-at-end.false t.if-image-at.true
 
-returns-3 : tie.Need-returns-3
+returns-3 : tie.Need-returns
 returns-3 c =
     let r = c.before in
     let i = r.before.before in
-    let a = i.before.before.before.args in
-    run_in a.image.now a.marks.now a.p a.end i.if1.false r.untraced-length.result r.untraced-length.ensures.0
+    let a = i.args in
+    run_in a.image.now a.marks.now a.p a.end i.if-at-end.false r.untraced_length.result r.untraced_length.ensures.0
 
-pub unmasked-run-spec : {M : Type 1} → statement M
-unmasked-run-spec =
+pub unmasked_run_spec : {M : Type 1} → statement M
+unmasked_run_spec =
     tie.close
     (tie.spec
     (λ c. search rules)
