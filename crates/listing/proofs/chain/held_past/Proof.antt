@@ -10,18 +10,18 @@ use Rattle.listing.proofs.Chaining.{held_at, held_not}
 use Rattle.listing.proofs.chain.held_past.Statement.{statement}
 use Rattle.listing.proofs.chain.held_past.Tie as tie
 
-abbrev start : tie.Else1 → tie.Start
+abbrev start : tie.Else-c-q → tie.Start
 start e = e.before.before.before.before
 
-bytes : (e : tie.Else1) → OfBytes (start e).args.image.now
-bytes e = (λ i. (e.before.before.before.shared-slice-known.given i).fits, (start e).requires.0)
+bytes : (e : tie.Else-c-q) → OfBytes (start e).args.image.now
+bytes e = (λ i. (e.shared_slice_known-1.given i).fits, (start e).requires.0)
 
-returns : tie.Need-returns
+returns : tie.Need-returns-then-c-q
 returns c =
     let s = c.before.before.before.before in
     let a = s.args in
-    held_not a.mode a.image.now a.marks.now (λ i. (c.before.before.before.shared-slice-known.given i).fits, s.requires.0) a.p a.q a.c
-    s.requires.2 s.requires.3 c.if1.true
+    held_not a.mode a.image.now a.marks.now (λ i. (c.shared_slice_known-1.given i).fits, s.requires.0) a.p a.q a.c
+    s.requires.2 s.requires.3 c.if-c-q.true
 
 -- the next in the index
 next : (d : tie.After-next) → let a = (start d.before).args in
@@ -31,13 +31,13 @@ next d =
     let e = d.before in
     let s = start e in
     let a = s.args in
-    held_at a.mode a.image.now a.marks.now (bytes e) a.p a.q a.c d.next.result s.pre.2 s.pre.3 e.if1.false
-    (d.next.ensures ∙ ap (λ (i : List ℕ). next_in i a.q) s.pre.1)
+    held_at a.mode a.image.now a.marks.now (bytes e) a.p a.q a.c d.next.result s.requires.2 s.requires.3 e.if-c-q.false
+    (d.next.ensures ∙ ap (λ (i : List ℕ). next_in i a.q) s.requires.1)
 
-returns-2 : tie.Need-returns-2
-returns-2 c = c.held-from.ensures ∙ (next c.before).1
+returns-2 : tie.Need-returns
+returns-2 c = c.held_from.ensures ∙ (next c.before).1
 
-pub held-past-spec : {M : Type 1} → statement M
-held-past-spec =
+pub held_past_spec : {M : Type 1} → statement M
+held_past_spec =
     tie.close
-    (tie.spec returns (λ c κs. search rules) (λ c κs. let s = start c.before in (s.pre.0, s.pre.1, (next c).0)) returns-2)
+    (tie.spec returns (λ c κs. search rules) (λ c κs. let s = start c.before in (s.requires.0, s.requires.1, (next c).0)) returns-2)

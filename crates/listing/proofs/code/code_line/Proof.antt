@@ -12,39 +12,39 @@ use Rattle.listing.proofs.Opened.{none_alone, text_alone}
 use Rattle.listing.proofs.code.code_line.Statement.{statement}
 use Rattle.listing.proofs.code.code_line.Tie as tie
 
-abbrev start : tie.After-size-at → tie.Start
+abbrev start : tie.After-size_at → tie.Start
 start z = z.before.before.before
 
-abbrev bytes : tie.After-size-at → List ℕ
+abbrev bytes : tie.After-size_at → List ℕ
 bytes z = (start z).args.bytes.now
 
-all : (z : tie.After-size-at) → Small (bytes z)
-all z n = (z.before.before.shared-slice-known.given n).fits
+all : (z : tie.After-size_at) → Small (bytes z)
+all z n = (z.shared_slice_known-1.given n).fits
 
-size : (z : tie.After-size-at) → z.size-at.result ≡ size_here (bytes z) 0
-size z = z.size-at.ensures
+size : (z : tie.After-size_at) → z.size_at.result ≡ size_here (bytes z) 0
+size z = z.size_at.ensures
 
 wide : (s : tie.Start) → s.args.p < 4294967296
 wide s = search rules
 
-add-next : tie.Need-overflow-add-next
+add-next : tie.Need-overflow_add-next
 add-next c = record { fits = omega (arith, size c, (size_short (bytes c) 0 (all c)).1, wide (start c)) }
 
-returns : tie.Need-returns
+returns : tie.Need-returns-then-next
 returns c =
     let z = c.before in
     let a = (start z).args in
-    puts_as (none_alone a.mode a.p (bytes z) (all z) (omega (arith, size z, c.if1.true))) (puts_none _ _)
+    puts_as (none_alone a.mode a.p (bytes z) (all z) (omega (arith, size z, c.if-next.true))) (puts_none _ _)
 
-returns-2 : tie.Need-returns-2
+returns-2 : tie.Need-returns
 returns-2 c =
     let k = c.before.before in
     let e = k.before.before in
     let z = e.before in
     let a = (start z).args in
-    puts_as (text_alone a.mode a.p (bytes z) (all z) (omega (arith, size z, e.if1.false))) k.put-instr.ensures.0
+    puts_as (text_alone a.mode a.p (bytes z) (all z) (omega (arith, size z, e.if-next.false))) k.put_instr.ensures.0
 
-pub code-line-spec : {M : Type 1} → statement M
-code-line-spec =
+pub code_line_spec : {M : Type 1} → statement M
+code_line_spec =
     tie.close
     (tie.spec (λ c κs. search rules) (λ c. search rules) add-next (λ c. search rules) returns (λ c κs. search rules) (λ c. search rules) returns-2)

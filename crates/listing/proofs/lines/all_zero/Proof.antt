@@ -11,30 +11,30 @@ use Rattle.listing.proofs.Lining.{zeros_on, zeros_off, zeros_end}
 use Rattle.listing.proofs.lines.all_zero.Statement.{statement}
 use Rattle.listing.proofs.lines.all_zero.Tie as tie
 
-abbrev invariant_loop : tie.invariant-loop
+abbrev invariant_loop : tie.invariant-loop-i
 invariant_loop bytes i₀ i = (i ≤ length bytes) × (all_zero (drop i bytes) ≡ all_zero bytes)
 
-abbrev decreases_loop : tie.decreases-loop
+abbrev decreases_loop : tie.decreases-loop-i
 decreases_loop bytes i₀ i = length bytes - i
 
-returns : tie.Need-returns invariant_loop decreases_loop
+returns : tie.Need-returns-then-bytes-i-ne0 invariant_loop decreases_loop
 returns c =
     let i = c.before.before in
     let l = i.before in
-    zeros_off l.before.args.bytes.now l.loop.i i.loop-test.true c.if1.true ∙ l.loop.invariant.1
+    zeros_off l.args.bytes.now l.loop-i.i i.loop-i-test.true c.if-bytes-i-ne0.true ∙ l.loop-i.invariant.1
 
-loop-again : tie.Need-loop-preserved invariant_loop decreases_loop
+loop-again : tie.Need-loop-i-preserved invariant_loop decreases_loop
 loop-again c =
     let i = c.before.before in
     let l = i.before in
-    let bytes : List ℕ = l.before.args.bytes.now in
-    let h : l.loop.i < length bytes = i.loop-test.true in
-    (omega arith, zeros_on bytes l.loop.i h c.if1.false ∙ l.loop.invariant.1)
+    let bytes : List ℕ = l.args.bytes.now in
+    let h : l.loop-i.i < length bytes = i.loop-i-test.true in
+    (omega arith, zeros_on bytes l.loop-i.i h c.if-bytes-i-ne0.false ∙ l.loop-i.invariant.1)
 
-returns-2 : tie.Need-returns-2 invariant_loop decreases_loop
-returns-2 c = let l = c.before in zeros_end l.before.args.bytes.now l.loop.i c.loop-test.false ∙ l.loop.invariant.1
+returns-2 : tie.Need-returns invariant_loop decreases_loop
+returns-2 c = let l = c.before in zeros_end l.args.bytes.now l.loop-i.i c.loop-i-test.false ∙ l.loop-i.invariant.1
 
-pub all-zero-spec : {M : Type 1} → statement M
-all-zero-spec =
+pub all_zero_spec : {M : Type 1} → statement M
+all_zero_spec =
     tie.close
     (tie.spec invariant_loop decreases_loop (λ c. (omega arith, refl)) (λ c. search rules) returns (λ c. search rules) (λ c. search rules) loop-again returns-2)

@@ -25,7 +25,7 @@ use Rattle.listing.proofs.lines.put_arrived.Tie as tie
 abbrev text : List ℕ → List ℕ
 text qs = fields_text (map hex4 qs)
 
-abbrev invariant_loop : tie.invariant-loop
+abbrev invariant_loop : tie.invariant-loop-q
 invariant_loop mode image marks index out₀ at p named falls n a₀ c₀ f₀ q₀ out a c f q =
     (length out ≡ length out₀)
     × (a + 5 * length (left_from mode image marks p q) ≤ at + 327680)
@@ -34,39 +34,39 @@ invariant_loop mode image marks index out₀ at p named falls n a₀ c₀ f₀ q
     × (c ≡ next_held mode image marks p q)
     × (f ≡ next_fall mode image marks p q)
 
-abbrev decreases_loop : tie.decreases-loop
+abbrev decreases_loop : tie.decreases-loop-q
 decreases_loop mode image marks index out₀ at p named falls n a₀ c₀ f₀ q₀ out a c f q = length (left_from mode image marks p q)
 
-abbrev start : tie.After-slice-known invariant_loop decreases_loop → tie.Start invariant_loop decreases_loop
+abbrev start : tie.After-slice_known-1 invariant_loop decreases_loop → tie.Start invariant_loop decreases_loop
 start c = c.before.before.before.before
 
-abbrev mode : tie.After-slice-known invariant_loop decreases_loop → Mode
+abbrev mode : tie.After-slice_known-1 invariant_loop decreases_loop → Mode
 mode c = (start c).args.mode
 
-abbrev image : tie.After-slice-known invariant_loop decreases_loop → List ℕ
+abbrev image : tie.After-slice_known-1 invariant_loop decreases_loop → List ℕ
 image c = (start c).args.image.now
 
-abbrev marks : tie.After-slice-known invariant_loop decreases_loop → List ℕ
+abbrev marks : tie.After-slice_known-1 invariant_loop decreases_loop → List ℕ
 marks c = (start c).args.marks.now
 
-abbrev p : tie.After-slice-known invariant_loop decreases_loop → ℕ
+abbrev p : tie.After-slice_known-1 invariant_loop decreases_loop → ℕ
 p c = (start c).args.p
 
-bytes : (s : tie.After-slice-known invariant_loop decreases_loop) → OfBytes (image s)
-bytes s = (λ i. (s.before.before.before.shared-slice-known.given i).fits, (start s).requires.1)
+bytes : (s : tie.After-slice_known-1 invariant_loop decreases_loop) → OfBytes (image s)
+bytes s = (λ i. (s.shared_slice_known-1.given i).fits, (start s).requires.1)
 
 -- the lower of both is the next arrival
-lowest : (s : tie.After-slice-known invariant_loop decreases_loop) (k c f q : ℕ) → c ≡ next_held (mode s) (image s) (marks s) (p s) k
+lowest : (s : tie.After-slice_known-1 invariant_loop decreases_loop) (k c f q : ℕ) → c ≡ next_held (mode s) (image s) (marks s) (p s) k
     → f ≡ next_fall (mode s) (image s) (marks s) (p s) k → q ≡ cond (ltb c f) c f → q ≡ next_arrival (mode s) (image s) (marks s) (p s) k
 lowest s k c f q e d g = g ∙ lower_arrival (mode s) (image s) (marks s) (bytes s) (p s) (start s).requires.3 k c f e d
 
-loop-holds : tie.Need-loop-init invariant_loop decreases_loop
+loop-holds : tie.Need-loop-q-init invariant_loop decreases_loop
 loop-holds c =
     let s = c.before in
     let a = (start s).args in
     let v = (start s).requires in
-    let q : ℕ = c.lower.result in
-    let l = lowest s 0 a.named a.falls q v.4 v.5 c.lower.ensures in
+    let q : ℕ = c.lower-q.result in
+    let l = lowest s 0 a.named a.falls q v.4 v.5 c.lower-q.ensures in
     let n = next_is (mode s) (image s) (marks s) (p s) v.1 0 q l in
     let e : left_from (mode s) (image s) (marks s) (p s) q ≡ arrivals_of (mode s) (image s) (marks s) (p s) =
     n.same ∙ all_left (mode s) (image s) (marks s) (p s) in (
@@ -79,73 +79,73 @@ loop-holds c =
     )
 
 -- one turn
-abbrev held : tie.After-lower2 invariant_loop decreases_loop → tie.After-held-past invariant_loop decreases_loop
+abbrev held : tie.After-lower-q-in-loop-q invariant_loop decreases_loop → tie.After-held_past-c invariant_loop decreases_loop
 held c = c.before.before
 
-abbrev put : tie.After-lower2 invariant_loop decreases_loop → tie.After-put-place invariant_loop decreases_loop
+abbrev put : tie.After-lower-q-in-loop-q invariant_loop decreases_loop → tie.After-put_place-a invariant_loop decreases_loop
 put c = (held c).before.before.before
 
-abbrev turning : tie.After-lower2 invariant_loop decreases_loop → tie.In-loop invariant_loop decreases_loop
+abbrev turning : tie.After-lower-q-in-loop-q invariant_loop decreases_loop → tie.In-loop-q invariant_loop decreases_loop
 turning c = (put c).before.before
 
-abbrev known : tie.After-lower2 invariant_loop decreases_loop → tie.After-slice-known invariant_loop decreases_loop
+abbrev known : tie.After-lower-q-in-loop-q invariant_loop decreases_loop → tie.After-slice_known-1 invariant_loop decreases_loop
 known c = (turning c).before.before.before
 
 -- the arrival after q
-arrives_next : (c : tie.After-lower2 invariant_loop decreases_loop) → let s = known c in
-    c.lower2.result ≡ next_arrival (mode s) (image s) (marks s) (p s) ((turning c).before.loop.q + 1)
+arrives_next : (c : tie.After-lower-q-in-loop-q invariant_loop decreases_loop) → let s = known c in
+    c.lower-q-in-loop-q.result ≡ next_arrival (mode s) (image s) (marks s) (p s) ((turning c).loop-q.q + 1)
 arrives_next c =
-    lowest (known c) ((turning c).before.loop.q + 1) (held c).held-past.result c.before.fall-past.result c.lower2.result
-    (held c).held-past.ensures c.before.fall-past.ensures c.lower2.ensures
+    lowest (known c) ((turning c).loop-q.q + 1) (held c).held_past-c.result c.fall_past-f.result c.lower-q-in-loop-q.result
+    (held c).held_past-c.ensures c.fall_past-f.ensures c.lower-q-in-loop-q.ensures
 
-next : (c : tie.After-lower2 invariant_loop decreases_loop) → let s = known c in Next (mode s) (image s) (marks s) (p s) ((turning c).before.loop.q + 1) c.lower2.result
-next c = let s = known c in next_is (mode s) (image s) (marks s) (p s) (start s).pre.1 ((turning c).before.loop.q + 1) c.lower2.result (arrives_next c)
+next : (c : tie.After-lower-q-in-loop-q invariant_loop decreases_loop) → let s = known c in Next (mode s) (image s) (marks s) (p s) ((turning c).loop-q.q + 1) c.lower-q-in-loop-q.result
+next c = let s = known c in next_is (mode s) (image s) (marks s) (p s) (start s).requires.1 ((turning c).loop-q.q + 1) c.lower-q-in-loop-q.result (arrives_next c)
 
 -- one less is left
-turn : (c : tie.After-lower2 invariant_loop decreases_loop) → let s = known c in let l = (turning c).before in
-    left_from (mode s) (image s) (marks s) (p s) l.loop.q ≡ l.loop.q ∷ left_from (mode s) (image s) (marks s) (p s) c.lower2.result
+turn : (c : tie.After-lower-q-in-loop-q invariant_loop decreases_loop) → let s = known c in let l = (turning c).before in
+    left_from (mode s) (image s) (marks s) (p s) l.loop-q.q ≡ l.loop-q.q ∷ left_from (mode s) (image s) (marks s) (p s) c.lower-q-in-loop-q.result
 turn c =
     let t = turning c in
     let l = t.before in
     let s = known c in
-    passed (mode s) (image s) (marks s) (p s) (start s).pre.1 l.loop.q c.lower2.result t.loop-test.taken l.loop.inv.3 (next c)
+    passed (mode s) (image s) (marks s) (p s) (start s).requires.1 l.loop-q.q c.lower-q-in-loop-q.result t.loop-q-test.true l.loop-q.invariant.3 (next c)
 
-loop-again : tie.Need-loop-preserved invariant_loop decreases_loop
+loop-again : tie.Need-loop-q-preserved invariant_loop decreases_loop
 unfolding fields_text
 loop-again c =
     let k = put c in
     let l = (turning c).before in
     let s = known c in
-    let v = l.loop.inv in
-    let q : ℕ = c.lower2.result in
-    let j : ℕ = l.loop.q + 1 in
-    let h : k.put-place.result ≤ l.loop.a + 5 = puts_place l.loop.q k.put-place.ensures in (
-      puts_length k.put-place.ensures ∙ v.0,
+    let v = l.loop-q.invariant in
+    let q : ℕ = c.lower-q-in-loop-q.result in
+    let j : ℕ = l.loop-q.q + 1 in
+    let h : k.put_place-a.result ≤ l.loop-q.a + 5 = puts_place l.loop-q.q k.put_place-a.ensures in (
+      puts_length k.put_place-a.ensures ∙ v.0,
       omega (arith, h, v.1, ap length (turn c)),
-      going_next v.2 (ap text (turn c)) k.put-place.ensures,
+      going_next v.2 (ap text (turn c)) k.put_place-a.ensures,
       (next c).head,
-      held_kept (mode s) (image s) (marks s) (bytes s) (p s) (start s).pre.3 j q (held c).held-past.result (arrives_next c) (held c).held-past.ensures,
-      fall_kept (mode s) (image s) (marks s) (bytes s) (p s) (start s).pre.3 j q c.before.fall-past.result (arrives_next c)
-          c.before.fall-past.ensures,
+      held_kept (mode s) (image s) (marks s) (bytes s) (p s) (start s).requires.3 j q (held c).held_past-c.result (arrives_next c) (held c).held_past-c.ensures,
+      fall_kept (mode s) (image s) (marks s) (bytes s) (p s) (start s).requires.3 j q c.fall_past-f.result (arrives_next c)
+          c.fall_past-f.ensures,
     )
 
-held-past-requires : tie.Need-held-past-requires invariant_loop decreases_loop
+held-past-requires : tie.Need-held_past-c-requires invariant_loop decreases_loop
 held-past-requires c κs =
     let t = c.before.before.before.before in
     let l = t.before in
     let s = start l.before.before in
-    (s.pre.1, s.pre.2, t.loop-test.true, l.loop.invariant.4)
+    (s.requires.1, s.requires.2, t.loop-q-test.true, l.loop-q.invariant.4)
 
-fall-past-requires : tie.Need-fall-past-requires invariant_loop decreases_loop
+fall-past-requires : tie.Need-fall_past-f-requires invariant_loop decreases_loop
 fall-past-requires c κs =
     let t = c.before.before.before.before.before in
     let l = t.before in
     let s = start l.before.before in
-    (s.pre.1, t.loop-test.true, l.loop.invariant.5)
+    (s.requires.1, t.loop-q-test.true, l.loop-q.invariant.5)
 
 -- where the writer stands
-place : (l : tie.At-loop invariant_loop decreases_loop) → l.loop.a ≤ (start l.before.before).args.at + 327680
-place l = omega (arith, l.loop.invariant.1)
+place : (l : tie.At-loop-q invariant_loop decreases_loop) → l.loop-q.a ≤ (start l.before.before).args.at + 327680
+place l = omega (arith, l.loop-q.invariant.1)
 
 returns : tie.Need-returns invariant_loop decreases_loop
 unfolding fields_text
@@ -154,21 +154,21 @@ returns c =
     let e = k.before.before in
     let l = e.before in
     let s = l.before.before in
-    let z : text (left_from (mode s) (image s) (marks s) (p s) l.loop.q) ≡ 10 ∷ [] =
-    ap text (none_left (mode s) (image s) (marks s) (p s) l.loop.q e.loop-test.false) in
-    let h : k.put_byte.result ≤ l.loop.a + 1 = puts_most k.put_byte.ensures (omega arith) in
-    (going_over (going_next l.loop.invariant.2 z k.put_byte.ensures) refl, omega (arith, h, place l))
+    let z : text (left_from (mode s) (image s) (marks s) (p s) l.loop-q.q) ≡ 10 ∷ [] =
+    ap text (none_left (mode s) (image s) (marks s) (p s) l.loop-q.q e.loop-q-test.false) in
+    let h : k.put_byte.result ≤ l.loop-q.a + 1 = puts_most k.put_byte.ensures (omega arith) in
+    (going_over (going_next l.loop-q.invariant.2 z k.put_byte.ensures) refl, omega (arith, h, place l))
 
 -- there is room for what comes
-near : (l : tie.At-loop invariant_loop decreases_loop) → l.loop.a < 2 ^ 56
+near : (l : tie.At-loop-q invariant_loop decreases_loop) → l.loop-q.a < 2 ^ 56
 near l =
     let s = start l.before.before in
-    let b : s.args.at < 2 ^ 55 = s.pre.0 in
+    let b : s.args.at < 2 ^ 55 = s.requires.0 in
     let h = place l in
     omega (arith, b, h)
 
-pub put-arrived-spec : {M : Type 1} → statement M
-put-arrived-spec =
+pub put_arrived_spec : {M : Type 1} → statement M
+put_arrived_spec =
     tie.close
     (tie.spec
     invariant_loop
@@ -183,5 +183,5 @@ put-arrived-spec =
     (λ c. omega (arith, ap length (turn c)))
     loop-again
     (λ c κs. let h = near c.before.before in omega arith)
-    (λ c. let k = c.before.before in puts_length k.put_byte.ensures ∙ k.before.before.before.loop.invariant.0)
+    (λ c. let k = c.before.before in puts_length k.put_byte.ensures ∙ k.loop-q.invariant.0)
     returns)

@@ -15,21 +15,21 @@ use Rattle.listing.proofs.lines.put_found.Tie as tie
 abbrev text : Overlaps → List ℕ
 text o = fields_text (map hex4 (overlaps_in o))
 
-returns : tie.Need-returns
+returns : tie.Need-returns-in-Nothing
 unfolding fields_text
-returns c = let k = c.before.before in puts_as (ap text (sym k.before.before.enum_told.given.1)) k.put_byte.ensures
+returns c = let k = c.before.before in puts_as (ap text (sym k.in-Nothing.is)) k.put_byte.ensures
 
-returns-2 : tie.Need-returns-2
-returns-2 c = let k = c.before.before in puts_as (ap text (sym k.before.before.before.o.given.1)) k.put_one.ensures
+returns-2 : tie.Need-returns-in-One
+returns-2 c = let k = c.before.before in puts_as (ap text (sym k.in-One.is)) k.put_one.ensures
 
-returns-3 : tie.Need-returns-3
-returns-3 c = let k = c.before.before in puts_as (ap text (sym k.before.before.before.o2.given.1)) k.put_two.ensures
+returns-3 : tie.Need-returns-in-Two
+returns-3 c = let k = c.before.before in puts_as (ap text (sym k.in-Two.is)) k.put_two.ensures
 
-returns-4 : tie.Need-returns-4
-returns-4 c = let k = c.before.before in puts_as (ap text (sym k.before.before.before.o3.given.1)) k.put_three.ensures
+returns-4 : tie.Need-returns-in-Three
+returns-4 c = let k = c.before.before in puts_as (ap text (sym k.in-Three.is)) k.put_three.ensures
 
-pub put-found-spec : {M : Type 1} → statement M
-put-found-spec =
+pub put_found_spec : {M : Type 1} → statement M
+put_found_spec =
     tie.close
     (tie.spec
     (λ c. search rules) (λ c κs. search rules)

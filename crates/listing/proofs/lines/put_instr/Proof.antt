@@ -20,42 +20,42 @@ start d = d.before.before.before
 abbrev bytes : tie.After-decode → List ℕ
 bytes d = (start d).args.bytes.now
 
-answered : (k : tie.After-v) → accepted k.v.given.0.0 ≡ parts_answer (bytes k.before.before)
-answered k = ap decoded_parts_of (sym k.v.given.1) ∙ k.before.before.decode.ensures
+answered : (k : tie.In-Found) → accepted k.in-Found.v ≡ parts_answer (bytes k.before)
+answered k = ap decoded_parts_of (sym k.in-Found.is) ∙ k.decode.ensures
 
-put-parts-requires : tie.Need-put-parts-requires
-put-parts-requires c κs = let k = c.before.before in ((start k.before.before).requires, answered k)
+put-parts-requires : tie.Need-put_parts-requires
+put-parts-requires c κs = let k = c.before in ((start k.before).requires, answered k)
 
 -- the text of each answer
 abbrev text : tie.After-decode → List ℕ
 text d = text_of (start d).args.mode (start d).args.p (bytes d) (decode_answer (bytes d))
 
-returns : tie.Need-returns
+returns : tie.Need-returns-in-Found
 returns c =
     let q = c.before.before in
-    let k = q.before.before.before in
-    let d = k.before.before in (
+    let k = q.before.before in
+    let d = k.before in (
       puts_as
-          (ap (text_of (start d).args.mode (start d).args.p (bytes d)) (found_whole (bytes d) k.v.given.0.0 (answered k)).whole)
-          q.put-parts.ensures.0,
-      q.put-parts.ensures.1,
+          (ap (text_of (start d).args.mode (start d).args.p (bytes d)) (found_whole (bytes d) k.in-Found.v (answered k)).whole)
+          q.put_parts.ensures.0,
+      q.put_parts.ensures.1,
     )
 
 none : (d : tie.After-decode) (n : ℕ) (vs : List ℤ) → refused n vs ≡ parts_answer (bytes d) → [] ≡ text d
 none d n vs e = ap (text_of (start d).args.mode (start d).args.p (bytes d)) (refused_whole (bytes d) n vs e)
 
-returns-2 : tie.Need-returns-2
+returns-2 : tie.Need-returns-in-Nothing
 returns-2 c =
-    let d = c.before.before in
-    (puts_as (none d 12 _ (ap decoded_parts_of (sym c.enum_told.given.1) ∙ d.decode.ensures)) (puts_none _ _), omega arith)
+    let d = c.before in
+    (puts_as (none d 12 _ (ap decoded_parts_of (sym c.in-Nothing.is) ∙ d.decode.ensures)) (puts_none _ _), omega arith)
 
-returns-3 : tie.Need-returns-3
+returns-3 : tie.Need-returns-in-Cut
 returns-3 c =
-    let d = c.before.before in
-    (puts_as (none d 5 _ (ap decoded_parts_of (sym c.enum-told2.given.1) ∙ d.decode.ensures)) (puts_none _ _), omega arith)
+    let d = c.before in
+    (puts_as (none d 5 _ (ap decoded_parts_of (sym c.in-Cut.is) ∙ d.decode.ensures)) (puts_none _ _), omega arith)
 
-pub put-instr-spec : {M : Type 1} → statement M
-put-instr-spec =
+pub put_instr_spec : {M : Type 1} → statement M
+put_instr_spec =
     tie.close
     (tie.spec (λ c κs. search rules) (λ c. search rules) put-parts-requires (λ c. search rules) (λ c. search rules) (λ c. search rules) returns
     returns-2 returns-3)

@@ -16,41 +16,41 @@ start n = n.before.before.before.before.before
 abbrev found : tie.After-count → List ℕ
 found n = overlaps_of (start n).args.image.now (start n).args.marks.now (start n).args.p
 
-returns : tie.Need-returns
+returns : tie.Need-returns-then-count-eq0
 returns c =
     let n = c.before in
     let o = n.before in (
-      puts_as (no_overlaps (start n).args.p o.overlaps-at.result (found n) o.overlaps-at.ensures n.count.result n.count.ensures
-          c.if1.true) (puts_none _ _),
+      puts_as (no_overlaps (start n).args.p o.overlaps_at-o.result (found n) o.overlaps_at-o.ensures n.count.result n.count.ensures
+          c.if-count-eq0.true) (puts_none _ _),
       omega arith,
     )
 
-begun : (j : tie.After-put-start) → j.put-start.result ≤ (start j.before.before.before).args.at + 6
-begun j = puts_begin (start j.before.before.before).args.p j.put-start.ensures
+begun : (j : tie.After-put_start-a) → j.put_start-a.result ≤ (start j.before.before.before).args.at + 6
+begun j = puts_begin (start j.before.before.before).args.p j.put_start-a.ensures
 
-put-found-requires : tie.Need-put-found-requires
+put-found-requires : tie.Need-put_found-requires
 put-found-requires c κs =
     let j = c.before.before.before in
     let s = start j.before.before.before in
-    let p : s.args.at < 2 ^ 54 = s.pre in
-    let h : j.put-start.result ≤ s.args.at + 6 = begun j in
+    let p : s.args.at < 2 ^ 54 = s.requires in
+    let h : j.put_start-a.result ≤ s.args.at + 6 = begun j in
     omega arith
 
-returns-2 : tie.Need-returns-2
+returns-2 : tie.Need-returns
 returns-2 c =
     let k = c.before.before in
     let j = k.before.before.before.before in
     let e = j.before.before in
     let n = e.before in
     let o = n.before in
-    let h : j.put-start.result ≤ (start n).args.at + 6 = begun j in
-    let g : k.put-found.result ≤ j.put-start.result + 16 = puts_most k.put-found.ensures (found_length o.overlaps-at.result) in (
-      puts_as (overlaps (start n).args.p o.overlaps-at.result (found n) o.overlaps-at.ensures n.count.result n.count.ensures e.if1.false)
-          (puts_then j.put-start.ensures k.put-found.ensures),
+    let h : j.put_start-a.result ≤ (start n).args.at + 6 = begun j in
+    let g : k.put_found.result ≤ j.put_start-a.result + 16 = puts_most k.put_found.ensures (found_length o.overlaps_at-o.result) in (
+      puts_as (overlaps (start n).args.p o.overlaps_at-o.result (found n) o.overlaps_at-o.ensures n.count.result n.count.ensures e.if-count-eq0.false)
+          (puts_then j.put_start-a.ensures k.put_found.ensures),
       omega arith,
     )
 
-pub put-overlaps-spec : {M : Type 1} → statement M
-put-overlaps-spec =
+pub put_overlaps_spec : {M : Type 1} → statement M
+put_overlaps_spec =
     tie.close
     (tie.spec (λ c κs. search rules) (λ c κs. search rules) returns (λ c κs. search rules) put-found-requires (λ c. search rules) returns-2)

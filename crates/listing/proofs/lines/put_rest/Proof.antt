@@ -12,10 +12,10 @@ use Rattle.listing.proofs.Lining.{puts_word}
 use Rattle.listing.proofs.lines.put_rest.Statement.{statement}
 use Rattle.listing.proofs.lines.put_rest.Tie as tie
 
-put-operands-requires : tie.Need-put-operands-requires
+put-operands-requires : tie.Need-put_operands-requires
 put-operands-requires c κs =
     let w = c.before.before.before in
-    omega (arith, puts_word w.before.mnemonic.result w.put_word.ensures)
+    omega (arith, puts_word w.mnemonic.result w.put_word-a.ensures)
 
 returns : tie.Need-returns
 unfolding rest_alone
@@ -23,10 +23,10 @@ returns c =
     let n = c.before.before in
     let w = n.before.before.before.before in
     let m = w.before in
-    let a = m.before.before.before.args in
+    let a = m.args in
     puts_as (ap (λ (k : ℕ). 9 ∷ letters 8 k ++ operands_alone a.mode a.next a.v) m.mnemonic.ensures)
-    (puts_then w.put_word.ensures n.put-operands.ensures)
+    (puts_then w.put_word-a.ensures n.put_operands.ensures)
 
-pub put-rest-spec : {M : Type 1} → statement M
-put-rest-spec =
+pub put_rest_spec : {M : Type 1} → statement M
+put_rest_spec =
     tie.close (tie.spec (λ c κs. search rules) (λ c κs. search rules) put-operands-requires (λ c. search rules) returns)

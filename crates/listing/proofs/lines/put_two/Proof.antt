@@ -9,17 +9,17 @@ use Rattle.text.proofs.Putting.{puts_then}
 use Rattle.listing.proofs.lines.put_two.Statement.{statement}
 use Rattle.listing.proofs.lines.put_two.Tie as tie
 
-after_place : (j : tie.After-put-place) → j.put-place.result ≤ 2 ^ 56 + 5
+after_place : (j : tie.After-put_place-a) → j.put_place-a.result ≤ 2 ^ 56 + 5
 after_place j =
     let s = j.before.before.before in
     let p : s.args.at < 2 ^ 56 = s.requires in
-    let h : j.put-place.result ≤ s.args.at + 5 = puts_place s.args.p j.put-place.ensures in
+    let h : j.put_place-a.result ≤ s.args.at + 5 = puts_place s.args.p j.put_place-a.ensures in
     omega arith
 
 returns : tie.Need-returns
 unfolding fields_text
-returns c = let k = c.before.before in puts_then k.before.before.before.before.put-place.ensures k.put_one.ensures
+returns c = let k = c.before.before in puts_then k.put_place-a.ensures k.put_one.ensures
 
-pub put-two-spec : {M : Type 1} → statement M
-put-two-spec =
+pub put_two_spec : {M : Type 1} → statement M
+put_two_spec =
     tie.close (tie.spec (λ c κs. search rules) (λ c κs. let h = after_place c.before.before.before in omega arith) (λ c. search rules) returns)

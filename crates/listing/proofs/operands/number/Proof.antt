@@ -38,33 +38,33 @@ module _ (z : ℤ) (e : lt_z z (pos 0) ≡ true) (f : SFits w32 z) where
   small : nat_abs z - 1 + 1 < 4294967296
   small = omega (arith, (fits z e f).sfits)
 
-sub-result : tie.Need-overflow-sub-result
+sub-result : tie.Need-overflow_sub-result
 sub-result c =
-    let y = back c.before.ranges.z in
-    rw y (less_fits c.before.args.z (rw y at c.if1.true) c.before.ranges.z)
+    let y = back c.ranges.z in
+    rw y (less_fits c.args.z (rw y at c.if-z-lt0.true) c.ranges.z)
 
-cast-result : tie.Need-overflow-cast-result
+cast-result : tie.Need-overflow_cast-result
 cast-result c =
-    let y = back c.before.ranges.z in
-    rw (y, less_back c.before.args.z (rw y at c.if1.true) c.before.ranges.z)
-    (tt, record { fits = omega (arith, small c.before.args.z (rw y at c.if1.true) c.before.ranges.z) })
+    let y = back c.ranges.z in
+    rw (y, less_back c.args.z (rw y at c.if-z-lt0.true) c.ranges.z)
+    (tt, record { fits = omega (arith, small c.args.z (rw y at c.if-z-lt0.true) c.ranges.z) })
 
-add-result : tie.Need-overflow-add-result
+add-result : tie.Need-overflow_add-result
 add-result c =
-    let y = back c.before.ranges.z in
-    rw (y, less_back c.before.args.z (rw y at c.if1.true) c.before.ranges.z)
-    (record { fits = small c.before.args.z (rw y at c.if1.true) c.before.ranges.z })
+    let y = back c.ranges.z in
+    rw (y, less_back c.args.z (rw y at c.if-z-lt0.true) c.ranges.z)
+    (record { fits = small c.args.z (rw y at c.if-z-lt0.true) c.ranges.z })
 
-returns : tie.Need-returns
+returns : tie.Need-returns-then-z-lt0
 returns c =
-    let y = back c.before.ranges.z in
-    rw (y, less_back c.before.args.z (rw y at c.if1.true) c.before.ranges.z) (some c.before.args.z (rw y at c.if1.true))
+    let y = back c.ranges.z in
+    rw (y, less_back c.args.z (rw y at c.if-z-lt0.true) c.ranges.z) (some c.args.z (rw y at c.if-z-lt0.true))
 
-cast-result-2 : tie.Need-overflow-cast-result-2
-cast-result-2 c = let y = back c.before.ranges.z in rw y (cast_pos c.before.args.z (rw y at c.if1.false) c.before.ranges.z)
+cast-result-2 : tie.Need-overflow_cast-result-2
+cast-result-2 c = let y = back c.ranges.z in rw y (cast_pos c.args.z (rw y at c.if-z-lt0.false) c.ranges.z)
 
-returns-2 : tie.Need-returns-2
-returns-2 c = let y = back c.before.ranges.z in rw y refl
+returns-2 : tie.Need-returns
+returns-2 c = let y = back c.ranges.z in rw y refl
 
-pub number-spec : {M : Type 1} → statement M
-number-spec = tie.close (tie.spec sub-result cast-result add-result returns cast-result-2 returns-2)
+pub number_spec : {M : Type 1} → statement M
+number_spec = tie.close (tie.spec sub-result cast-result add-result returns cast-result-2 returns-2)

@@ -17,13 +17,13 @@ use Rattle.listing.proofs.operands.put_field.Tie as tie
 abbrev t : tie.Start → ℕ
 t s = operand_place s.args.mode s.args.next s.args.kind s.args.z
 
-returns : tie.Need-returns
+returns : tie.Need-returns-then-not-is_given
 returns c =
     let g = c.before in
     let s = g.before.before in
-    puts_as (is_none (t s) s.args.kind (nat_abs s.args.z) (sym g.is-given.ensures ∙ not-true _ c.if1.true)) (puts_none _ _)
+    puts_as (is_none (t s) s.args.kind (nat_abs s.args.z) (sym g.is_given.ensures ∙ not-true _ c.if-not-is_given.true-raw)) (puts_none _ _)
 
-returns-2 : tie.Need-returns-2
+returns-2 : tie.Need-returns
 returns-2 c =
     let k = c.before.before in
     let j = k.before.before.before.before in
@@ -33,9 +33,9 @@ returns-2 c =
     let a = s.args in
     puts_as
     (ap (λ (z : ℤ). 9 ∷ shown_alone a.mode a.next a.kind z) (back s.ranges.z)
-    ∙ is_field (t s) a.kind (nat_abs a.z) (sym g.is-given.ensures ∙ not-false _ e.if1.false))
-    (puts_then j.put_byte.ensures k.put-operand.ensures)
+    ∙ is_field (t s) a.kind (nat_abs a.z) (sym g.is_given.ensures ∙ not-false _ e.if-not-is_given.false-raw))
+    (puts_then j.put_byte-a.ensures k.put_operand.ensures)
 
-pub put-field-spec : {M : Type 1} → statement M
-put-field-spec =
+pub put_field_spec : {M : Type 1} → statement M
+put_field_spec =
     tie.close (tie.spec (λ c κs. search rules) returns (λ c κs. search rules) (λ c κs. search rules) (λ c. search rules) returns-2)

@@ -6,7 +6,7 @@ use Rattle.listing.proofs.operands.put_immediate.Statement.{statement}
 use Rattle.listing.proofs.operands.put_immediate.Tie as tie
 
 returns : tie.Need-returns
-returns c = let k = c.before.before in puts_then k.before.before.before.before.put_byte.ensures k.put-hex2.ensures
+returns c = let k = c.before.before in puts_then k.put_byte-a.ensures k.put_hex2.ensures
 
-pub put-immediate-spec : {M : Type 1} → statement M
-put-immediate-spec = tie.close (tie.spec (λ c κs. search rules) (λ c κs. search rules) (λ c. search rules) returns)
+pub put_immediate_spec : {M : Type 1} → statement M
+put_immediate_spec = tie.close (tie.spec (λ c κs. search rules) (λ c κs. search rules) (λ c. search rules) returns)

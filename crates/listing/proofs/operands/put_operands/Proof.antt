@@ -21,10 +21,10 @@ use Rattle.listing.proofs.Showing.{field_length}
 use Rattle.listing.proofs.operands.put_operands.Statement.{statement}
 use Rattle.listing.proofs.operands.put_operands.Tie as tie
 
-abbrev kinds : tie.After-put-field → tie.After-kinds
+abbrev kinds : tie.After-put_field-a → tie.After-kinds-k
 kinds j = j.before.before.before
 
-abbrev start : tie.After-put-field → tie.Start
+abbrev start : tie.After-put_field-a → tie.Start
 start j = (kinds j).before.before
 
 -- the operands' numbers, read back
@@ -41,30 +41,30 @@ read_c s = search rules
 five : (s : tie.Start) (k : Kind) (z : ℤ) {at r : ℕ} {o m : List ℕ} → Puts (field_alone s.args.mode s.args.next k z) at o m r → r ≤ at + 5
 five s k z f = puts_most f (field_length (operand_place s.args.mode s.args.next k z) k (nat_abs z))
 
-one : (j : tie.After-put-field) → j.put-field.result ≤ 2 ^ 57 + 5
+one : (j : tie.After-put_field-a) → j.put_field-a.result ≤ 2 ^ 57 + 5
 one j =
     let s = start j in
-    let p : s.args.at < 2 ^ 57 = s.pre in
-    let h : j.put-field.result ≤ s.args.at + 5 = five s (kinds j).kinds.result.a (to_z w32 (of_z w32 s.args.v.a)) j.put-field.ensures in
+    let p : s.args.at < 2 ^ 57 = s.requires in
+    let h : j.put_field-a.result ≤ s.args.at + 5 = five s (kinds j).kinds-k.result.a (to_z w32 (of_z w32 s.args.v.a)) j.put_field-a.ensures in
     omega arith
 
-two : (k : tie.After-put-field2) → k.put-field2.result ≤ 2 ^ 57 + 10
+two : (k : tie.After-put_field-b) → k.put_field-b.result ≤ 2 ^ 57 + 10
 two k =
     let j = k.before.before.before.before.before in
     let s = start j in
     let p = one j in
-    let h : k.put-field2.result ≤ j.put-field.result + 5 =
-    five s (kinds j).kinds.result.b (to_z w32 (of_z w32 s.args.v.b)) k.put-field2.ensures in
+    let h : k.put_field-b.result ≤ j.put_field-a.result + 5 =
+    five s (kinds j).kinds-k.result.b (to_z w32 (of_z w32 s.args.v.b)) k.put_field-b.ensures in
     omega arith
 
-three : (l : tie.After-put-field3) → l.put-field3.result ≤ 2 ^ 57 + 15
+three : (l : tie.After-put_field-c) → l.put_field-c.result ≤ 2 ^ 57 + 15
 three l =
     let k = l.before.before.before.before.before in
     let j = k.before.before.before.before.before in
     let s = start j in
     let p = two k in
-    let h : l.put-field3.result ≤ k.put-field2.result + 5 =
-    five s (kinds j).kinds.result.c (to_z w32 (of_z w32 s.args.v.c)) l.put-field3.ensures in
+    let h : l.put_field-c.result ≤ k.put_field-b.result + 5 =
+    five s (kinds j).kinds-k.result.c (to_z w32 (of_z w32 s.args.v.c)) l.put_field-c.ensures in
     omega arith
 
 -- the text, by kinds and numbers
@@ -84,11 +84,11 @@ returns c =
     let k = l.before.before.before.before.before in
     let j = k.before.before.before.before.before in
     let s = start j in
-    puts_as (same s {k' = three_of (form_at s.args.v.form).shape} (kinds j).kinds.ensures (read_a s) (read_b s) (read_c s))
-    (puts_then j.put-field.ensures (puts_then k.put-field2.ensures (puts_then l.put-field3.ensures n.put_byte.ensures)))
+    puts_as (same s {k' = three_of (form_at s.args.v.form).shape} (kinds j).kinds-k.ensures (read_a s) (read_b s) (read_c s))
+    (puts_then j.put_field-a.ensures (puts_then k.put_field-b.ensures (puts_then l.put_field-c.ensures n.put_byte.ensures)))
 
-pub put-operands-spec : {M : Type 1} → statement M
-put-operands-spec =
+pub put_operands_spec : {M : Type 1} → statement M
+put_operands_spec =
     tie.close
     (tie.spec (λ c κs. search rules) (λ c κs. search rules)
     (λ c κs. let h = one c.before.before.before.before in omega arith) (λ c κs. let h = two c.before.before.before.before in omega arith)

@@ -9,8 +9,8 @@ returns : tie.Need-returns
 returns c =
     let k = c.before.before in
     let j = k.before.before.before.before in
-    puts_then j.before.before.before.before.put_byte.ensures (puts_then j.put-byte2.ensures k.put-digit.ensures)
+    puts_then j.put_byte-a.ensures (puts_then j.put_byte-b.ensures k.put_digit.ensures)
 
-pub put-register-spec : {M : Type 1} → statement M
-put-register-spec =
+pub put_register_spec : {M : Type 1} → statement M
+put_register_spec =
     tie.close (tie.spec (λ c κs. search rules) (λ c κs. search rules) (λ c κs. search rules) (λ c. search rules) returns)

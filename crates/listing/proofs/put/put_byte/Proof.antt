@@ -5,8 +5,8 @@ use Rattle.text.proofs.Putting.{puts_past}
 use Rattle.listing.proofs.put.put_byte.Statement.{statement}
 use Rattle.listing.proofs.put.put_byte.Tie as tie
 
-returns-2 : tie.Need-returns-2
-returns-2 c = let a = c.before.args in puts_past a.b a.at a.out.now c.if1.false
+returns-2 : tie.Need-returns-else-at-out
+returns-2 c = let a = c.args in puts_past a.b a.at a.out.now c.if-at-out.false
 
-pub put-byte-spec : {M : Type 1} → statement M
-put-byte-spec = tie.close (tie.spec (λ c. search rules) (λ c. search rules) (λ c. search rules) (λ c. search rules) returns-2)
+pub put_byte_spec : {M : Type 1} → statement M
+put_byte_spec = tie.close (tie.spec (λ c. search rules) (λ c. search rules) (λ c. search rules) (λ c. search rules) returns-2)

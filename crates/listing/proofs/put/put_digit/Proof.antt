@@ -5,7 +5,7 @@ use Rattle.listing.proofs.put.put_digit.Statement.{statement}
 use Rattle.listing.proofs.put.put_digit.Tie as tie
 
 returns : tie.Need-returns
-returns c = let k = c.before.before in rw (← k.before.hex1.ensures) k.put_byte.ensures
+returns c = let k = c.before.before in rw (← k.hex1.ensures) k.put_byte.ensures
 
-pub put-digit-spec : {M : Type 1} → statement M
-put-digit-spec = tie.close (tie.spec (λ c κs. search rules) (λ c κs. search rules) (λ c. search rules) returns)
+pub put_digit_spec : {M : Type 1} → statement M
+put_digit_spec = tie.close (tie.spec (λ c κs. search rules) (λ c κs. search rules) (λ c. search rules) returns)

@@ -8,7 +8,7 @@ use Rattle.listing.proofs.put.put_hex2.Tie as tie
 
 returns : tie.Need-returns
 unfolding hex2
-returns c = let k = c.before.before in puts_then k.before.before.before.before.put-digit.ensures k.put-digit2.ensures
+returns c = let k = c.before.before in puts_then k.put_digit-a.ensures k.put_digit.ensures
 
-pub put-hex2-spec : {M : Type 1} → statement M
-put-hex2-spec = tie.close (tie.spec (λ c κs. search rules) (λ c κs. search rules) (λ c. search rules) returns)
+pub put_hex2_spec : {M : Type 1} → statement M
+put_hex2_spec = tie.close (tie.spec (λ c κs. search rules) (λ c κs. search rules) (λ c. search rules) returns)

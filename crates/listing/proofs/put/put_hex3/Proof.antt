@@ -8,7 +8,7 @@ use Rattle.listing.proofs.put.put_hex3.Tie as tie
 
 returns : tie.Need-returns
 unfolding hex3
-returns c = let k = c.before.before in puts_then k.before.before.before.before.put-digit.ensures k.put-hex2.ensures
+returns c = let k = c.before.before in puts_then k.put_digit-a.ensures k.put_hex2.ensures
 
-pub put-hex3-spec : {M : Type 1} → statement M
-put-hex3-spec = tie.close (tie.spec (λ c κs. search rules) (λ c κs. search rules) (λ c. search rules) returns)
+pub put_hex3_spec : {M : Type 1} → statement M
+put_hex3_spec = tie.close (tie.spec (λ c κs. search rules) (λ c κs. search rules) (λ c. search rules) returns)

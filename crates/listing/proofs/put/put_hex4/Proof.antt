@@ -8,7 +8,7 @@ use Rattle.listing.proofs.put.put_hex4.Tie as tie
 
 returns : tie.Need-returns
 unfolding hex4
-returns c = let k = c.before.before in puts_then k.before.before.before.before.put-digit.ensures k.put-hex3.ensures
+returns c = let k = c.before.before in puts_then k.put_digit-a.ensures k.put_hex3.ensures
 
-pub put-hex4-spec : {M : Type 1} → statement M
-put-hex4-spec = tie.close (tie.spec (λ c κs. search rules) (λ c κs. search rules) (λ c. search rules) returns)
+pub put_hex4_spec : {M : Type 1} → statement M
+put_hex4_spec = tie.close (tie.spec (λ c κs. search rules) (λ c κs. search rules) (λ c. search rules) returns)

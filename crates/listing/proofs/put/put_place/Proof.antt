@@ -6,7 +6,7 @@ use Rattle.listing.proofs.put.put_place.Statement.{statement}
 use Rattle.listing.proofs.put.put_place.Tie as tie
 
 returns : tie.Need-returns
-returns c = let k = c.before.before in puts_then k.before.before.before.before.put_byte.ensures k.put-hex4.ensures
+returns c = let k = c.before.before in puts_then k.put_byte-a.ensures k.put_hex4.ensures
 
-pub put-place-spec : {M : Type 1} → statement M
-put-place-spec = tie.close (tie.spec (λ c κs. search rules) (λ c κs. search rules) (λ c. search rules) returns)
+pub put_place_spec : {M : Type 1} → statement M
+put_place_spec = tie.close (tie.spec (λ c κs. search rules) (λ c κs. search rules) (λ c. search rules) returns)

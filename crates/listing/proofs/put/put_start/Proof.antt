@@ -6,7 +6,7 @@ use Rattle.listing.proofs.put.put_start.Statement.{statement}
 use Rattle.listing.proofs.put.put_start.Tie as tie
 
 returns : tie.Need-returns
-returns c = let k = c.before.before in puts_then k.before.before.before.before.put_byte.ensures k.put-place.ensures
+returns c = let k = c.before.before in puts_then k.put_byte-a.ensures k.put_place.ensures
 
-pub put-start-spec : {M : Type 1} → statement M
-put-start-spec = tie.close (tie.spec (λ c κs. search rules) (λ c κs. search rules) (λ c. search rules) returns)
+pub put_start_spec : {M : Type 1} → statement M
+put_start_spec = tie.close (tie.spec (λ c κs. search rules) (λ c κs. search rules) (λ c. search rules) returns)

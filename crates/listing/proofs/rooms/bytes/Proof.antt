@@ -9,5 +9,5 @@ use Rattle.listing.proofs.rooms.bytes.Tie as tie
 returns : tie.Need-returns
 returns c = sym (length-replicate {A = ℕ} 65536 0)
 
-pub bytes-spec : {M : Type 1} → statement M
-bytes-spec = tie.close (tie.spec returns)
+pub bytes_spec : {M : Type 1} → statement M
+bytes_spec = tie.close (tie.spec returns)

@@ -9,5 +9,5 @@ use Rattle.listing.proofs.rooms.cells.Tie as tie
 returns : tie.Need-returns
 returns c = sym (length-replicate {A = ℕ} 131072 0)
 
-pub cells-spec : {M : Type 1} → statement M
-cells-spec = tie.close (tie.spec returns)
+pub cells_spec : {M : Type 1} → statement M
+cells_spec = tie.close (tie.spec returns)

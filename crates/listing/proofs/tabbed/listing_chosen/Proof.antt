@@ -12,28 +12,28 @@ use Rattle.listing.proofs.Answering.{is_listing, same_text}
 use Rattle.listing.proofs.tabbed.listing_chosen.Statement.{statement}
 use Rattle.listing.proofs.tabbed.listing_chosen.Tie as tie
 
-abbrev start : tie.After-is-written → tie.Start
+abbrev start : tie.After-is_written → tie.Start
 start w = w.before.before.before.before.before
 
-returns : tie.Need-returns
+returns : tie.Need-returns-then-not-is_written
 returns c =
     let w = c.before in
     let a = (start w).args in
-    refused_all a.image.now a.marks.now (listing_of a.mode a.image.now a.marks.now Chosen) a.room.now w.before.check.result
-    w.before.check.ensures
-    (sym w.is-written.ensures ∙ not-true _ c.if1.true)
+    refused_all a.image.now a.marks.now (listing_of a.mode a.image.now a.marks.now Chosen) a.room.now w.check-v.result
+    w.check-v.ensures
+    (sym w.is_written.ensures ∙ not-true _ c.if-not-is_written.true-raw)
 
-sound : (e : tie.Else1) → let a = (start e.before).args in Sound a.image.now a.marks.now
+sound : (e : tie.Else-not-is_written) → let a = (start e.before).args in Sound a.image.now a.marks.now
 sound e =
     let w = e.before in
     let a = (start w).args in
-    is_sound a.image.now a.marks.now w.before.check.result w.before.check.ensures (sym w.is-written.ensures ∙ not-false _ e.if1.false)
+    is_sound a.image.now a.marks.now w.check-v.result w.check-v.ensures (sym w.is_written.ensures ∙ not-false _ e.if-not-is_written.false-raw)
 
-returns-2 : tie.Need-returns-2
+returns-2 : tie.Need-returns
 returns-2 c =
     let l = c.before.before in
     let a = (start l.before.before.before).args in
-    same_text a.image.now a.marks.now a.room.now (is_listing a.mode a.image.now a.marks.now Chosen true refl) l.list-chosen.ensures
+    same_text a.image.now a.marks.now a.room.now (is_listing a.mode a.image.now a.marks.now Chosen true refl) l.list_chosen.ensures
 
-pub listing-chosen-spec : {M : Type 1} → statement M
-listing-chosen-spec = tie.close (tie.spec (λ c κs. search rules) (λ c κs. search rules) returns (λ c κs. sound c.before) (λ c. search rules) returns-2)
+pub listing_chosen_spec : {M : Type 1} → statement M
+listing_chosen_spec = tie.close (tie.spec (λ c κs. search rules) (λ c κs. search rules) returns (λ c κs. sound c.before) (λ c. search rules) returns-2)

@@ -11,33 +11,33 @@ use Rattle.replay.specs.Entry.{with_entries}
 use Rattle.replay.proofs.entry.enter.Statement.{statement}
 use Rattle.replay.proofs.entry.enter.Tie as tie
 
-abbrev invariant_loop : tie.invariant-loop
+abbrev invariant_loop : tie.invariant-loop-i
 invariant_loop table₀ entries i₀ table i = (i ≤ length entries) × (length table ≡ 1024) × Enters entries table i (with_entries entries table₀)
 
-abbrev decreases_loop : tie.decreases-loop
+abbrev decreases_loop : tie.decreases-loop-i
 decreases_loop table₀ entries i₀ table i = length entries - i
 
-loop-holds : tie.Need-loop-init invariant_loop decreases_loop
+loop-holds : tie.Need-loop-i-init invariant_loop decreases_loop
 loop-holds c = let s = c.before.before in (omega arith, s.requires, enters_start s.args.entries.now s.args.table.now)
 
-loop-again : tie.Need-loop-preserved invariant_loop decreases_loop
+loop-again : tie.Need-loop-i-preserved invariant_loop decreases_loop
 loop-again c =
     let e = c.before.before in
     let i = e.before.before.before in
     let l = i.before in
-    let a = l.before.before.before.args in
-    let q : ℕ = get_or a.entries.now l.loop.i 0 in (
-      (let h = i.loop-test.true in omega arith),
-      ap length e.enter_one.ensures ∙ entry_length q l.loop.table ∙ l.loop.invariant.1,
-      subst (λ (t : List ℕ). Enters a.entries.now t (l.loop.i + 1) (with_entries a.entries.now a.table.now)) (sym e.enter_one.ensures)
-          (enters_next a.entries.now l.loop.table (with_entries a.entries.now a.table.now) l.loop.i i.loop-test.true l.loop.invariant.2),
+    let a = l.args in
+    let q : ℕ = get_or a.entries.now l.loop-i.i 0 in (
+      (let h = i.loop-i-test.true in omega arith),
+      ap length e.enter_one.ensures ∙ entry_length q l.loop-i.table ∙ l.loop-i.invariant.1,
+      subst (λ (t : List ℕ). Enters a.entries.now t (l.loop-i.i + 1) (with_entries a.entries.now a.table.now)) (sym e.enter_one.ensures)
+          (enters_next a.entries.now l.loop-i.table (with_entries a.entries.now a.table.now) l.loop-i.i i.loop-i-test.true l.loop-i.invariant.2),
     )
 
 returns : tie.Need-returns invariant_loop decreases_loop
 returns c =
     let l = c.before in
-    let a = l.before.before.before.args in
-    enters_end a.entries.now l.loop.table (with_entries a.entries.now a.table.now) l.loop.i c.loop-test.false l.loop.invariant.2
+    let a = l.args in
+    enters_end a.entries.now l.loop-i.table (with_entries a.entries.now a.table.now) l.loop-i.i c.loop-i-test.false l.loop-i.invariant.2
 
 pub enter_spec : {M : Type 1} → statement M
 enter_spec =

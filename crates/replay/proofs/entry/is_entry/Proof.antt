@@ -9,6 +9,6 @@ returns : tie.Need-returns
 unfolding code_at
 returns c = c.is_one.ensures
 
-pub is-entry-spec : {M : Type 1} → statement M
-is-entry-spec =
+pub is_entry_spec : {M : Type 1} → statement M
+is_entry_spec =
     tie.close (tie.spec (λ c. search rules) (λ c. search rules) (λ c. search rules) (λ c κs. search rules) returns)

@@ -20,13 +20,13 @@ returns c =
     let b = e.before.before in
     let s = b.before.before.before.before.before.before in
     let a = s.args in
-    t.take-joined.ensures
+    t.take_joined.ensures
     ∙ block_like a.mode a.image.now a.marks.now _ (is_entry_of a.entries.now)
-    (λ p h. ap (λ (ws : List ℕ). code_at ws p) (e.enter.ensures ∙ ap (with_entries a.entries.now) b.table.ensures) ∙ entered a.entries.now p h)
+    (λ p h. ap (λ (ws : List ℕ). code_at ws p) (e.enter.ensures ∙ ap (with_entries a.entries.now) b.table-table.ensures) ∙ entered a.entries.now p h)
     (state a.log a.counts.now) a.text.now
 
-pub feed-spec : {M : Type 1} → statement M
-feed-spec =
+pub feed_spec : {M : Type 1} → statement M
+feed_spec =
     tie.close
     (tie.spec
     (λ c κs. search rules)

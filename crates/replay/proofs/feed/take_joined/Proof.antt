@@ -11,52 +11,52 @@ use Rattle.replay.specs.Take.{state}
 use Rattle.replay.proofs.feed.take_joined.Statement.{statement}
 use Rattle.replay.proofs.feed.take_joined.Tie as tie
 
-abbrev start : tie.After-begin → tie.Start
+abbrev start : tie.After-begin-1 → tie.Start
 start c = c.before.before.before.before.before.before
 
-abbrev begun : tie.Else1 → tie.After-begin-line
+abbrev begun : tie.Else-n-lt-LENGTH → tie.After-begin_line-n
 begun c = c.before.before
 
-returns : tie.Need-returns
+returns : tie.Need-returns-then-n-lt-LENGTH
 returns c =
     let t = c.before.before.before in
     let b = t.before.before in
-    let a = (start b.before).args in
-    joined_short a.mode a.image.now a.marks.now (code_at a.table.now) a.log a.counts.now a.text.now _ _ _ b.begin-line.ensures.0
-    b.begin-line.ensures.1 refl
-    t.if1.true _ (b.begin-line.result - 0) (omega arith) c.keep.ensures
+    let a = (start b).args in
+    joined_short a.mode a.image.now a.marks.now (code_at a.table.now) a.log a.counts.now a.text.now _ _ _ t.begin_line-n.ensures.0
+    t.begin_line-n.ensures.1 refl
+    c.if-n-lt-LENGTH.true _ (t.begin_line-n.result - 0) (omega arith) c.keep.ensures
 
-returns-2 : tie.Need-returns-2
+returns-2 : tie.Need-returns-then-after-ne0
 returns-2 c =
     let t = c.before.before.before.before in
     let e = t.before.before.before in
     let b = begun e in
     let a = (start b.before).args in
-    joined_stop a.mode a.image.now a.marks.now (code_at a.table.now) a.log a.counts.now a.text.now _ _ _ b.begin-line.ensures.0
-    b.begin-line.ensures.1 refl
-    e.if1.false _ t.take-lines.ensures c.if2.true
+    joined_stop a.mode a.image.now a.marks.now (code_at a.table.now) a.log a.counts.now a.text.now _ _ _ b.begin_line-n.ensures.0
+    b.begin_line-n.ensures.1 refl
+    e.if-n-lt-LENGTH.false _ t.take_lines-after.ensures c.if-after-ne0.true
 
-sub-take-lines : tie.Need-overflow-sub-take-lines
+sub-take-lines : tie.Need-slice_bounds-take_lines-count
 sub-take-lines c =
     let t = c.before.before.before.before.before in
     let e = t.before.before.before in
     let b = begun e in
     let a = (start b.before).args in
-    place_in a.mode a.image.now a.marks.now (code_at a.table.now) a.log a.counts.now a.text.now _ _ _ b.begin-line.ensures.0
-    b.begin-line.ensures.1 refl
-    e.if1.false _ t.take-lines.ensures _ c.held_in.ensures
+    place_in a.mode a.image.now a.marks.now (code_at a.table.now) a.log a.counts.now a.text.now _ _ _ b.begin_line-n.ensures.0
+    b.begin_line-n.ensures.1 refl
+    e.if-n-lt-LENGTH.false _ t.take_lines-after.ensures _ c.held_in-taken.ensures
 
-part-take-lines-start : tie.Need-slice-bounds-take-lines-start
+part-take-lines-start : tie.Need-slice_bounds-take_lines-start
 part-take-lines-start c =
     let t = c.before.before.before.before.before in
     let e = t.before.before.before in
     let b = begun e in
     let a = (start b.before).args in
-    place_in a.mode a.image.now a.marks.now (code_at a.table.now) a.log a.counts.now a.text.now _ _ _ b.begin-line.ensures.0
-    b.begin-line.ensures.1 refl
-    e.if1.false _ t.take-lines.ensures _ c.held_in.ensures
+    place_in a.mode a.image.now a.marks.now (code_at a.table.now) a.log a.counts.now a.text.now _ _ _ b.begin_line-n.ensures.0
+    b.begin_line-n.ensures.1 refl
+    e.if-n-lt-LENGTH.false _ t.take_lines-after.ensures _ c.held_in-taken.ensures
 
-returns-3 : tie.Need-returns-3
+returns-3 : tie.Need-returns
 returns-3 c =
     let u = c.before.before in
     let h = u.before.before.before in
@@ -65,14 +65,14 @@ returns-3 c =
     let e = t.before.before.before in
     let b = begun e in
     let a = (start b.before).args in
-    joined_on a.mode a.image.now a.marks.now (code_at a.table.now) a.log a.counts.now a.text.now _ _ _ b.begin-line.ensures.0
-    b.begin-line.ensures.1 refl
-    e.if1.false (state t.take-lines.result _) t.take-lines.ensures k.if2.false _ (length a.text.now - (7 - h.held_in.result))
-    h.held_in.ensures refl
-    (state u.take-lines2.result _) u.take-lines2.ensures
+    joined_on a.mode a.image.now a.marks.now (code_at a.table.now) a.log a.counts.now a.text.now _ _ _ b.begin_line-n.ensures.0
+    b.begin_line-n.ensures.1 refl
+    e.if-n-lt-LENGTH.false (state t.take_lines-after.result _) t.take_lines-after.ensures k.if-after-ne0.false _ (length a.text.now - (7 - h.held_in-taken.result))
+    h.held_in-taken.ensures refl
+    (state u.take_lines.result _) u.take_lines.ensures
 
-pub take-joined-spec : {M : Type 1} → statement M
-take-joined-spec =
+pub take_joined_spec : {M : Type 1} → statement M
+take_joined_spec =
     tie.close
     (tie.spec
     (λ c. search rules)

@@ -11,11 +11,11 @@ returns c =
     let s = p.before.before.before.before in
     let e = s.before.before in
     let h = e.before in
-    let a = h.before.before.before.args in
-    begun_line a.log a.text.now a.line.now _ _ _ _ h.held_in.ensures e.lesser.ensures s.spread.ensures p.copy.ensures
+    let a = h.args in
+    begun_line a.log a.text.now a.line.now _ _ _ _ h.held_in-held.ensures e.lesser-missing.ensures s.spread.ensures p.copy.ensures
 
-pub begin-line-spec : {M : Type 1} → statement M
-begin-line-spec =
+pub begin_line_spec : {M : Type 1} → statement M
+begin_line_spec =
     tie.close
     (tie.spec
     (λ c κs. search rules)

@@ -16,43 +16,43 @@ use Rattle.replay.specs.Moves.{is_forbidden}
 use Rattle.replay.proofs.take.take_line.Statement.{statement}
 use Rattle.replay.proofs.take.take_line.Tie as tie
 
-abbrev start : tie.After-slice-known → tie.Start
+abbrev start : tie.After-slice_known-1 → tie.Start
 start c = c.before.before.before.before
 
-traced : (c : tie.Else2) → traced_at (start c.before.before.before).args.image.now (start c.before.before.before).args.marks.now
+traced : (c : tie.Else-not-is_traced_at) → traced_at (start c.before.before.before).args.image.now (start c.before.before.before).args.marks.now
     (start c.before.before.before).args.p ≡ true
-traced c = sym c.before.is-traced-at.ensures ∙ not-false _ c.if2.false
+traced c = sym c.is_traced_at.ensures ∙ not-false _ c.if-not-is_traced_at.false-raw
 
-inside : (c : tie.Else2) → (start c.before.before.before).args.p < length (start c.before.before.before).args.counts.now
+inside : (c : tie.Else-not-is_traced_at) → (start c.before.before.before).args.p < length (start c.before.before.before).args.counts.now
 inside c =
     let k = c.before.before.before in
     let a = (start k).args in
     let h = traced_inside a.image.now a.marks.now a.p (traced c) in
     omega (arith, (start k).requires.2)
 
-returns : tie.Need-returns
+returns : tie.Need-returns-then-p-eq-NOWHERE
 returns c =
     let t = c.before in
     let a = (start t.before).args in
-    malformed a.mode a.image.now a.marks.now (code_at a.table.now) a.log a.counts.now a.p _ c.refuse.ensures t.if1.true
+    malformed a.mode a.image.now a.marks.now (code_at a.table.now) a.log a.counts.now a.p _ c.refuse.ensures t.if-p-eq-NOWHERE.true
 
-returns-2 : tie.Need-returns-2
+returns-2 : tie.Need-returns-then-not-is_traced_at
 returns-2 c =
     let t = c.before in
     let k = t.before in
     let e = k.before in
     let a = (start e.before).args in
-    untraced a.mode a.image.now a.marks.now (code_at a.table.now) a.log a.counts.now a.p e.if1.false _ c.refuse2.ensures
-    (sym k.is-traced-at.ensures ∙ not-true _ t.if2.true)
+    untraced a.mode a.image.now a.marks.now (code_at a.table.now) a.log a.counts.now a.p e.if-p-eq-NOWHERE.false _ c.refuse-then-not-is_traced_at.ensures
+    (sym k.is_traced_at.ensures ∙ not-true _ t.if-not-is_traced_at.true-raw)
 
-move-now-requires : tie.Need-move-now-requires
+move-now-requires : tie.Need-move_now-by-requires
 move-now-requires c κs =
     let e = c.before.before in
     let s = start e.before in
-    let h = e.if1.false in
-    (s.pre.0, s.pre.1, (let g = s.pre.3 in omega arith), traced_inside s.args.image.now s.args.marks.now s.args.p (traced c))
+    let h = e.if-p-eq-NOWHERE.false in
+    (s.requires.0, s.requires.1, (let g = s.requires.3 in omega arith), traced_inside s.args.image.now s.args.marks.now s.args.p (traced c))
 
-returns-3 : tie.Need-returns-3
+returns-3 : tie.Need-returns-then-is_forbidden
 returns-3 c =
     let t = c.before in
     let f = t.before in
@@ -60,14 +60,14 @@ returns-3 c =
     let d = n.before in
     let e = d.before.before in
     let a = (start e.before).args in
-    not_allowed a.mode a.image.now a.marks.now (code_at a.table.now) a.log a.counts.now a.p e.if1.false (traced d) _
-    c.refuse3.ensures
-    (ap is_forbidden (sym n.move-now.ensures) ∙ sym f.is-forbidden.ensures ∙ t.if3.true)
+    not_allowed a.mode a.image.now a.marks.now (code_at a.table.now) a.log a.counts.now a.p e.if-p-eq-NOWHERE.false (traced d) _
+    c.refuse-then-is_forbidden.ensures
+    (ap is_forbidden (sym n.move_now-by.ensures) ∙ sym f.is_forbidden.ensures ∙ t.if-is_forbidden.true)
 
-slice-read-count : tie.Need-slice-read-count
+slice-read-count : tie.Need-bounds-counts-at
 slice-read-count c = inside c.before.before.before.before
 
-returns-4 : tie.Need-returns-4
+returns-4 : tie.Need-returns-then-count
 returns-4 c =
     let t = c.before in
     let k = t.before in
@@ -77,20 +77,20 @@ returns-4 c =
     let d = n.before in
     let e = d.before.before in
     let a = (start e.before).args in
-    full a.mode a.image.now a.marks.now (code_at a.table.now) a.log a.counts.now a.p e.if1.false (traced d)
-    (ap is_forbidden (sym n.move-now.ensures) ∙ sym f.is-forbidden.ensures ∙ u.if3.false) _ c.refuse4.ensures t.if4.true
+    full a.mode a.image.now a.marks.now (code_at a.table.now) a.log a.counts.now a.p e.if-p-eq-NOWHERE.false (traced d)
+    (ap is_forbidden (sym n.move_now-by.ensures) ∙ sym f.is_forbidden.ensures ∙ u.if-is_forbidden.false) _ c.refuse-then-count.ensures t.if-count.true
 
-add-counts : tie.Need-overflow-add-counts
+add-counts : tie.Need-overflow_add-counts
 add-counts c =
     let k = c.before in
     let d = k.before.before.before.before in
-    let h = (k.slice-known2.given (start d.before.before.before).args.p).fits in
-    let g = c.if4.false in record { fits = omega arith }
+    let h = (k.slice_known-2-1.given (start d.before.before.before).args.p).fits in
+    let g = c.if-count.false in record { fits = omega arith }
 
-slice-write-counts : tie.Need-slice-write-counts
+slice-write-counts : tie.Need-bounds-counts-at-2
 slice-write-counts c = inside c.before.before.before.before.before
 
-returns-5 : tie.Need-returns-5
+returns-5 : tie.Need-returns
 returns-5 c =
     let t = c.before in
     let k = t.before in
@@ -100,12 +100,12 @@ returns-5 c =
     let d = n.before in
     let e = d.before.before in
     let a = (start e.before).args in
-    counted a.mode a.image.now a.marks.now (code_at a.table.now) a.log a.counts.now a.p e.if1.false (traced d)
-    (ap is_forbidden (sym n.move-now.ensures) ∙ sym f.is-forbidden.ensures ∙ u.if3.false) _
-    (c.go_on.ensures ∙ ap (going a.log a.p) n.move-now.ensures) t.if4.false
+    counted a.mode a.image.now a.marks.now (code_at a.table.now) a.log a.counts.now a.p e.if-p-eq-NOWHERE.false (traced d)
+    (ap is_forbidden (sym n.move_now-by.ensures) ∙ sym f.is_forbidden.ensures ∙ u.if-is_forbidden.false) _
+    (c.go_on.ensures ∙ ap (going a.log a.p) n.move_now-by.ensures) t.if-count.false
 
-pub take-line-spec : {M : Type 1} → statement M
-take-line-spec =
+pub take_line_spec : {M : Type 1} → statement M
+take_line_spec =
     tie.close
     (tie.spec
     (λ c κs. search rules)

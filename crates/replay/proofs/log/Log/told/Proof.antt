@@ -5,40 +5,40 @@ use Rattle.replay.proofs.Logs.{totals_told, refusal_told, held_19, held_20, held
 use Rattle.replay.proofs.log.Log.told.Statement.{statement}
 use Rattle.replay.proofs.log.Log.told.Tie as tie
 
-returns : tie.Need-returns
+returns : tie.Need-returns-then-number-eq0
 returns c =
     let b = c.before in
     let a = b.before in
     let t = a.before in
-    totals_told t.before.args.self _ _ _ t.if1.true a.at_most.ensures b.at-most2.ensures c.at-most3.ensures
+    totals_told t.args.self _ _ _ t.if-number-eq0.true a.at_most.ensures b.at_most-then-number-eq0.ensures c.at_most-then-number-eq0-2.ensures
 
-returns-2 : tie.Need-returns-2
+returns-2 : tie.Need-returns-then-number-eq19
 returns-2 c =
     let o = c.before in
     let e = o.before in
-    refusal_told e.before.args.self 19 _ e.if1.false o.one_more.ensures (held_19 _ c.if2.true)
+    refusal_told e.args.self 19 _ e.if-number-eq0.false o.one_more-line.ensures (held_19 _ c.if-number-eq19.true)
 
-returns-3 : tie.Need-returns-3
+returns-3 : tie.Need-returns-then-number-eq20
 returns-3 c =
     let o = c.before.before in
     let e = o.before in
-    refusal_told e.before.args.self 20 _ e.if1.false o.one_more.ensures (held_20 _ c.if3.true)
+    refusal_told e.args.self 20 _ e.if-number-eq0.false o.one_more-line.ensures (held_20 _ c.if-number-eq20.true)
 
-returns-4 : tie.Need-returns-4
+returns-4 : tie.Need-returns-then-number-eq21
 returns-4 c =
     let o = c.before.before.before in
     let e = o.before in
-    refusal_told e.before.args.self 21 _ e.if1.false o.one_more.ensures (held_21 _ c.if4.true)
+    refusal_told e.args.self 21 _ e.if-number-eq0.false o.one_more-line.ensures (held_21 _ c.if-number-eq21.true)
 
-returns-5 : tie.Need-returns-5
+returns-5 : tie.Need-returns
 returns-5 c =
     let o = c.before.before.before in
     let e = o.before in
-    refusal_told e.before.args.self 18 _ e.if1.false o.one_more.ensures
-    (held_18 _ c.before.before.if2.false c.before.if3.false c.if4.false)
+    refusal_told e.args.self 18 _ e.if-number-eq0.false o.one_more-line.ensures
+    (held_18 _ c.if-number-eq19.false c.if-number-eq20.false c.if-number-eq21.false)
 
-pub told-spec : {M : Type 1} → statement M
-told-spec =
+pub told_spec : {M : Type 1} → statement M
+told_spec =
     tie.close
     (tie.spec
     (λ c κs. search rules)
