@@ -8,15 +8,15 @@ use Rattle.read_back.proofs.Notes.{far_none, far_some}
 use Rattle.read_back.proofs.laying.far.Statement.{statement}
 use Rattle.read_back.proofs.laying.far.Tie as tie
 
-returns : tie.Need-returns
+returns : tie.Need-returns-then-k-eq0
 returns c =
-    let a = c.before.args in
-    far_none a.p (bytes_of a.digits.now) (pairs a.digits.now _ refl ∙ c.if1.true)
+    let a = c.args in
+    far_none a.p (bytes_of a.digits.now) (pairs a.digits.now _ refl ∙ c.if-k-eq0.true)
 
-returns-2 : tie.Need-returns-2
+returns-2 : tie.Need-returns
 returns-2 c =
-    let a = c.before.args in
-    far_some a.p _ (bytes_of a.digits.now) (pairs a.digits.now _ refl) c.if1.false
+    let a = c.args in
+    far_some a.p _ (bytes_of a.digits.now) (pairs a.digits.now _ refl) c.if-k-eq0.false
 
-pub far-spec : {M : Type 1} → statement M
-far-spec = tie.close (tie.spec returns (λ c. search rules) returns-2)
+pub far_spec : {M : Type 1} → statement M
+far_spec = tie.close (tie.spec returns (λ c. search rules) returns-2)

@@ -10,18 +10,18 @@ use Rattle.read_back.proofs.Lines.{no_tab}
 use Rattle.read_back.proofs.line.is_data.Statement.{statement}
 use Rattle.read_back.proofs.line.is_data.Tie as tie
 
-returns : tie.Need-returns
-returns c = no_tab c.before.before.args.rest.now c.if1.true
+returns : tie.Need-returns-then-rest-eq0
+returns c = no_tab c.args.rest.now c.if-rest-eq0.true
 
-returns-2 : tie.Need-returns-2
-returns-2 c = let l = c.before.before.before.before.args.rest.now in rw (ne_eqb (get_or l 0 0) 9 c.if2.true)
+returns-2 : tie.Need-returns-then-rest-ne-TAB
+returns-2 c = let l = c.args.rest.now in rw (ne_eqb (get_or l 0 0) 9 c.if-rest-ne-TAB.true)
 
-returns-3 : tie.Need-returns-3
+returns-3 : tie.Need-returns
 returns-3 c =
     let e = c.before.before in
-    let l = e.before.before.before.before.args.rest.now in
-    c.is-bytes.ensures ∙ ap (is_bytes 16) (to_end l 1) ∙ rw (eq-eqb (get_or l 0 0) 9 e.if2.false)
+    let l = e.args.rest.now in
+    c.is_bytes.ensures ∙ ap (is_bytes 16) (to_end l 1) ∙ rw (eq-eqb (get_or l 0 0) 9 e.if-rest-ne-TAB.false)
 
-pub is-data-spec : {M : Type 1} → statement M
-is-data-spec = tie.close (tie.spec returns (λ c. search rules) returns-2 (λ c. search rules) (λ c. search rules) (λ c. search rules)
+pub is_data_spec : {M : Type 1} → statement M
+is_data_spec = tie.close (tie.spec returns (λ c. search rules) returns-2 (λ c. search rules) (λ c. search rules) (λ c. search rules)
     (λ c κs. search rules) returns-3)

@@ -8,14 +8,14 @@ use lib.ListN.{length}
 use Rattle.read_back.proofs.line.is_found.Statement.{statement}
 use Rattle.read_back.proofs.line.is_found.Tie as tie
 
-returns : tie.Need-returns
-returns c = let l = c.before.before.args.rest.now in rw (lt-leb 1 (length l) (omega (arith, c.if1.true)))
+returns : tie.Need-returns-then-rest-eq0
+returns c = let l = c.args.rest.now in rw (lt-leb 1 (length l) (omega (arith, c.if-rest-eq0.true)))
 
-returns-2 : tie.Need-returns-2
+returns-2 : tie.Need-returns
 returns-2 c =
     let e = c.before in
-    let l = e.before.before.args.rest.now in
-    c.are-places.ensures ∙ rw (le-leb 1 (length l) (omega (arith, e.if1.false)))
+    let l = e.args.rest.now in
+    c.are_places.ensures ∙ rw (le-leb 1 (length l) (omega (arith, e.if-rest-eq0.false)))
 
-pub is-found-spec : {M : Type 1} → statement M
-is-found-spec = tie.close (tie.spec returns (λ c κs. search rules) returns-2)
+pub is_found_spec : {M : Type 1} → statement M
+is_found_spec = tie.close (tie.spec returns (λ c κs. search rules) returns-2)

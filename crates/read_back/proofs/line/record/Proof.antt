@@ -9,39 +9,39 @@ use Rattle.read_back.proofs.Records.{made, with_data, with_code, with_places}
 use Rattle.read_back.proofs.line.record.Statement.{statement}
 use Rattle.read_back.proofs.line.record.Tie as tie
 
-abbrev start : tie.After-shared-slice-known2 → tie.Start
+abbrev start : tie.After-shared_slice_known-2-1 → tie.Start
 start k = k.before.before
 
-returns : tie.Need-returns
+returns : tie.Need-returns-then-letter-eq68
 returns c =
     let t = c.before in
     let s = start t.before in
     let a = s.args in
-    made c.new.result _ _ _ c.new.ensures ∙ with_data a.line.now s.pre.0 a.p s.pre.1 t.if1.true
+    made c.new.result _ _ _ c.new.ensures ∙ with_data a.line.now s.requires.0 a.p s.requires.1 t.if-letter-eq68.true
 
-returns-2 : tie.Need-returns-2
+returns-2 : tie.Need-returns-then-letter-eq73
 returns-2 c =
     let d = c.before in
     let t = d.before in
     let s = start t.before.before in
     let a = s.args in
-    made c.new2.result _ _ _ c.new2.ensures ∙ with_code a.line.now s.pre.0 a.p s.pre.1 t.if2.true
+    made c.new-then-letter-eq73.result _ _ _ c.new-then-letter-eq73.ensures ∙ with_code a.line.now s.requires.0 a.p s.requires.1 t.if-letter-eq73.true
     d.digits.result.now d.digits.ensures
 
-returns-3 : tie.Need-returns-3
+returns-3 : tie.Need-returns
 returns-3 c =
     let f = c.before in
     let e = f.before in
     let s = start e.before in
     let a = s.args in
-    made c.new3.result _ _ _ c.new3.ensures ∙ with_places a.line.now s.pre.0 a.p s.pre.1 f.if2.false e.if1.false
+    made c.new-2.result _ _ _ c.new-2.ensures ∙ with_places a.line.now s.requires.0 a.p s.requires.1 f.if-letter-eq73.false e.if-letter-eq68.false
 
 -- it has a letter, a tab and four digits
-long : (k : tie.After-shared-slice-known2) → 6 ≤ length (start k).args.line.now
+long : (k : tie.After-shared_slice_known-2-1) → 6 ≤ length (start k).args.line.now
 long k = (start k).requires.0.long
 
-pub record-spec : {M : Type 1} → statement M
-record-spec =
+pub record_spec : {M : Type 1} → statement M
+record_spec =
     tie.close
     (tie.spec (λ c. let h = long c in omega arith) (λ c. long c.before) (λ c κs. search rules) returns (λ c κs. search rules)
     (λ c κs. search rules) returns-2

@@ -11,49 +11,49 @@ use Rattle.read_back.proofs.Marking.{clear_blank, clear_rest, Marking, marking_s
 use Rattle.read_back.proofs.noted.put_marks.Statement.{statement}
 use Rattle.read_back.proofs.noted.put_marks.Tie as tie
 
-abbrev invariant_loop : tie.invariant-loop
+abbrev invariant_loop : tie.invariant-loop-i
 invariant_loop table n marks₀ i₀ marks i = Marking table n marks₀ marks i
 
-abbrev decreases_loop : tie.decreases-loop
+abbrev decreases_loop : tie.decreases-loop-i
 decreases_loop table n marks₀ i₀ marks i = n - i
 
-abbrev start : tie.At-loop invariant_loop decreases_loop → tie.Start invariant_loop decreases_loop
+abbrev start : tie.At-loop-i invariant_loop decreases_loop → tie.Start invariant_loop decreases_loop
 start l = l.before.before.before.before.before.before.before.before
 
-abbrev from : tie.At-loop invariant_loop decreases_loop → tie.After-clear invariant_loop decreases_loop
+abbrev from : tie.At-loop-i invariant_loop decreases_loop → tie.After-clear invariant_loop decreases_loop
 from l = l.before.before.before.before
 
 -- the room keeps its length
-room : (k : tie.After-clear invariant_loop decreases_loop) → let a = k.before.before.before.before.args in a.n ≤ length k.clear.new.0
-room k = omega (arith, k.before.before.before.before.requires.2, k.clear.auto.0)
+room : (k : tie.After-clear invariant_loop decreases_loop) → let a = k.args in a.n ≤ length k.clear.new.room
+room k = omega (arith, k.requires.2, k.clear.auto.room)
 
-loop-holds : tie.Need-loop-init invariant_loop decreases_loop
+loop-holds : tie.Need-loop-i-init invariant_loop decreases_loop
 loop-holds c =
     let k = c.before.before.before in
     let s = k.before.before.before.before in
     let a = s.args in
-    marking_start a.table.now a.n k.clear.new.0 (clear_blank a.n a.marks.now _ s.requires.2 k.clear.ensures.1)
-    c.next.result c.next.ensures
+    marking_start a.table.now a.n k.clear.new.room (clear_blank a.n a.marks.now _ s.requires.2 k.clear.ensures.1)
+    c.next-i.result c.next-i.ensures
 
-write : tie.Need-slice-write-marks invariant_loop decreases_loop
-write c = let l = c.before in omega (arith, c.loop-test.true, l.loop.invariant.same, room (from l))
+write : tie.Need-bounds-marks-i invariant_loop decreases_loop
+write c = let l = c.before in omega (arith, c.loop-i-test.true, l.loop-i.invariant.same, room (from l))
 
-loop-less : tie.Need-loop-smaller invariant_loop decreases_loop
+loop-less : tie.Need-loop-i-smaller invariant_loop decreases_loop
 loop-less c =
     let i = c.before in
     let l = i.before in
     let a = (start l).args in
-    marking_less a.table.now a.n _ l.loop.marks l.loop.i l.loop.invariant i.loop-test.true _ c.next2.ensures
+    marking_less a.table.now a.n _ l.loop-i.marks l.loop-i.i l.loop-i.invariant i.loop-i-test.true _ c.next-i-in-loop-i.ensures
 
-loop-again : tie.Need-loop-preserved invariant_loop decreases_loop
+loop-again : tie.Need-loop-i-preserved invariant_loop decreases_loop
 loop-again c =
     let i = c.before in
     let l = i.before in
     let a = (start l).args in
-    marking_next a.table.now a.n _ l.loop.marks l.loop.i l.loop.invariant i.loop-test.true (room (from l)) _ c.next2.ensures
+    marking_next a.table.now a.n _ l.loop-i.marks l.loop-i.i l.loop-i.invariant i.loop-i-test.true (room (from l)) _ c.next-i-in-loop-i.ensures
 
-same_length : tie.Need-same-length invariant_loop decreases_loop
-same_length c = c.before.loop.invariant.same ∙ (from c.before).clear.kept.0
+same_length : tie.Need-shape_of-marks invariant_loop decreases_loop
+same_length c = c.loop-i.invariant.same ∙ (from c.before).clear.auto.room
 
 returns : tie.Need-returns invariant_loop decreases_loop
 returns c =
@@ -61,13 +61,13 @@ returns c =
     let k = from l in
     let s = start l in
     let a = s.args in
-    marking_end a.table.now a.n _ l.loop.marks l.loop.i l.loop.invariant c.loop-test.false (room k)
-    ∙ ap (λ (x : List ℕ). marks_in a.table.now a.n ++ x) (clear_rest a.n a.marks.now _ s.pre.2 k.clear.ensures.1)
+    marking_end a.table.now a.n _ l.loop-i.marks l.loop-i.i l.loop-i.invariant c.loop-i-test.false (room k)
+    ∙ ap (λ (x : List ℕ). marks_in a.table.now a.n ++ x) (clear_rest a.n a.marks.now _ s.requires.2 k.clear.ensures.1)
 
-pub put-marks-spec : {M : Type 1} → statement M
-put-marks-spec =
+pub put_marks_spec : {M : Type 1} → statement M
+put_marks_spec =
     tie.close
     (tie.spec invariant_loop decreases_loop (λ c κs. search rules)
     (λ c κs. let s = c.before.before.before.before.before.before in (s.requires.0, s.requires.1, omega arith)) loop-holds write
-    (λ c. omega (arith, c.loop-test.true, (start c.before).pre.1))
-    (λ c κs. let s = start c.before in (s.pre.0, s.pre.1, omega (arith, c.loop-test.true))) loop-less loop-again same_length returns)
+    (λ c. omega (arith, c.loop-i-test.true, (start c.before).requires.1))
+    (λ c κs. let s = start c.before in (s.requires.0, s.requires.1, omega (arith, c.loop-i-test.true))) loop-less loop-again same_length returns)

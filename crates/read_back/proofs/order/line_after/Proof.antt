@@ -7,13 +7,13 @@ use Rattle.read_back.specs.Order.{line_after}
 use Rattle.read_back.proofs.order.line_after.Statement.{statement}
 use Rattle.read_back.proofs.order.line_after.Tie as tie
 
-returns : tie.Need-returns
+returns : tie.Need-returns-then-line-lt18446744073709551615
 unfolding line_after
-returns c = rw (lt-ltb _ _ c.if1.true, add-one)
+returns c = rw (lt-ltb _ _ c.if-line-lt18446744073709551615.true, add-one)
 
-returns-2 : tie.Need-returns-2
+returns-2 : tie.Need-returns
 unfolding line_after
-returns-2 c = rw (le-ltb _ _ c.if1.false)
+returns-2 c = rw (le-ltb _ _ c.if-line-lt18446744073709551615.false)
 
-pub line-after-spec : {M : Type 1} → statement M
-line-after-spec = tie.close (tie.spec (λ c. search rules) returns returns-2)
+pub line_after_spec : {M : Type 1} → statement M
+line_after_spec = tie.close (tie.spec (λ c. search rules) returns returns-2)

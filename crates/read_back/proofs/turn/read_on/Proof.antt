@@ -26,51 +26,51 @@ use Rattle.read_back.proofs.Turning.{line, Taken, taken, untaken, after_0, start
 use Rattle.read_back.proofs.turn.read_on.Statement.{statement}
 use Rattle.read_back.proofs.turn.read_on.Tie as tie
 
-abbrev start : tie.After-read-line → tie.Start
+abbrev start : tie.After-read_line → tie.Start
 start k = k.before.before.before.before
 
-abbrev mode : tie.After-read-line → Mode
+abbrev mode : tie.After-read_line → Mode
 mode k = (start k).args.mode
 
-abbrev text : tie.After-read-line → List ℕ
+abbrev text : tie.After-read_line → List ℕ
 text k = (start k).args.text.now
 
-abbrev place : tie.After-read-line → Place
+abbrev place : tie.After-read_line → Place
 place k = (start k).args.place
 
-inside : (k : tie.After-read-line) → (place k).at < length (text k)
+inside : (k : tie.After-read_line) → (place k).at < length (text k)
 inside k = (start k).requires.0
 
 -- the line at the place
-abbrev it : tie.After-read-line → List ℕ
+abbrev it : tie.After-read_line → List ℕ
 it k = line (mode k) (text k) (place k) (inside k)
 
-returns : tie.Need-returns
+returns : tie.Need-returns-in_default
 returns c =
     let k = c.before in
     let a = (start k).args in
     left_bad (mode k) (place k) a.end a.image.now a.table.now (it k)
     (ap (λ (b : Bool). b && agree_to a.end a.image.now (position_on (it k)) (listed_on (it k)))
-    (untaken (mode k) (text k) (place k) (inside k) k.read-line.result k.read-line.ensures (λ r n f. neither (rw f at c.match.keys2)))) _ _
+    (untaken (mode k) (text k) (place k) (inside k) k.read_line.result k.read_line.ensures (λ r n f. neither (rw f at c.in_default.in_default-own.keys2)))) _ _
 
-abbrev before : tie.After-struct-known → tie.After-read-line
-before s = s.before.before.before.before
+abbrev before : tie.After-struct_known-1 → tie.After-read_line
+before s = s.before.before
 
-abbrev rec : tie.After-struct-known → Record
-rec s = s.before.before.r.given.0.0
+abbrev rec : tie.After-struct_known-1 → Record
+rec s = s.in-Line.r
 
-abbrev next : tie.After-struct-known → Place
-next s = s.before.before.r.given.0.1.0
+abbrev next : tie.After-struct_known-1 → Place
+next s = s.in-Line.next
 
-got : (s : tie.After-struct-known) → let k = before s in Taken (mode k) (text k) (place k) (inside k) (rec s) (next s)
-got s = let k = before s in taken (mode k) (text k) (place k) (inside k) k.read-line.result k.read-line.ensures (rec s) (next s)
-    s.before.before.r.given.1
+got : (s : tie.After-struct_known-1) → let k = before s in Taken (mode k) (text k) (place k) (inside k) (rec s) (next s)
+got s = let k = before s in taken (mode k) (text k) (place k) (inside k) k.read_line.result k.read_line.ensures (rec s) (next s)
+    s.in-Line.is
 
 -- the part of the text that the calls are given
-is : (s : tie.After-struct-known) → let k = before s in take ((next s).at - 1 - (place k).at) (drop (place k).at (text k)) ≡ it k
+is : (s : tie.After-struct_known-1) → let k = before s in take ((next s).at - 1 - (place k).at) (drop (place k).at (text k)) ≡ it k
 is s = let k = before s in its_line (mode k) (text k) (place k) (inside k) (rec s) (next s) (got s)
 
-given : (s : tie.After-struct-known)
+given : (s : tie.After-struct_known-1)
     → let k = before s in let l = take ((next s).at - 1 - (place k).at) (drop (place k).at (text k)) in Spaced l × (rec s ≡ record_of l)
 given s =
     let k = before s in (
@@ -79,24 +79,24 @@ given s =
           (inside k) (rec s) (next s) (got s),
     )
 
-begins : (s : tie.After-struct-known) → (place (before s)).at ≤ (next s).at - 1
+begins : (s : tie.After-struct_known-1) → (place (before s)).at ≤ (next s).at - 1
 begins s = let k = before s in starts (mode k) (text k) (place k) (inside k) (rec s) (next s) (got s)
 
-stops : (s : tie.After-struct-known) → (next s).at - 1 ≤ length (text (before s))
+stops : (s : tie.After-struct_known-1) → (next s).at - 1 ≤ length (text (before s))
 stops s = let k = before s in ends (mode k) (text k) (place k) (inside k) (rec s) (next s) (got s)
 
-abbrev known : tie.After-listed → tie.After-struct-known
+abbrev known : tie.After-listed-d → tie.After-struct_known-1
 known d = d.before.before
 
 -- the position, and the bytes of the digits that are compared and written
-at : (d : tie.After-listed) → (rec (known d)).position ≡ position_on (it (before (known d)))
+at : (d : tie.After-listed-d) → (rec (known d)).position ≡ position_on (it (before (known d)))
 at d = position_is _ (rec (known d)) (got (known d)).is
 
-bytes : (d : tie.After-listed) → bytes_of d.listed.result.now ≡ listed_on (it (before (known d)))
-bytes d = d.listed.ensures ∙ ap listed_on (is (known d))
+bytes : (d : tie.After-listed-d) → bytes_of d.listed-d.result.now ≡ listed_on (it (before (known d)))
+bytes d = d.listed-d.ensures ∙ ap listed_on (is (known d))
 
-abbrev listing : tie.After-agree → tie.After-listed
-listing g = g.before.before
+abbrev listing : tie.After-agree → tie.After-listed-d
+listing g = g.before
 
 -- whether it fits
 fits : (g : tie.After-agree) (b : Bool) → g.agree.result ≡ b → let k = before (known (listing g)) in let a = (start k).args in
@@ -108,32 +108,32 @@ fits g b e =
     ap (λ (x : Bool). x && agree_to a.end a.image.now (position_on (it k)) (listed_on (it k))) (got (known d)).good
     ∙ sym (g.agree.ensures ∙ ap₂ (agree_to a.end a.image.now) (at d) (bytes d)) ∙ e
 
-returns-2 : tie.Need-returns-2
+returns-2 : tie.Need-returns-then-not-agree
 returns-2 c =
     let g = c.before in
     let k = before (known (listing g)) in
     let a = (start k).args in
-    left_bad (mode k) (place k) a.end a.image.now a.table.now (it k) (fits g false (not-true _ c.if1.true)) _ _
+    left_bad (mode k) (place k) a.end a.image.now a.table.now (it k) (fits g false (not-true _ c.if-not-agree.true-raw)) _ _
 
-abbrev agreeing : tie.After-far → tie.After-agree
+abbrev agreeing : tie.After-far-far → tie.After-agree
 agreeing h = h.before.before
 
-fits_on : (h : tie.After-far) → let k = before (known (listing (agreeing h))) in let a = (start k).args in
+fits_on : (h : tie.After-far-far) → let k = before (known (listing (agreeing h))) in let a = (start k).args in
     (is_good (mode k) (place k) (it k) && agree_to a.end a.image.now (position_on (it k)) (listed_on (it k))) ≡ true
-fits_on h = fits (agreeing h) true (not-false _ h.before.if1.false)
+fits_on h = fits (agreeing h) true (not-false _ h.if-not-agree.false-raw)
 
-far : (h : tie.After-far) → let k = before (known (listing (agreeing h))) in h.far.result ≡ far_of (position_on (it k)) (listed_on (it k))
-far h = let d = listing (agreeing h) in h.far.ensures ∙ ap₂ far_of (at d) (bytes d)
+far : (h : tie.After-far-far) → let k = before (known (listing (agreeing h))) in h.far-far.result ≡ far_of (position_on (it k)) (listed_on (it k))
+far h = let d = listing (agreeing h) in h.far-far.ensures ∙ ap₂ far_of (at d) (bytes d)
 
-returns-3 : tie.Need-returns-3
+returns-3 : tie.Need-returns-then-image-far
 returns-3 c =
     let h = c.before in
     let k = before (known (listing (agreeing h))) in
     let a = (start k).args in
     left_past (mode k) (place k) a.end a.image.now a.table.now (it k) (fits_on h)
-    (reach_far _ _ (listed_on (it k)) ∙ lt-ltb _ _ (subst (λ (x : ℕ). length a.image.now < x) (far h) c.if2.true)) _ _
+    (reach_far _ _ (listed_on (it k)) ∙ lt-ltb _ _ (subst (λ (x : ℕ). length a.image.now < x) (far h) c.if-image-far.true)) _ _
 
-abbrev reached : tie.After-put → tie.After-far
+abbrev reached : tie.After-put → tie.After-far-far
 reached u = u.before.before.before
 
 note-requires : tie.Need-note-requires
@@ -142,7 +142,7 @@ note-requires c κs =
     let s = known d in
     ((start (before s)).requires.2, subst (λ (r : Record). r.position < 65536) (sym (got s).is) (position_small (it (before s))))
 
-returns-4 : tie.Need-returns-4
+returns-4 : tie.Need-returns
 returns-4 c =
     let m = c.before.before.before in
     let u = m.before.before.before.before in
@@ -152,17 +152,17 @@ returns-4 c =
     let k = before s in
     let a = (start k).args in
     left_on (mode k) (place k) a.end a.image.now a.table.now (it k) (fits_on h)
-    (reach_far _ _ (listed_on (it k)) ∙ le-ltb _ _ (subst (λ (x : ℕ). x ≤ length a.image.now) (far h) u.before.before.if2.false)) (next s)
+    (reach_far _ _ (listed_on (it k)) ∙ le-ltb _ _ (subst (λ (x : ℕ). x ≤ length a.image.now) (far h) u.if-image-far.false)) (next s)
     (got s).goes _ _ _
     (u.put.ensures ∙ ap₂ (sets a.image.now) (at d) (bytes d))
     (m.note.ensures ∙ ap (λ (r : Record). noted_by r a.table.now) (got s).is)
     (c.later.ensures ∙ ap (later_of a.end) (far h))
 
-pub read-on-spec : {M : Type 1} → statement M
-read-on-spec =
+pub read_on_spec : {M : Type 1} → statement M
+read_on_spec =
     tie.close
     (tie.spec (λ c κs. search rules) (λ c. search rules) returns
     (λ c. let k = before c in after_0 (mode k) (text k) (place k) (inside k) (rec c) (next c) (got c)) begins begins stops
-    (λ c κs. given c.before) (λ c. search rules) (λ c κs. (start (before (known c.before))).requires.1) (λ c. search rules) returns-2
+    (λ c κs. given c.before) (λ c. search rules) (λ c κs. (start (before (known c))).requires.1) (λ c. search rules) returns-2
     (λ c κs. search rules) (λ c. search rules) returns-3
     (λ c. search rules) (λ c κs. search rules) note-requires (λ c κs. search rules) (λ c. search rules) (λ c. search rules) returns-4)
