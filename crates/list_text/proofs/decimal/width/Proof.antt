@@ -8,26 +8,26 @@ use Rattle.list_text.proofs.Decimals.{width_one, width_more, width_most}
 use Rattle.list_text.proofs.decimal.width.Statement.{statement}
 use Rattle.list_text.proofs.decimal.width.Tie as tie
 
-abbrev invariant_loop : tie.invariant-loop
+abbrev invariant_loop : tie.invariant-loop-left
 invariant_loop n left₀ k₀ left k = (k + left ≤ n + 1) × (k + width left left ≡ 1 + width n n)
 
-abbrev decreases_loop : tie.decreases-loop
+abbrev decreases_loop : tie.decreases-loop-left
 decreases_loop n left₀ k₀ left k = left
 
-loop-again : tie.Need-loop-preserved invariant_loop decreases_loop
+loop-again : tie.Need-loop-left-preserved invariant_loop decreases_loop
 loop-again c =
     let l = c.before in
-    let h = l.loop.invariant.0 in
-    let e = l.loop.invariant.1 in
-    let f = width_more l.loop.left c.loop-test.true in
+    let h = l.loop-left.invariant.0 in
+    let e = l.loop-left.invariant.1 in
+    let f = width_more l.loop-left.left c.loop-left-test.true in
     (omega arith, omega (arith, e, f))
 
 returns : tie.Need-returns invariant_loop decreases_loop
 returns c =
     let l = c.before in
-    let n : ℕ = l.before.args.n in
-    let e = l.loop.invariant.1 in
-    let f = width_one l.loop.left c.loop-test.false in
+    let n : ℕ = l.args.n in
+    let e = l.loop-left.invariant.1 in
+    let f = width_one l.loop-left.left c.loop-left-test.false in
     let g = width_most n n in
     (omega (arith, e, f), omega (arith, e, f, g))
 

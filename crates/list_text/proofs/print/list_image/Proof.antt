@@ -21,33 +21,33 @@ use Rattle.list_text.proofs.Images.{refused_run, listed_run, said}
 use Rattle.list_text.proofs.print.list_image.Statement.{statement}
 use Rattle.list_text.proofs.print.list_image.Tie as tie
 
-abbrev entry : tie.After-positions → tie.Start
+abbrev entry : tie.After-positions-order → tie.Start
 entry s = s.before.before.before.before.before
 
-abbrev image : tie.After-positions → List ℕ
+abbrev image : tie.After-positions-order → List ℕ
 image s = (entry s).args.image.now
 
 -- the part of each room that is lent: one for each byte of the image
-abbrev lent_marks : tie.After-positions → List ℕ
-lent_marks s = take (length (image s)) s.before.bytes.result
+abbrev lent_marks : tie.After-positions-order → List ℕ
+lent_marks s = take (length (image s)) s.bytes-marks.result
 
-abbrev lent_order : tie.After-positions → List ℕ
-lent_order s = take (length (image s)) s.positions.result
+abbrev lent_order : tie.After-positions-order → List ℕ
+lent_order s = take (length (image s)) s.positions-order.result
 
-marks_are : (s : tie.After-positions) → lent_marks s ≡ output.lent_room (image s)
-marks_are s = ap (take (length (image s))) s.before.bytes.ensures ∙ take_replicate (length (image s)) 16384 (entry s).requires
+marks_are : (s : tie.After-positions-order) → lent_marks s ≡ output.lent_room (image s)
+marks_are s = ap (take (length (image s))) s.bytes-marks.ensures ∙ take_replicate (length (image s)) 16384 (entry s).requires
 
-order_are : (s : tie.After-positions) → lent_order s ≡ output.lent_room (image s)
-order_are s = ap (take (length (image s))) s.positions.ensures ∙ take_replicate (length (image s)) 16384 (entry s).requires
+order_are : (s : tie.After-positions-order) → lent_order s ≡ output.lent_room (image s)
+order_are s = ap (take (length (image s))) s.positions-order.ensures ∙ take_replicate (length (image s)) 16384 (entry s).requires
 
-marks_long : (s : tie.After-positions) → length (image s) ≡ length (lent_marks s)
+marks_long : (s : tie.After-positions-order) → length (image s) ≡ length (lent_marks s)
 marks_long s = sym (ap length (marks_are s) ∙ length-replicate (length (image s)) 0)
 
-order_long : (s : tie.After-positions) → length (image s) ≡ length (lent_order s)
+order_long : (s : tie.After-positions-order) → length (image s) ≡ length (lent_order s)
 order_long s = sym (ap length (order_are s) ∙ length-replicate (length (image s)) 0)
 
-abbrev made : tie.After-run → tie.After-positions
-made r = r.before.before.before.before
+abbrev made : tie.After-run → tie.After-positions-order
+made r = r.before.before.before
 
 abbrev start : tie.After-run → tie.Start
 start r = entry (made r)
@@ -66,16 +66,16 @@ order_is r = order_are (made r)
 
 -- the marks that the run left, lent again
 abbrev left : tie.After-run → List ℕ
-left r = r.run.new.1.1.0 ++ drop (length (image (made r))) (made r).before.bytes.result
+left r = r.run.new.marks ++ drop (length (image (made r))) (made r).bytes-marks.result
 
-left_long : (r : tie.After-run) → length r.run.new.1.1.0 ≡ length (image (made r))
-left_long r = r.run.auto.1.1.0 ∙ sym (marks_long (made r))
+left_long : (r : tie.After-run) → length r.run.new.marks ≡ length (image (made r))
+left_long r = r.run.auto.marks ∙ sym (marks_long (made r))
 
-again : (r : tie.After-run) → take (length (image (made r))) (left r) ≡ r.run.new.1.1.0
-again r = take_at r.run.new.1.1.0 _ (length (image (made r))) (left_long r)
+again : (r : tie.After-run) → take (length (image (made r))) (left r) ≡ r.run.new.marks
+again r = take_at r.run.new.marks _ (length (image (made r))) (left_long r)
 
 within : (r : tie.After-run) → length (image (made r)) ≤ length (left r)
-within r = omega (arith, left_long r, length-append r.run.new.1.1.0 (drop (length (image (made r))) (made r).before.bytes.result))
+within r = omega (arith, left_long r, length-append r.run.new.marks (drop (length (image (made r))) (made r).bytes-marks.result))
 
 sized : (r : tie.After-run) → length (image (made r)) ≡ length (take (length (image (made r))) (left r))
 sized r = sym (ap length (again r) ∙ left_long r)
@@ -101,56 +101,56 @@ listed_text : (r : tie.After-run) (s : RunResult) → accepted s ≡ ran_of r.ru
 listed_text r s e v t p =
     let a = (start r).args in
     let l = listed_run Unwrapped a.image.now a.entries.now [] Declined (omega (arith, (start r).requires)) (lent r) (order r) (bytes_are r) (order_is r) s
-    (e ∙ r.run.ensures.0) _ (again r ∙ r.run.ensures.1.0) (ap length (again r) ∙ r.run.auto.1.1.0) v t a.room.now p in
+    (e ∙ r.run.ensures.0) _ (again r ∙ r.run.ensures.1.0) (ap length (again r) ∙ r.run.auto.marks) v t a.room.now p in
     said (listing r) _ (sym (ap output.output_text l.0)) v t a.room.now (l.1, l.2)
 
-returns : tie.Need-returns
+returns : tie.Need-returns-in-Finished
 returns c =
     let w = c.before.before in
     let e = w.before.before.before in
-    listed_text e.before.before.before.before _ (ap ran_of (sym e.enum_told.given.1)) _ _ w.show.ensures
+    listed_text e.before.before.before _ (ap ran_of (sym e.in-Finished.is)) _ _ w.show.ensures
 
-returns-2 : tie.Need-returns-2
+returns-2 : tie.Need-returns-in-Stopped
 returns-2 c =
     let w = c.before.before in
     let e = w.before.before.before in
-    listed_text e.before.before.before.before _ (ap ran_of (sym e.enum-told2.given.1)) _ _ w.show2.ensures
+    listed_text e.before.before.before _ (ap ran_of (sym e.in-Stopped.is)) _ _ w.show-in-Stopped.ensures
 
-returns-3 : tie.Need-returns-3
+returns-3 : tie.Need-returns-in-LongImage
 returns-3 c =
     let w = c.before.before in
     let e = w.before.before in
-    let r = e.before.before.before.before in
-    said (number_line 1) _ (refused_text r 1 _ (ap ran_of (sym e.enum-told3.given.1))) _ _ (start r).args.room.now w.put-number.ensures
+    let r = e.before.before.before in
+    said (number_line 1) _ (refused_text r 1 _ (ap ran_of (sym e.in-LongImage.is))) _ _ (start r).args.room.now w.put_number.ensures
 
-returns-4 : tie.Need-returns-4
+returns-4 : tie.Need-returns-in-ShortMarks
 returns-4 c =
     let w = c.before.before in
     let e = w.before.before in
-    let r = e.before.before.before.before in
-    said (number_line 2) _ (refused_text r 2 _ (ap ran_of (sym e.enum-told4.given.1))) _ _ (start r).args.room.now w.put-number2.ensures
+    let r = e.before.before.before in
+    said (number_line 2) _ (refused_text r 2 _ (ap ran_of (sym e.in-ShortMarks.is))) _ _ (start r).args.room.now w.put_number-in-ShortMarks.ensures
 
-returns-5 : tie.Need-returns-5
+returns-5 : tie.Need-returns-in-ShortOrder
 returns-5 c =
     let w = c.before.before in
     let e = w.before.before in
-    let r = e.before.before.before.before in
-    said (number_line 3) _ (refused_text r 3 _ (ap ran_of (sym e.enum-told5.given.1))) _ _ (start r).args.room.now w.put-number3.ensures
+    let r = e.before.before.before in
+    said (number_line 3) _ (refused_text r 3 _ (ap ran_of (sym e.in-ShortOrder.is))) _ _ (start r).args.room.now w.put_number-in-ShortOrder.ensures
 
-returns-6 : tie.Need-returns-6
+returns-6 : tie.Need-returns-in-Cut
 returns-6 c =
     let w = c.before.before in
-    let e = w.before.before.before.before in
-    let r = e.before.before.before.before in
-    said (value_line 5 _) _ (refused_text r 5 _ (ap ran_of (sym e.c.given.1))) _ _ (start r).args.room.now w.put-value.ensures
+    let e = w.before.before.before in
+    let r = e.before.before.before in
+    said (value_line 5 _) _ (refused_text r 5 _ (ap ran_of (sym e.in-Cut.is))) _ _ (start r).args.room.now w.put_value.ensures
 
-pub list-image-spec : {M : Type 1} → statement M
-list-image-spec =
+pub list_image_spec : {M : Type 1} → statement M
+list_image_spec =
     tie.close
     (tie.spec (λ c κs. search rules) (λ c κs. search rules) (λ c. search rules) (λ c. marks_long c.before) (λ c. search rules)
     (λ c. order_long c.before.before) (λ c. search rules) (λ c. search rules) (λ c κs. search rules)
-    (λ c. search rules) (λ c. within c.before.before.before.before) (λ c. sized c.before.before.before.before.before) (λ c κs. search rules)
-    (λ c. search rules) (λ c. within c.before.before.before.before) (λ c. sized c.before.before.before.before.before) (λ c κs. search rules)
+    (λ c. search rules) (λ c. within c.before.before.before) (λ c. sized c.before.before.before.before) (λ c κs. search rules)
+    (λ c. search rules) (λ c. within c.before.before.before) (λ c. sized c.before.before.before.before) (λ c κs. search rules)
     (λ c. search rules) (λ c κs. search rules) (λ c. search rules) (λ c κs. search rules) (λ c. search rules) (λ c κs. search rules)
     (λ c. search rules) (λ c. search rules) (λ c κs. search rules) (λ c. search rules) returns (λ c. search rules) returns-2 (λ c. search rules) returns-3
     (λ c. search rules) returns-4 (λ c. search rules) returns-5 (λ c. search rules) returns-6)

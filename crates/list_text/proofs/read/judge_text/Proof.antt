@@ -10,34 +10,34 @@ use Rattle.list_text.proofs.Firsts.{first_bad, first_good}
 use Rattle.list_text.proofs.read.judge_text.Statement.{statement}
 use Rattle.list_text.proofs.read.judge_text.Tie as tie
 
-abbrev start : tie.After-end → tie.Start
+abbrev start : tie.After-end-e → tie.Start
 start c = c.before.before
 
 -- line 1 ends inside the text
-inside : (c : tie.After-end) → c.end.result ≤ length (start c).args.text.now
-inside c = piece_inside 10 (start c).args.text.now 0 c.end.result c.end.ensures (omega arith)
+inside : (c : tie.After-end-e) → c.end-e.result ≤ length (start c).args.text.now
+inside c = piece_inside 10 (start c).args.text.now 0 c.end-e.result c.end-e.ensures (omega arith)
 
-returns : tie.Need-returns
+returns : tie.Need-returns-in_default
 returns c =
-    let v = c.before.before in
+    let v = c.before in
     let e = v.before.before in
-    first_bad (start e).args.text.now e.end.result e.end.ensures v.judge.result v.judge.ensures c.enum_told.given.1
+    first_bad (start e).args.text.now e.end-e.result e.end-e.ensures v.judge.result v.judge.ensures c.in_default.is
 
-add-judge-image : tie.Need-overflow-add-judge-image
+add-judge-image : tie.Need-overflow_add-e
 add-judge-image c =
-    let e = c.before.before.before.before.before in
-    omega (arith, inside e, (start e).well-formed.0.1)
+    let e = c.before.before.before in
+    omega (arith, inside e, (start e).well_formed.0.1)
 
-returns-2 : tie.Need-returns-2
+returns-2 : tie.Need-returns
 returns-2 c =
-    let w = c.before.before in
-    let v = w.before.before in
+    let w = c.before in
+    let v = w.before in
     let e = v.before.before in
-    c.judge-image.ensures
-    ∙ first_good (start e).args.text.now e.end.result e.end.ensures v.judge.result v.judge.ensures _ w.n.given.1
+    c.judge_image.ensures
+    ∙ first_good (start e).args.text.now e.end-e.result e.end-e.ensures v.judge.result v.judge.ensures _ w.in-Good.is
 
-pub judge-text-spec : {M : Type 1} → statement M
-judge-text-spec =
+pub judge_text_spec : {M : Type 1} → statement M
+judge_text_spec =
     tie.close
     (tie.spec (λ c κs. search rules) (λ c. search rules) (λ c. search rules) inside (λ c κs. search rules) (λ c. search rules) (λ c. search rules) returns
     add-judge-image (λ c κs. search rules) returns-2)

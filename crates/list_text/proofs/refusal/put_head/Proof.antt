@@ -17,10 +17,10 @@ put-requires : tie.Need-put-requires
 put-requires c κs =
     let s = c.before.before in omega (arith, s.requires, begun s.args.room.now)
 
-same_length : tie.Need-same-length
+same_length : tie.Need-shape_of-room
 same_length c =
-    let p = c.before.before in p.put.auto.1.1.0 ∙ begun p.before.before.before.args.room.now
+    let p = c.before.before in p.put.auto.room ∙ begun p.args.room.now
 
-pub put-head-spec : {M : Type 1} → statement M
-put-head-spec =
-    tie.close (tie.spec (λ c. search rules) (λ c. simp length-set (search rules)) put-requires same_length (λ c. c.before.before.put.ensures))
+pub put_head_spec : {M : Type 1} → statement M
+put_head_spec =
+    tie.close (tie.spec (λ c. search rules) (λ c. simp length-set (search rules)) put-requires same_length (λ c. c.put.ensures))

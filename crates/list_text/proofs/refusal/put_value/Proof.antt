@@ -14,69 +14,69 @@ use Rattle.list_text.proofs.refusal.put_value.Statement.{statement}
 use Rattle.list_text.proofs.refusal.put_value.Tie as tie
 
 -- how much is needed
-need : (c : tie.After-width2) → length (value_line c.before.before.before.args.number c.before.before.before.args.value) ≡ c.before.width.result
-    + c.width2.result + 4
-need c = value_length _ _ c.before.width.result c.width2.result c.before.width.ensures.0 c.width2.ensures.0
+need : (c : tie.After-width-j) → length (value_line c.args.number c.args.value) ≡ c.width-k.result
+    + c.width-j.result + 4
+need c = value_length _ _ c.width-k.result c.width-j.result c.width-k.ensures.0 c.width-j.ensures.0
 
-returns : tie.Need-returns
+returns : tie.Need-returns-then-room-need
 returns c =
     let w = c.before in
-    let a = w.before.before.before.args in
-    no_room_for [] (value_line a.number a.value) a.room.now (done 0) _ (need w) c.if1.true
+    let a = w.args in
+    no_room_for [] (value_line a.number a.value) a.room.now (done 0) _ (need w) c.if-room-need.true
 
-requires : tie.Need-put-head-requires
-requires c κs = let h = c.before.if1.false in omega (arith, h)
+requires : tie.Need-put_head-requires
+requires c κs = let h = c.if-room-need.false in omega (arith, h)
 
 -- the room is long enough, and its length stays
-abbrev widths : tie.After-put-head → tie.After-width2
+abbrev widths : tie.After-put_head → tie.After-width-j
 widths c = c.before.before.before
 
-abbrev start : tie.After-put-head → tie.Start
+abbrev start : tie.After-put_head → tie.Start
 start c = (widths c).before.before.before
 
-first_long : (c : tie.After-put-head) → length c.put-head.new.1.1.0 ≡ length (start c).args.room.now
-first_long c = c.put-head.auto.1.1.0
+first_long : (c : tie.After-put_head) → length c.put_head.new.room ≡ length (start c).args.room.now
+first_long c = c.put_head.auto.room
 
-slice-write-room : tie.Need-slice-write-room
+slice-write-room : tie.Need-bounds-room-k
 slice-write-room c =
     let p = c.before.before in
-    let h = p.before.before.if1.false in
+    let h = p.if-room-need.false in
     omega (arith, h, first_long p)
 
 put-requires : tie.Need-put-requires
 put-requires c κs =
     let p = c.before.before.before in
-    let h = p.before.before.if1.false in
-    let k : ℕ = (widths p).before.width.result in
-    omega (arith, h, first_long p, length-set p.put-head.new.1.1.0 (k + 2) 9)
+    let h = p.if-room-need.false in
+    let k : ℕ = (widths p).width-k.result in
+    omega (arith, h, first_long p, length-set p.put_head.new.room (k + 2) 9)
 
-abbrev first : tie.After-put → tie.After-put-head
+abbrev first : tie.After-put → tie.After-put_head
 first c = c.before.before.before.before
 
-all_long : (c : tie.After-put) → length c.put.new.1.1.0 ≡ length (start (first c)).args.room.now
-all_long c = c.put.auto.1.1.0 ∙ length-set (first c).put-head.new.1.1.0 _ 9 ∙ first_long (first c)
+all_long : (c : tie.After-put) → length c.put.new.room ≡ length (start (first c)).args.room.now
+all_long c = c.put.auto.room ∙ length-set (first c).put_head.new.room _ 9 ∙ first_long (first c)
 
-slice-write-room-2 : tie.Need-slice-write-room-2
+slice-write-room-2 : tie.Need-bounds-room-k-2
 slice-write-room-2 c =
     let q = c.before.before in
-    let h = (first q).before.before.if1.false in
+    let h = (first q).if-room-need.false in
     omega (arith, h, all_long q)
 
-same_length : tie.Need-same-length
-same_length c = let q = c.before.before in length-set q.put.new.1.1.0 _ 10 ∙ all_long q
+same_length : tie.Need-shape_of-room
+same_length c = let q = c.before.before in length-set q.put.new.room _ 10 ∙ all_long q
 
-returns-2 : tie.Need-returns-2
+returns-2 : tie.Need-returns
 returns-2 c =
     let q = c.before.before in
     let p = first q in
     let w = widths p in
     let a = (start p).args in
-    let put = value_put a.number a.room.now p.put-head.last.1.1.0 a.value q.put.new.1.1.0 w.before.width.result
-    w.width2.result w.before.width.ensures.0 w.width2.ensures.0 p.put-head.ensures q.put.ensures in
-    put_shown (value_line a.number a.value) a.room.now _ _ (need w) p.before.before.if1.left put.wrote
+    let put = value_put a.number a.room.now p.put_head.new.room a.value q.put.new.room w.width-k.result
+    w.width-j.result w.width-k.ensures.0 w.width-j.ensures.0 p.put_head.ensures q.put.ensures in
+    put_shown (value_line a.number a.value) a.room.now _ _ (need w) p.if-room-need.false put.wrote
 
-pub put-value-spec : {M : Type 1} → statement M
-put-value-spec =
+pub put_value_spec : {M : Type 1} → statement M
+put_value_spec =
     tie.close
     (tie.spec (λ c κs. search rules) (λ c κs. search rules) (λ c. search rules) (λ c. search rules) returns requires (λ c. search rules) slice-write-room
     (λ c. search rules) put-requires (λ c. search rules) (λ c. search rules) slice-write-room-2 same_length returns-2)

@@ -7,5 +7,5 @@ use Rattle.list_text.proofs.rooms.bytes.Tie as tie
 returns : tie.Need-returns
 returns c = refl
 
-pub bytes-spec : {M : Type 1} → statement M
-bytes-spec = tie.close (tie.spec returns)
+pub bytes_spec : {M : Type 1} → statement M
+bytes_spec = tie.close (tie.spec returns)

@@ -7,5 +7,5 @@ use Rattle.list_text.proofs.rooms.entries.Tie as tie
 returns : tie.Need-returns
 returns c = refl
 
-pub entries-spec : {M : Type 1} → statement M
-entries-spec = tie.close (tie.spec returns)
+pub entries_spec : {M : Type 1} → statement M
+entries_spec = tie.close (tie.spec returns)

@@ -7,5 +7,5 @@ use Rattle.list_text.proofs.rooms.positions.Tie as tie
 returns : tie.Need-returns
 returns c = refl
 
-pub positions-spec : {M : Type 1} → statement M
-positions-spec = tie.close (tie.spec returns)
+pub positions_spec : {M : Type 1} → statement M
+positions_spec = tie.close (tie.spec returns)

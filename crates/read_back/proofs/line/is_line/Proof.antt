@@ -30,9 +30,6 @@ line k = (start k).args.line.now
 long : (k : tie.After-shared_slice_known-2-1) → 6 ≤ length (line k)
 long k = start_long (line k) (start k).requires.0
 
-first : (k : tie.After-shared_slice_known-2-1) → 0 < length (line k)
-first k = let h = long k in omega arith
-
 -- what the letter says is what the line is
 rest : (k : tie.After-shared_slice_known-2-1) → by_letter_at (mode k) (get_or (line k) 0 0) (line k) ≡ is_line (mode k) (line k)
 rest k = started (line k) (start k).requires.0 (mode k) ∙ line_is (mode k) (line k)
@@ -73,7 +70,7 @@ returns-6 c = let k = c.before in sym (no_line (mode k) _ (line k) c.in_default.
 pub is_line_spec : {M : Type 1} → statement M
 is_line_spec =
     tie.close
-    (tie.spec (λ c. first c)
+    (tie.spec (λ c. let h = start_long c.args.line.now c.requires.0 in omega arith)
     (λ c. long c.before) (λ c. long c.before) (λ c. search rules) (λ c κs. search rules)
     (λ c. long c.before) (λ c. long c.before) (λ c. search rules) (λ c κs. search rules)
     (λ c κs. let s = start c.before in (s.requires.0, s.requires.1, c.in-73.is))

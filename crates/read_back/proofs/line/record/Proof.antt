@@ -36,13 +36,9 @@ returns-3 c =
     let a = s.args in
     made c.new-2.result _ _ _ c.new-2.ensures ∙ with_places a.line.now s.requires.0 a.p s.requires.1 f.if-letter-eq73.false e.if-letter-eq68.false
 
--- it has a letter, a tab and four digits
-long : (k : tie.After-shared_slice_known-2-1) → 6 ≤ length (start k).args.line.now
-long k = (start k).requires.0.long
-
 pub record_spec : {M : Type 1} → statement M
 record_spec =
     tie.close
-    (tie.spec (λ c. let h = long c in omega arith) (λ c. long c.before) (λ c κs. search rules) returns (λ c κs. search rules)
+    (tie.spec (λ c. let h = c.requires.0.long in omega arith) (λ c. c.requires.0.long) (λ c κs. search rules) returns (λ c κs. search rules)
     (λ c κs. search rules) returns-2
-    (λ c. long c.before.before) (λ c κs. search rules) returns-3)
+    (λ c. c.requires.0.long) (λ c κs. search rules) returns-3)

@@ -72,8 +72,8 @@ returns-4 c =
     let r = k.before in
     let f = r.before in
     let e = there f.before in
-    bad_order (mode e) (text e) (start e).args.place e.if-text-place.false e.end-e.result e.end-e.ensures (is f) r.«record».result
-    r.«record».ensures (sym k.follows.ensures ∙ not-true _ c.if-not-follows.true-raw)
+    bad_order (mode e) (text e) (start e).args.place e.if-text-place.false e.end-e.result e.end-e.ensures (is f) r.record-record.result
+    r.record-record.ensures (sym k.follows.ensures ∙ not-true _ c.if-not-follows.true-raw)
 
 add-new : tie.Need-overflow_add-e
 add-new c = let e = there c.before.before.before.before in omega (arith, ends e, (start e).well_formed.1.0.1)
@@ -86,7 +86,7 @@ returns-5 c =
     let r = k.before in
     let f = r.before in
     let e = there f.before in
-    good (mode e) (text e) (start e).args.place e.if-text-place.false e.end-e.result e.end-e.ensures (is f) r.«record».result r.«record».ensures
+    good (mode e) (text e) (start e).args.place e.if-text-place.false e.end-e.result e.end-e.ensures (is f) r.record-record.result r.record-record.ensures
     (sym k.follows.ensures ∙ not-false _ g.if-not-follows.false-raw) l.line_after.result l.line_after.ensures c.new.result c.new.ensures
 
 pub read_line_spec : {M : Type 1} → statement M
