@@ -12,9 +12,9 @@ unfolding codes
 returns c =
     let p = c.before.before in
     let q = p.before.before.before.before in
-    (puts_then q.put.ensures p.put-decimal.ensures.0, omega (arith, q.put.ensures.next, p.put-decimal.ensures.1))
+    (puts_then q.put-a.ensures p.put_decimal.ensures.0, omega (arith, q.put-a.ensures.next, p.put_decimal.ensures.1))
 
-pub put-bad-spec : {M : Type 1} → statement M
-put-bad-spec =
+pub put_bad_spec : {M : Type 1} → statement M
+put_bad_spec =
     tie.close
-    (tie.spec (λ c. search rules) (λ c κs. search rules) (λ c κs. search rules) (λ c. search rules) returns)
+    (tie.spec (λ c κs. search rules) (λ c κs. search rules) (λ c. search rules) returns)

@@ -18,11 +18,11 @@ returns c =
     let s = w.before.before in
     let a = s.args in
     let n : ℕ = a.n in
-    let e = w.width.ensures.0 in
+    let e = w.width-k.ensures.0 in
     let f : n < 2 ^ 64 = s.ranges.n.fits in (
-      puts_as (ap (λ (k : ℕ). lowest k n) e) (digits_put w.width.result n a.at _ a.room.now _ p.put.ensures refl),
+      puts_as (ap (λ (k : ℕ). lowest k n) e) (digits_put w.width-k.result n a.at _ a.room.now _ p.put.ensures refl),
       omega (arith, e, width_of n (omega (arith, f))),
     )
 
-pub put-decimal-spec : {M : Type 1} → statement M
-put-decimal-spec = tie.close (tie.spec (λ c κs. search rules) (λ c κs. search rules) (λ c. search rules) (λ c. search rules) returns)
+pub put_decimal_spec : {M : Type 1} → statement M
+put_decimal_spec = tie.close (tie.spec (λ c κs. search rules) (λ c κs. search rules) (λ c. search rules) (λ c. search rules) returns)

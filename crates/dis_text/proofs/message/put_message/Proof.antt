@@ -18,11 +18,10 @@ returns c =
     let d = p.before.before.before.before.before in
     let n = d.before.before in
     let b = n.before.before.before in
-    let first = puts_then b.put.ensures (puts_as (ap decimal n.number_of_lem.ensures) d.put-decimal.ensures.0) in
-    puts_then (puts_then (puts_then first p.put2.ensures) r.put-reason.ensures.0) e.put3.ensures
+    let first = puts_then b.put-a.ensures (puts_as (ap decimal n.number_of.ensures) d.put_decimal-b.ensures.0) in
+    puts_then (puts_then (puts_then first p.put-c.ensures) r.put_reason-d.ensures.0) e.put.ensures
 
-pub put-message-spec : {M : Type 1} → statement M
-put-message-spec =
+pub put_message_spec : {M : Type 1} → statement M
+put_message_spec =
     tie.close
-    (tie.spec (λ c. search rules) (λ c κs. search rules) (λ c κs. search rules) (λ c κs. search rules) (λ c. search rules) (λ c κs. search rules)
-    (λ c κs. search rules) (λ c. search rules) (λ c κs. search rules) (λ c. search rules) returns)
+    (tie.spec (λ c κs. search rules) (λ c κs. search rules) (λ c κs. search rules) (λ c κs. search rules) (λ c κs. search rules) (λ c κs. search rules) (λ c. search rules) returns)

@@ -21,10 +21,10 @@ returns c =
     let e = d.before in
     let f = e.before in
     let g = f.before in
-    puts_as (four _ _ _ _ _ g.hex1.ensures f.hex12.ensures e.hex13.ensures d.hex14.ensures) p.put.ensures
+    puts_as (four _ _ _ _ _ g.hex1.ensures f.hex1-2.ensures e.hex1-3.ensures d.hex1-4.ensures) p.put.ensures
 
-pub put-position-spec : {M : Type 1} → statement M
-put-position-spec =
+pub put_position_spec : {M : Type 1} → statement M
+put_position_spec =
     tie.close
     (tie.spec (λ c κs. search rules) (λ c κs. search rules) (λ c κs. search rules) (λ c κs. search rules) (λ c. search rules) (λ c κs. search rules)
     (λ c. search rules) returns)

@@ -15,39 +15,37 @@ use Rattle.dis_text.proofs.message.put_reason.Tie as tie
 same : {t u : Trouble} → t ≡ u → reason (number_of u) (values_of u) ≡ reason (number_of t) (values_of t)
 same e = sym (ap (λ (t : Trouble). reason (number_of t) (values_of t)) e)
 
-returns : tie.Need-returns
+returns : tie.Need-returns-in-Long
 unfolding codes reason
 returns c =
     let p = c.before.before in
-    (puts_as (same p.before.before.before.enum_told.given.1) p.put.ensures, omega (arith, p.put.ensures.next))
+    (puts_as (same p.in-Long.is) p.put.ensures, omega (arith, p.put.ensures.next))
 
-returns-2 : tie.Need-returns-2
+returns-2 : tie.Need-returns-in-ShortMarks
 unfolding codes reason
 returns-2 c =
     let p = c.before.before in
-    (puts_as (same p.before.before.before.enum-told2.given.1) p.put2.ensures, omega (arith, p.put2.ensures.next))
+    (puts_as (same p.in-ShortMarks.is) p.put-in-ShortMarks.ensures, omega (arith, p.put-in-ShortMarks.ensures.next))
 
-returns-3 : tie.Need-returns-3
+returns-3 : tie.Need-returns-in-ShortOrder
 unfolding codes reason
 returns-3 c =
     let p = c.before.before in
-    (puts_as (same p.before.before.before.enum-told3.given.1) p.put3.ensures, omega (arith, p.put3.ensures.next))
+    (puts_as (same p.in-ShortOrder.is) p.put-in-ShortOrder.ensures, omega (arith, p.put-in-ShortOrder.ensures.next))
 
-returns-4 : tie.Need-returns-4
+returns-4 : tie.Need-returns-in-Cut
 unfolding codes reason
 returns-4 c =
     let p = c.before.before in
-    (puts_as (same p.before.before.before.t.given.1) p.put-cut.ensures.0, p.put-cut.ensures.1)
+    (puts_as (same p.in-Cut.is) p.put_cut.ensures.0, p.put_cut.ensures.1)
 
-returns-5 : tie.Need-returns-5
+returns-5 : tie.Need-returns-in-Bad
 unfolding codes reason
 returns-5 c =
     let p = c.before.before in
-    (puts_as (same p.before.before.before.t2.given.1) p.put-bad.ensures.0, p.put-bad.ensures.1)
+    (puts_as (same p.in-Bad.is) p.put_bad.ensures.0, p.put_bad.ensures.1)
 
-pub put-reason-spec : {M : Type 1} → statement M
-put-reason-spec =
+pub put_reason_spec : {M : Type 1} → statement M
+put_reason_spec =
     tie.close
-    (tie.spec (λ c. search rules) (λ c. search rules) (λ c κs. search rules) (λ c. search rules) (λ c. search rules) (λ c κs. search rules) (λ c. search rules)
-    (λ c. search rules) (λ c κs. search rules) (λ c. search rules) (λ c κs. search rules) (λ c. search rules) (λ c κs. search rules)
-    (λ c. search rules) returns (λ c. search rules) returns-2 (λ c. search rules) returns-3 (λ c. search rules) returns-4 (λ c. search rules) returns-5)
+    (tie.spec (λ c. search rules) (λ c κs. search rules) (λ c. search rules) (λ c κs. search rules) (λ c. search rules) (λ c κs. search rules) (λ c. search rules) (λ c κs. search rules) (λ c. search rules) (λ c κs. search rules) (λ c. search rules) returns (λ c. search rules) returns-2 (λ c. search rules) returns-3 (λ c. search rules) returns-4 (λ c. search rules) returns-5)

@@ -9,5 +9,5 @@ returns : tie.Need-returns
 unfolding game_entries
 returns c = refl
 
-pub game-entries-spec : {M : Type 1} → statement M
-game-entries-spec = tie.close (tie.spec returns)
+pub game_entries_spec : {M : Type 1} → statement M
+game_entries_spec = tie.close (tie.spec returns)

@@ -37,30 +37,29 @@ from s es =
 abbrev asked : tie.Start → List ℕ
 asked s = entries_for (take s.args.asked.entries s.args.entries.now)
 
-returns : tie.Need-returns
+returns : tie.Need-returns-then-k-eq0
 returns c =
     let w = c.before.before in
-    let g = w.before.before.before.before in
-    let t = g.before in
-    let s = t.before.before.before.before.before in
+    let g = w.before.before.before in
+    let s = g.before.before.before.before.before.before in
     let a = s.args in
-    shown_as (from s (asked s)) _ (ap (from s) (none_asked a.asked.entries a.entries.now t.if1.true ∙ sym g.game-entries.ensures))
-    a.room.now _ _ w.list-image.ensures
+    shown_as (from s (asked s)) _ (ap (from s) (none_asked a.asked.entries a.entries.now g.if-k-eq0.true ∙ sym g.game_entries-game.ensures))
+    a.room.now _ _ w.list_image.ensures
 
-returns-2 : tie.Need-returns-2
+returns-2 : tie.Need-returns
 returns-2 c =
     let w = c.before.before in
-    let e = w.before.before.before.before in
+    let e = w.before.before in
     let s = e.before.before.before.before.before in
     let a = s.args in
-    shown_as (from s (asked s)) _ (ap (from s) (some_asked a.asked.entries a.entries.now (entries_in_lem s) e.if1.false)) a.room.now _ _
-    w.list-image2.ensures
+    shown_as (from s (asked s)) _ (ap (from s) (some_asked a.asked.entries a.entries.now (entries_in_lem s) w.if-k-eq0.false)) a.room.now _ _
+    w.list_image-2.ensures
 
-pub list-asked-spec : {M : Type 1} → statement M
-list-asked-spec =
+pub list_asked_spec : {M : Type 1} → statement M
+list_asked_spec =
     tie.close
-    (tie.spec (λ c κs. search rules) (λ c. search rules) (λ c. pins_long c.before.before.before.before.before.before.before.before)
+    (tie.spec (λ c κs. search rules) (λ c. search rules) (λ c. pins_long c.before.before.before.before.before.before.before)
     (λ c κs. search rules)
-    (λ c. search rules) returns (λ c. entries_long c.before.before.before.before.before.before)
-    (λ c. pins_long c.before.before.before.before.before.before.before)
+    (λ c. search rules) returns (λ c. entries_long c.before.before.before.before.before)
+    (λ c. pins_long c.before.before.before.before.before)
     (λ c κs. search rules) (λ c. search rules) returns-2)

@@ -6,13 +6,13 @@ use Rattle.dis_text.proofs.Numbers.{lower_value, other_value}
 use Rattle.dis_text.proofs.word.value.Statement.{statement}
 use Rattle.dis_text.proofs.word.value.Tie as tie
 
-returns : tie.Need-returns
-returns c = let t = c.before in lower_value t.before.args.b t.if1.true c.if2.true
+returns : tie.Need-returns-then-b-le102
+returns c = let t = c.before in lower_value t.args.b t.if-b-ge97.true c.if-b-le102.true-raw
 
-returns-2 : tie.Need-returns-2
+returns-2 : tie.Need-returns
 returns-2 c =
     let j = c.before in
-    other_value j.before.args.b _ c.value.ensures.0 (⊎_elim (λ x. inl x.1.left) (λ x. inr x.left) j.if1.branch)
+    other_value j.args.b _ c.value.ensures.0 (⊎_elim (λ x. inl x.if-b-le102.false-raw) (λ x. inr x.if-b-ge97.false) j.else-b-ge97.branch-raw)
 
 pub value_spec : {M : Type 1} → statement M
 value_spec = tie.close (tie.spec (λ c. search rules) returns (λ c κs. search rules) returns-2)

@@ -12,66 +12,66 @@ use Rattle.report_text.proofs.Covering.{Counted, counted_start, counted_next, co
 use Rattle.report_text.proofs.count.count_bytes.Statement.{statement}
 use Rattle.report_text.proofs.count.count_bytes.Tie as tie
 
-abbrev invariant_loop : tie.invariant-loop
+abbrev invariant_loop : tie.invariant-loop-p
 invariant_loop image marks code₀ shared₀ here₀ next₀ p₀ code shared here next p = Counted image marks p code shared here next
 
-abbrev decreases_loop : tie.decreases-loop
+abbrev decreases_loop : tie.decreases-loop-p
 decreases_loop image marks code₀ shared₀ here₀ next₀ p₀ code shared here next p = length image - p
 
-abbrev start : tie.At-loop invariant_loop decreases_loop → tie.Start invariant_loop decreases_loop
+abbrev start : tie.At-loop-p invariant_loop decreases_loop → tie.Start invariant_loop decreases_loop
 start c = c.before.before.before
 
-loop-holds : tie.Need-loop-init invariant_loop decreases_loop
-loop-holds c = let a = c.before.before.args in counted_start a.image.now a.marks.now
+loop-holds : tie.Need-loop-p-init invariant_loop decreases_loop
+loop-holds c = let a = c.args in counted_start a.image.now a.marks.now
 
-size-of-requires : tie.Need-size-of-requires invariant_loop decreases_loop
-size-of-requires c κs = let s = start c.before in (c.loop-test.true, s.pre.0, s.pre.1)
+size-of-requires : tie.Need-size_of-size-requires invariant_loop decreases_loop
+size-of-requires c κs = let s = start c.before in (c.loop-p-test.true, s.requires.0, s.requires.1)
 
 -- each sum is at most one more than the positions so far
-fits : (c : tie.After-size-of invariant_loop decreases_loop) (n : ℕ) → n ≤ c.before.before.loop.p → (t : Bool) → Fits w64 (n + bool_byte t)
+fits : (c : tie.After-size_of-size invariant_loop decreases_loop) (n : ℕ) → n ≤ c.loop-p.p → (t : Bool) → Fits w64 (n + bool_byte t)
 fits c n h t =
     let l = c.before.before in
-    let k : l.loop.p < length (start l).args.image.now = c.before.loop-test.true in
+    let k : l.loop-p.p < length (start l).args.image.now = c.loop-p-test.true in
     let m : length (start l).args.image.now ≤ 65536 = (start l).requires.1 in
     let b = at_most_one t in
     record { fits = omega arith }
 
-bounds : (c : tie.After-size-of invariant_loop decreases_loop)
-    → (c.before.before.loop.code ≤ c.before.before.loop.p) × (c.before.before.loop.shared ≤ c.before.before.loop.p)
-    × (c.before.before.loop.here ≤ c.before.before.loop.p) × (c.before.before.loop.next ≤ c.before.before.loop.p)
+bounds : (c : tie.After-size_of-size invariant_loop decreases_loop)
+    → (c.loop-p.code ≤ c.loop-p.p) × (c.loop-p.shared ≤ c.loop-p.p)
+    × (c.loop-p.here ≤ c.loop-p.p) × (c.loop-p.next ≤ c.loop-p.p)
 bounds c =
     let l = c.before.before in
     let a = (start l).args in
-    most a.image.now a.marks.now l.loop.invariant
+    most a.image.now a.marks.now l.loop-p.invariant
 
-abbrev covering : tie.After-size-of invariant_loop decreases_loop → ℕ
-covering c = c.before.before.loop.here + bool_byte (ltb 0 c.type_size.result)
+abbrev covering : tie.After-size_of-size invariant_loop decreases_loop → ℕ
+covering c = c.loop-p.here + bool_byte (ltb 0 c.size_of-size.result)
 
-add-p : tie.Need-overflow-add-p invariant_loop decreases_loop
+add-p : tie.Need-overflow_add-p invariant_loop decreases_loop
 add-p c =
     let l = c.before.before in
-    let k : l.loop.p < length (start l).args.image.now = c.before.loop-test.true in
+    let k : l.loop-p.p < length (start l).args.image.now = c.loop-p-test.true in
     let m : length (start l).args.image.now ≤ 65536 = (start l).requires.1 in
     record { fits = omega arith }
 
-loop-again : tie.Need-loop-preserved invariant_loop decreases_loop
+loop-again : tie.Need-loop-p-preserved invariant_loop decreases_loop
 loop-again c =
     let l = c.before.before in
     let a = (start l).args in
-    counted_next a.image.now a.marks.now l.loop.invariant (λ k. (l.before.before.shared-slice-known.given k).fits)
-    c.before.loop-test.true c.type_size.result c.type_size.ensures
+    counted_next a.image.now a.marks.now l.loop-p.invariant (λ k. (l.shared_slice_known-1.given k).fits)
+    c.loop-p-test.true c.size_of-size.result c.size_of-size.ensures
 
 returns : tie.Need-returns invariant_loop decreases_loop
 returns c =
     let a = (start c.before).args in
-    counted_end a.image.now a.marks.now c.before.loop.invariant c.loop-test.false
+    counted_end a.image.now a.marks.now c.loop-p.invariant c.loop-p-test.false
 
-pub count-bytes-spec : {M : Type 1} → statement M
-count-bytes-spec =
+pub count_bytes_spec : {M : Type 1} → statement M
+count_bytes_spec =
     tie.close
     (tie.spec invariant_loop decreases_loop loop-holds size-of-requires
-    (λ c. tt) (λ c. fits c c.before.before.loop.here (bounds c).2 (ltb 0 c.type_size.result))
-    (λ c. tt) (λ c. fits c c.before.before.loop.code (bounds c).0 (ltb 0 (covering c)))
-    (λ c. tt) (λ c. fits c c.before.before.loop.shared (bounds c).1 (ltb 1 (covering c)))
-    (λ c. tt) (λ c. fits c c.before.before.loop.next (bounds c).3 (ltb 1 c.type_size.result))
-    (λ c. tt) add-p (λ c. let h = c.before.loop-test.true in omega arith) loop-again returns)
+    (λ c. tt) (λ c. fits c c.loop-p.here (bounds c).2 (ltb 0 c.size_of-size.result))
+    (λ c. tt) (λ c. fits c c.loop-p.code (bounds c).0 (ltb 0 (covering c)))
+    (λ c. tt) (λ c. fits c c.loop-p.shared (bounds c).1 (ltb 1 (covering c)))
+    (λ c. tt) (λ c. fits c c.loop-p.next (bounds c).3 (ltb 1 c.size_of-size.result))
+    (λ c. tt) add-p (λ c. let h = c.loop-p-test.true in omega arith) loop-again returns)

@@ -14,46 +14,46 @@ use Rattle.report_text.proofs.EmptyLines.{empty_most, empty_parts}
 use Rattle.report_text.proofs.empty.empty_lines.Statement.{statement}
 use Rattle.report_text.proofs.empty.empty_lines.Tie as tie
 
-abbrev invariant_loop : tie.invariant-loop
+abbrev invariant_loop : tie.invariant-loop-from
 invariant_loop text n₀ from₀ n from = (from ≤ length text) × (n + empty_lines (drop from text) ≡ empty_lines text)
 
-abbrev decreases_loop : tie.decreases-loop
+abbrev decreases_loop : tie.decreases-loop-from
 decreases_loop text n₀ from₀ n from = length text - from
 
-loop-holds : tie.Need-loop-init invariant_loop decreases_loop
-loop-holds c = (omega arith, zero-add (empty_lines c.before.args.text.now))
+loop-holds : tie.Need-loop-from-init invariant_loop decreases_loop
+loop-holds c = (omega arith, zero-add (empty_lines c.args.text.now))
 
-abbrev looped : tie.After-in-part invariant_loop decreases_loop → tie.At-loop invariant_loop decreases_loop
+abbrev looped : tie.After-in_part invariant_loop decreases_loop → tie.At-loop-from invariant_loop decreases_loop
 looped c = c.before.before.before
 
-abbrev text : tie.At-loop invariant_loop decreases_loop → List ℕ
-text l = l.before.before.args.text.now
+abbrev text : tie.At-loop-from invariant_loop decreases_loop → List ℕ
+text l = l.args.text.now
 
 -- one part more
-more : (c : tie.After-in-part invariant_loop decreases_loop) → let l = looped c in
-    l.loop.n + c.in-part.result + empty_lines (drop (l.loop.from + 192) (text l)) ≡ empty_lines (text l)
+more : (c : tie.After-in_part invariant_loop decreases_loop) → let l = looped c in
+    l.loop-from.n + c.in_part.result + empty_lines (drop (l.loop-from.from + 192) (text l)) ≡ empty_lines (text l)
 more c =
     let l = looped c in
-    let f : ℕ = l.loop.from in
+    let f : ℕ = l.loop-from.from in
     let t : List ℕ = text l in
     let m : f + 193 - f ≡ 193 = omega arith in
-    let k = c.in-part.ensures ∙ ap (λ (j : ℕ). empty_lines (take j (drop f t))) m in
-    omega (arith, k, empty_parts 192 (drop f t), ap empty_lines (drop-drop 192 f t), l.loop.inv.1)
+    let k = c.in_part.ensures ∙ ap (λ (j : ℕ). empty_lines (take j (drop f t))) m in
+    omega (arith, k, empty_parts 192 (drop f t), ap empty_lines (drop-drop 192 f t), l.loop-from.invariant.1)
 
-few : (l : tie.At-loop invariant_loop decreases_loop) → empty_lines (text l) < 2 ^ 64
-few l = omega (arith, empty_most (text l), l.before.before.well-formed.0)
+few : (l : tie.At-loop-from invariant_loop decreases_loop) → empty_lines (text l) < 2 ^ 64
+few l = omega (arith, empty_most (text l), l.well_formed.0)
 
 -- what is left is the last part
-last : (c : tie.After-in-part2 invariant_loop decreases_loop) → let l = c.before.before.before in l.loop.n + c.in-part2.result ≡ empty_lines (text l)
+last : (c : tie.After-in_part-2 invariant_loop decreases_loop) → let l = c.before.before.before in l.loop-from.n + c.in_part-2.result ≡ empty_lines (text l)
 last c =
     let l = c.before.before.before in
-    let f : ℕ = l.loop.from in
+    let f : ℕ = l.loop-from.from in
     let t : List ℕ = text l in
-    let k = c.in-part2.ensures ∙ ap empty_lines (to_end t f) in
-    omega (arith, k, l.loop.invariant.1)
+    let k = c.in_part-2.ensures ∙ ap empty_lines (to_end t f) in
+    omega (arith, k, l.loop-from.invariant.1)
 
-pub empty-lines-spec : {M : Type 1} → statement M
-empty-lines-spec =
+pub empty_lines_spec : {M : Type 1} → statement M
+empty_lines_spec =
     tie.close
     (tie.spec invariant_loop decreases_loop loop-holds (λ c. search rules) (λ c. search rules) (λ c. search rules) (λ c. search rules) (λ c. search rules)
     (λ c κs. simp length-take (omega arith)) (λ c. search rules) (λ c. record { fits = omega (arith, more c, few (looped c)) }) (λ c. search rules)

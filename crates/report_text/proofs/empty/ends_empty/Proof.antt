@@ -4,11 +4,11 @@ use borrow.Author.Tests.{ne_eqb}
 use Rattle.report_text.proofs.empty.ends_empty.Statement.{statement}
 use Rattle.report_text.proofs.empty.ends_empty.Tie as tie
 
-returns : tie.Need-returns
-returns c = rw c.if1.true
+returns : tie.Need-returns-then-before-eq-LINE_END
+returns c = rw c.if-before-eq-LINE_END.true
 
-returns-2 : tie.Need-returns-2
-returns-2 c = rw (ne_eqb c.before.args.before 10 c.if1.false)
+returns-2 : tie.Need-returns-else-before-eq-LINE_END
+returns-2 c = rw (ne_eqb c.args.before 10 c.if-before-eq-LINE_END.false)
 
-pub ends-empty-spec : {M : Type 1} → statement M
-ends-empty-spec = tie.close (tie.spec returns returns-2)
+pub ends_empty_spec : {M : Type 1} → statement M
+ends_empty_spec = tie.close (tie.spec returns returns-2)

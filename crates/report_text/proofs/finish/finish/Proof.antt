@@ -12,35 +12,35 @@ use Rattle.report_text.proofs.Finishes.{finish_over, finish_on}
 use Rattle.report_text.proofs.finish.finish.Statement.{statement}
 use Rattle.report_text.proofs.finish.finish.Tie as tie
 
-returns : tie.Need-returns
+returns : tie.Need-returns-then-not-image_fits
 returns c =
     let p = c.before.before in
     let f = p.before.before in
     let i = f.before.before in
-    let a = i.before.before.before.args in
-    finish_over a.s a.text.now a.out.now _ _ i.report-image.ensures _ p.put-sum-refusal.ensures.1
-    (sym f.before.image-fits.ensures ∙ not-true _ f.if1.true) p.put-sum-refusal.ensures.0
+    let a = i.args in
+    finish_over a.s a.text.now a.out.now _ _ i.report_image-answer.ensures _ p.put_sum_refusal-n.ensures.1
+    (sym f.image_fits.ensures ∙ not-true _ f.if-not-image_fits.true-raw) p.put_sum_refusal-n.ensures.0
 
-add-requires : tie.Need-add-requires
-add-requires c κs = sym c.before.image-fits.ensures ∙ not-false _ c.if1.false
+add-requires : tie.Need-add-sums-requires
+add-requires c κs = sym c.image_fits.ensures ∙ not-false _ c.if-not-image_fits.false-raw
 
-part_end : tie.Need-slice-bounds-put-image-end
+part_end : tie.Need-slice_bounds-put_image-end
 part_end c =
-    let t : List ℕ = c.before.before.before.before.before.before.before.args.text.now in
+    let t : List ℕ = c.args.text.now in
     let e = end_inside 10 t 0 (omega arith) in
-    omega (arith, c.end.ensures, e)
+    omega (arith, c.end-end.ensures, e)
 
-returns-2 : tie.Need-returns-2
+returns-2 : tie.Need-returns
 returns-2 c =
     let p = c.before.before in
     let e = p.before.before.before in
     let d = e.before in
     let f = d.before in
     let i = f.before.before in
-    let a = i.before.before.before.args in
-    finish_on a.s a.text.now a.out.now _ _ i.report-image.ensures _ p.put-image.ensures.1 _ d.add.ensures
-    (sym f.before.image-fits.ensures ∙ not-false _ f.if1.false) _ (sym (split a.text.now e.end.result e.end.ensures).0)
-    p.put-image.ensures.0
+    let a = i.args in
+    finish_on a.s a.text.now a.out.now _ _ i.report_image-answer.ensures _ p.put_image-n.ensures.1 _ d.add-sums.ensures
+    (sym f.image_fits.ensures ∙ not-false _ f.if-not-image_fits.false-raw) _ (sym (split a.text.now e.end-end.result e.end-end.ensures).0)
+    p.put_image-n.ensures.0
 
 pub finish_spec : {M : Type 1} → statement M
 finish_spec =

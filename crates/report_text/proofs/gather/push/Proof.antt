@@ -11,17 +11,17 @@ use Rattle.report_text.specs.Term.{most}
 use Rattle.report_text.proofs.gather.push.Statement.{statement}
 use Rattle.report_text.proofs.gather.push.Tie as tie
 
-returns : tie.Need-returns
+returns : tie.Need-returns-then-held-ge-MOST
 returns c =
-    let h : ℕ = c.before.args.held in
-    let e : min h most ≡ most = omega (arith, c.if1.true) in
+    let h : ℕ = c.args.held in
+    let e : min h most ≡ most = omega (arith, c.if-held-ge-MOST.true) in
     rw e (refl, refl)
 
-returns-2 : tie.Need-returns-2
+returns-2 : tie.Need-returns
 returns-2 c =
-    let h : ℕ = c.before.args.held in
-    let e : min h most ≡ h = omega (arith, c.if1.false) in
-    rw (e, lt-ltb h most c.if1.false) (omega arith, refl)
+    let h : ℕ = c.args.held in
+    let e : min h most ≡ h = omega (arith, c.if-held-ge-MOST.false) in
+    rw (e, lt-ltb h most c.if-held-ge-MOST.false) (omega arith, refl)
 
 pub push_spec : {M : Type 1} → statement M
 push_spec = tie.close (tie.spec returns (λ c. search rules) (λ c. search rules) (λ c. search rules) returns-2)

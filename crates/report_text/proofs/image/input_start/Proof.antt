@@ -10,27 +10,27 @@ use Rattle.report_text.proofs.image.input_start.Statement.{statement}
 use Rattle.report_text.proofs.image.input_start.Tie as tie
 
 abbrev text : tie.After-end → List ℕ
-text c = c.before.before.args.text.now
+text c = c.args.text.now
 
-returns : tie.Need-returns
-returns c = let e = c.before in (omega arith, other_length (text e) e.end.result e.end.ensures c.if1.true)
+returns : tie.Need-returns-then-end-ne1
+returns c = let e = c.before in (omega arith, other_length (text e) e.end.result e.end.ensures c.if-end-ne1.true)
 
-read : tie.Need-shared-slice-read-if2
-read c = let e = c.before.before in let h = first_inside (text e) e.end.result e.end.ensures in let k = c.before.if1.false in omega arith
+read : tie.Need-bounds-text-0
+read c = let e = c.before.before in let h = first_inside (text e) e.end.result e.end.ensures in let k = c.if-end-ne1.false in omega arith
 
-returns-2 : tie.Need-returns-2
+returns-2 : tie.Need-returns-then-text-ne45
 returns-2 c =
     let f = c.before.before in
     let e = f.before in
-    (omega arith, other_byte (text e) e.end.result e.end.ensures f.if1.false c.if2.true)
+    (omega arith, other_byte (text e) e.end.result e.end.ensures f.if-end-ne1.false c.if-text-ne45.true)
 
-returns-3 : tie.Need-returns-3
+returns-3 : tie.Need-returns
 returns-3 c =
     let f = c.before.before in
     let e = f.before in
     let h = first_inside (text e) e.end.result e.end.ensures in
-    let k = f.if1.false in
-    (omega arith, dash_alone (text e) (sym k ∙ e.end.ensures) c.if2.false)
+    let k = f.if-end-ne1.false in
+    (omega arith, dash_alone (text e) (sym k ∙ e.end.ensures) c.if-text-ne45.false)
 
-pub input-start-spec : {M : Type 1} → statement M
-input-start-spec = tie.close (tie.spec (λ c κs. search rules) returns read returns-2 returns-3)
+pub input_start_spec : {M : Type 1} → statement M
+input_start_spec = tie.close (tie.spec (λ c κs. search rules) returns read returns-2 returns-3)

@@ -21,49 +21,49 @@ use Rattle.report_text.proofs.Runs.{refused_run, counted_run, sound_run}
 use Rattle.report_text.proofs.image.trace_image.Statement.{statement}
 use Rattle.report_text.proofs.image.trace_image.Tie as tie
 
-abbrev entry : tie.After-positions → tie.Start
+abbrev entry : tie.After-positions-order → tie.Start
 entry s = s.before.before.before.before
 
-abbrev image : tie.After-positions → List ℕ
+abbrev image : tie.After-positions-order → List ℕ
 image s = (entry s).args.image.now
 
-abbrev entries : tie.After-positions → List ℕ
+abbrev entries : tie.After-positions-order → List ℕ
 entries s = (entry s).args.entries.now
 
 -- the part of each room that is lent: one for each byte of the image
-abbrev lent_marks : tie.After-positions → List ℕ
-lent_marks s = take (length (image s)) s.before.bytes.result
+abbrev lent_marks : tie.After-positions-order → List ℕ
+lent_marks s = take (length (image s)) s.bytes-marks.result
 
-abbrev lent_order : tie.After-positions → List ℕ
-lent_order s = take (length (image s)) s.positions.result
+abbrev lent_order : tie.After-positions-order → List ℕ
+lent_order s = take (length (image s)) s.positions-order.result
 
-marks_are : (s : tie.After-positions) → lent_marks s ≡ lent_room (image s)
-marks_are s = ap (take (length (image s))) s.before.bytes.ensures ∙ take_replicate (length (image s)) 16384 (entry s).requires
+marks_are : (s : tie.After-positions-order) → lent_marks s ≡ lent_room (image s)
+marks_are s = ap (take (length (image s))) s.bytes-marks.ensures ∙ take_replicate (length (image s)) 16384 (entry s).requires
 
-order_are : (s : tie.After-positions) → lent_order s ≡ lent_room (image s)
-order_are s = ap (take (length (image s))) s.positions.ensures ∙ take_replicate (length (image s)) 16384 (entry s).requires
+order_are : (s : tie.After-positions-order) → lent_order s ≡ lent_room (image s)
+order_are s = ap (take (length (image s))) s.positions-order.ensures ∙ take_replicate (length (image s)) 16384 (entry s).requires
 
-marks_long : (s : tie.After-positions) → length (image s) ≡ length (lent_marks s)
+marks_long : (s : tie.After-positions-order) → length (image s) ≡ length (lent_marks s)
 marks_long s = sym (ap length (marks_are s) ∙ length-replicate (length (image s)) 0)
 
-order_long : (s : tie.After-positions) → length (image s) ≡ length (lent_order s)
+order_long : (s : tie.After-positions-order) → length (image s) ≡ length (lent_order s)
 order_long s = sym (ap length (order_are s) ∙ length-replicate (length (image s)) 0)
 
-abbrev made : tie.After-run → tie.After-positions
-made r = r.before.before.before.before
+abbrev made : tie.After-run → tie.After-positions-order
+made r = r.before.before.before
 
 -- the marks that the run left, lent again
 abbrev left : tie.After-run → List ℕ
-left r = r.run.new.1.1.0 ++ drop (length (image (made r))) (made r).before.bytes.result
+left r = r.run.new.marks ++ drop (length (image (made r))) (made r).bytes-marks.result
 
-left_long : (r : tie.After-run) → length r.run.new.1.1.0 ≡ length (image (made r))
-left_long r = r.run.auto.1.1.0 ∙ sym (marks_long (made r))
+left_long : (r : tie.After-run) → length r.run.new.marks ≡ length (image (made r))
+left_long r = r.run.auto.marks ∙ sym (marks_long (made r))
 
-again : (r : tie.After-run) → take (length (image (made r))) (left r) ≡ r.run.new.1.1.0
-again r = take_at r.run.new.1.1.0 _ (length (image (made r))) (left_long r)
+again : (r : tie.After-run) → take (length (image (made r))) (left r) ≡ r.run.new.marks
+again r = take_at r.run.new.marks _ (length (image (made r))) (left_long r)
 
 within : (r : tie.After-run) → length (image (made r)) ≤ length (left r)
-within r = omega (arith, left_long r, length-append r.run.new.1.1.0 (drop (length (image (made r))) (made r).before.bytes.result))
+within r = omega (arith, left_long r, length-append r.run.new.marks (drop (length (image (made r))) (made r).bytes-marks.result))
 
 sized : (r : tie.After-run) → length (image (made r)) ≡ length (take (length (image (made r))) (left r))
 sized r = sym (ap length (again r) ∙ left_long r)
@@ -80,7 +80,7 @@ sound : (r : tie.After-run) (s : RunResult) → accepted s ≡ ran_of r.run.resu
 sound r s e =
     let p = made r in
     sound_run (image p) (entries p) (lent_marks p) (lent_order p) (marks_are p) (order_are p) s (e ∙ r.run.ensures.0)
-    (shown r) (left_marks r) (entry p).pre (ap length (again r) ∙ r.run.auto.1.1.0)
+    (shown r) (left_marks r) (entry p).requires (ap length (again r) ∙ r.run.auto.marks)
 
 counted : (r : tie.After-run) (s : RunResult) → accepted s ≡ ran_of r.run.result
     → (a : Figures) → a ≡ figures (image (made r)) (shown r) s.steps → accepted a ≡ traced (image (made r)) (entries (made r))
@@ -94,43 +94,43 @@ denied r n vs e =
     let p = made r in
     refused_run (image p) (entries p) (lent_marks p) (lent_order p) (marks_are p) (order_are p) n vs (e ∙ r.run.ensures.0)
 
-abbrev finished : tie.After-c → tie.After-run
-finished e = e.before.before.before.before
+abbrev finished : tie.In-Finished → tie.After-run
+finished e = e.before.before.before
 
-abbrev stopped : tie.After-c2 → tie.After-run
-stopped e = e.before.before.before.before
+abbrev stopped : tie.In-Stopped → tie.After-run
+stopped e = e.before.before.before
 
 measure-requires : tie.Need-measure-requires
 measure-requires c κs =
-    let e = c.before.before in ((entry (made (finished e))).requires, sound (finished e) _ (ap ran_of (sym e.c.given.1)))
+    let e = c.before in ((entry (made (finished e))).requires, sound (finished e) _ (ap ran_of (sym e.in-Finished.is)))
 
-measure-requires-2 : tie.Need-measure-requires-2
+measure-requires-2 : tie.Need-measure-requires-in-Stopped
 measure-requires-2 c κs =
-    let e = c.before.before in ((entry (made (stopped e))).requires, sound (stopped e) _ (ap ran_of (sym e.c2.given.1)))
+    let e = c.before in ((entry (made (stopped e))).requires, sound (stopped e) _ (ap ran_of (sym e.in-Stopped.is)))
 
-returns : tie.Need-returns
-returns c = let e = c.before.before.before in counted (finished e) _ (ap ran_of (sym e.c.given.1)) _ c.measure.ensures
+returns : tie.Need-returns-in-Finished
+returns c = let e = c.before.before in counted (finished e) _ (ap ran_of (sym e.in-Finished.is)) _ c.measure.ensures
 
-returns-2 : tie.Need-returns-2
-returns-2 c = let e = c.before.before.before in counted (stopped e) _ (ap ran_of (sym e.c2.given.1)) _ c.measure2.ensures
+returns-2 : tie.Need-returns-in-Stopped
+returns-2 c = let e = c.before.before in counted (stopped e) _ (ap ran_of (sym e.in-Stopped.is)) _ c.measure-in-Stopped.ensures
 
-returns-3 : tie.Need-returns-3
-returns-3 c = denied c.before.before.before.before 1 _ (ap ran_of (sym c.enum_told.given.1))
+returns-3 : tie.Need-returns-in-LongImage
+returns-3 c = denied c.before.before.before 1 _ (ap ran_of (sym c.in-LongImage.is))
 
-returns-4 : tie.Need-returns-4
-returns-4 c = denied c.before.before.before.before 2 _ (ap ran_of (sym c.enum-told2.given.1))
+returns-4 : tie.Need-returns-in-ShortMarks
+returns-4 c = denied c.before.before.before 2 _ (ap ran_of (sym c.in-ShortMarks.is))
 
-returns-5 : tie.Need-returns-5
-returns-5 c = denied c.before.before.before.before 3 _ (ap ran_of (sym c.enum-told3.given.1))
+returns-5 : tie.Need-returns-in-ShortOrder
+returns-5 c = denied c.before.before.before 3 _ (ap ran_of (sym c.in-ShortOrder.is))
 
-returns-6 : tie.Need-returns-6
-returns-6 c = denied c.before.before.before.before 5 _ (ap ran_of (sym c.enum-told4.given.1))
+returns-6 : tie.Need-returns-in-Cut
+returns-6 c = denied c.before.before.before 5 _ (ap ran_of (sym c.in-Cut.is))
 
-pub trace-image-spec : {M : Type 1} → statement M
-trace-image-spec =
+pub trace_image_spec : {M : Type 1} → statement M
+trace_image_spec =
     tie.close
     (tie.spec (λ c κs. search rules) (λ c κs. search rules) (λ c. search rules) (λ c. marks_long c.before) (λ c. search rules)
     (λ c. order_long c.before.before) (λ c. search rules) (λ c. search rules) (λ c κs. search rules)
-    (λ c. search rules) (λ c. within (finished c.before)) (λ c. sized (finished c.before.before)) measure-requires
-    (λ c. search rules) (λ c. within (stopped c.before)) (λ c. sized (stopped c.before.before)) measure-requires-2
+    (λ c. search rules) (λ c. within (finished c)) (λ c. sized (finished c.before)) measure-requires
+    (λ c. search rules) (λ c. within (stopped c)) (λ c. sized (stopped c.before)) measure-requires-2
     (λ c. search rules) (λ c. search rules) (λ c. search rules) (λ c. search rules) returns returns-2 returns-3 returns-4 returns-5 returns-6)

@@ -10,37 +10,37 @@ use Rattle.list_text.proofs.Bytewise.{byte_put, next_byte}
 use Rattle.report_text.proofs.line.put_name.Statement.{statement}
 use Rattle.report_text.proofs.line.put_name.Tie as tie
 
-abbrev invariant_loop : tie.invariant-loop
+abbrev invariant_loop : tie.invariant-loop-i
 invariant_loop name room₀ i₀ room i = (length room ≡ length room₀) × (i ≤ length name) × Going name room₀ 0 room i (drop i name)
 
-abbrev decreases_loop : tie.decreases-loop
+abbrev decreases_loop : tie.decreases-loop-i
 decreases_loop name room₀ i₀ room i = length name - i
 
-loop-holds : tie.Need-loop-init invariant_loop decreases_loop
+loop-holds : tie.Need-loop-i-init invariant_loop decreases_loop
 loop-holds c = let a = c.args in (refl, omega arith, going_start a.name.now a.room.now 0)
 
-slice-write-room : tie.Need-slice-write-room invariant_loop decreases_loop
+slice-write-room : tie.Need-bounds-room-i invariant_loop decreases_loop
 slice-write-room c =
     let g = c.before in
     let l = g.before in
-    omega (arith, g.loop-test.true, l.loop.invariant.0, l.before.requires)
+    omega (arith, g.loop-i-test.true, l.loop-i.invariant.0, l.requires)
 
-loop-again : tie.Need-loop-preserved invariant_loop decreases_loop
+loop-again : tie.Need-loop-i-preserved invariant_loop decreases_loop
 loop-again c =
     let g = c.before in
     let l = g.before in (
-      length-set l.loop.room l.loop.i _ ∙ l.loop.invariant.0,
-      omega (arith, g.loop-test.true),
-      going_next l.loop.invariant.2 (next_byte l.before.args.name.now l.loop.i g.loop-test.true) (byte_put _ l.loop.i l.loop.room),
+      length-set l.loop-i.room l.loop-i.i _ ∙ l.loop-i.invariant.0,
+      omega (arith, g.loop-i-test.true),
+      going_next l.loop-i.invariant.2 (next_byte l.args.name.now l.loop-i.i g.loop-i-test.true) (byte_put _ l.loop-i.i l.loop-i.room),
     )
 
 returns : tie.Need-returns invariant_loop decreases_loop
 returns c =
     let l = c.before in
-    going_over l.loop.invariant.2 (drop_of_length-le l.before.args.name.now c.loop-test.false)
+    going_over l.loop-i.invariant.2 (drop_of_length-le l.args.name.now c.loop-i-test.false)
 
-pub put-name-spec : {M : Type 1} → statement M
-put-name-spec =
+pub put_name_spec : {M : Type 1} → statement M
+put_name_spec =
     tie.close
     (tie.spec invariant_loop decreases_loop loop-holds (λ c. search rules) slice-write-room (λ c. search rules) (λ c. search rules)
-    loop-again (λ c. c.before.loop.invariant.0) returns)
+    loop-again (λ c. c.loop-i.invariant.0) returns)

@@ -17,18 +17,18 @@ use Rattle.report_text.proofs.line.put_refusal.Tie as tie
 begun : (room : List ℕ) (at : ℕ) → length (set (set room at 9) (at + 1) 82) ≡ length room
 begun room at = length-set (set room at 9) (at + 1) 82 ∙ length-set room at 9
 
-put-fields-requires : tie.Need-put-fields-requires
+put-fields-requires : tie.Need-put_fields-requires
 put-fields-requires c κs = let s = c.before.before.before in omega (arith, s.requires, begun s.args.room.now s.args.at)
 
-told : (c : tie.After-put-fields) → let a = c.before.before.before.before.args in
-    Puts (9 ∷ 82 ∷ fields_of (a.number ∷ [])) a.at a.room.now c.put-fields.new.1.0 c.put-fields.result
-told c = let a = c.before.before.before.before.args in puts_then (two_put 9 82 a.at a.room.now) c.put-fields.ensures.0
+told : (c : tie.After-put_fields) → let a = c.args in
+    Puts (9 ∷ 82 ∷ fields_of (a.number ∷ [])) a.at a.room.now c.put_fields.new.room c.put_fields.result
+told c = let a = c.args in puts_then (two_put 9 82 a.at a.room.now) c.put_fields.ensures.0
 
 returns : tie.Need-returns
-returns c = let p = c.before.before in (told p, omega (arith, p.put-fields.ensures.1))
+returns c = let p = c.before.before in (told p, omega (arith, p.put_fields.ensures.1))
 
-pub put-refusal-spec : {M : Type 1} → statement M
-put-refusal-spec =
+pub put_refusal_spec : {M : Type 1} → statement M
+put_refusal_spec =
     tie.close
     (tie.spec (λ c. search rules) (λ c. search rules) (λ c. simp length-set (search rules)) (λ c. search rules) (λ c. search rules)
     put-fields-requires (λ c. puts_length (told c.before.before)) returns)

@@ -13,8 +13,8 @@ returns : tie.Need-returns
 unfolding number_line lowest width
 returns c = (record { next = refl; wrote = refl }, omega arith)
 
-pub put-sum-refusal-spec : {M : Type 1} → statement M
-put-sum-refusal-spec =
+pub put_sum_refusal_spec : {M : Type 1} → statement M
+put_sum_refusal_spec =
     tie.close
     (tie.spec (λ c. search rules) (λ c. simp length-set (search rules)) (λ c. simp length-set (search rules)) (λ c. simp length-set (search rules))
     (λ c. search rules) (λ c. search rules) returns)

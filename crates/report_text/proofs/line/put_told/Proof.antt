@@ -13,17 +13,17 @@ use Rattle.report_text.proofs.line.put_told.Tie as tie
 same : {i j : Reported} → i ≡ j → told_of (reported_of j) ≡ told_of (reported_of i)
 same e = sym (ap (λ (i : Reported). told_of (reported_of i)) e)
 
-returns : tie.Need-returns
+returns : tie.Need-returns-in-Counted
 returns c =
     let p = c.before.before in
-    (puts_as (same p.before.before.before.image.given.1) p.put-figures.ensures.0, p.put-figures.ensures.1)
+    (puts_as (same p.in-Counted.is) p.put_figures.ensures.0, p.put_figures.ensures.1)
 
-returns-2 : tie.Need-returns-2
+returns-2 : tie.Need-returns-in-Refused
 returns-2 c =
     let p = c.before.before in
-    (puts_as (same p.before.before.before.image2.given.1) p.put-refusal.ensures.0, p.put-refusal.ensures.1)
+    (puts_as (same p.in-Refused.is) p.put_refusal.ensures.0, p.put_refusal.ensures.1)
 
-pub put-told-spec : {M : Type 1} → statement M
-put-told-spec =
+pub put_told_spec : {M : Type 1} → statement M
+put_told_spec =
     tie.close
     (tie.spec (λ c. search rules) (λ c κs. search rules) (λ c. search rules) (λ c κs. search rules) (λ c. search rules) returns (λ c. search rules) returns-2)

@@ -14,19 +14,19 @@ use Rattle.report_text.proofs.sums.add.Tie as tie
 same : (s : tie.Start) {i : Reported} → s.args.image ≡ i → adding s.args.s (reported_of s.args.image) ≡ adding s.args.s (reported_of i)
 same s e = ap (λ (i : Reported). adding s.args.s (reported_of i)) e
 
-add-figures-requires : tie.Need-add-figures-requires
-add-figures-requires c κs = let s = c.before.before.before in sym (ap fitting (same s c.before.image.given.1)) ∙ s.requires
+add-figures-requires : tie.Need-add_figures-requires
+add-figures-requires c κs = let s = c.before in sym (ap fitting (same s c.in-Counted.is)) ∙ s.requires
 
-add-t5 : tie.Need-overflow-add-t5
+add-t5 : tie.Need-overflow_add-result
 add-t5 c =
-    let s = c.before.before.before in
-    sum_held _ 7 (omega arith) (sym (ap fitting (same s c.before.enum_told.given.1)) ∙ s.requires)
+    let s = c.before.before in
+    sum_held _ 7 (omega arith) (sym (ap fitting (same s c.in-Refused.is)) ∙ s.requires)
 
-returns : tie.Need-returns
-returns c = c.add-figures.ensures ∙ sym (same c.before.before.before.before c.before.before.image.given.1)
+returns : tie.Need-returns-in-Counted
+returns c = c.add_figures.ensures ∙ sym (same c.before.before c.in-Counted.is)
 
-returns-2 : tie.Need-returns-2
-returns-2 c = sym (same c.before.before.before c.before.enum_told.given.1)
+returns-2 : tie.Need-returns-in-Refused
+returns-2 c = sym (same c.before.before c.in-Refused.is)
 
 pub add_spec : {M : Type 1} → statement M
 add_spec =

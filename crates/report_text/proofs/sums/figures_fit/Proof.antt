@@ -10,47 +10,47 @@ use Rattle.report_text.proofs.Adding.{sums_fit, unfit_figure, accepted_fits}
 use Rattle.report_text.proofs.sums.figures_fit.Statement.{statement}
 use Rattle.report_text.proofs.sums.figures_fit.Tie as tie
 
-returns : tie.Need-returns
+returns : tie.Need-returns-then-not-fits
 returns c =
     let k = c.before in
-    let a = k.before.args in
-    unfit_figure a.s a.f 0 (omega arith) _ k.fits2.ensures c.if1.true
+    let a = k.args in
+    unfit_figure a.s a.f 0 (omega arith) _ k.fits.ensures c.if-not-fits.true-raw
 
-returns-2 : tie.Need-returns-2
+returns-2 : tie.Need-returns-then-not-fits-2
 returns-2 c =
     let k = c.before in
-    let a = k.before.before.before.args in
-    unfit_figure a.s a.f 1 (omega arith) _ k.fits3.ensures c.if2.true
+    let a = k.args in
+    unfit_figure a.s a.f 1 (omega arith) _ k.fits-2.ensures c.if-not-fits-2.true-raw
 
-returns-3 : tie.Need-returns-3
+returns-3 : tie.Need-returns-then-not-fits-3
 returns-3 c =
     let k = c.before in
-    let a = k.before.before.before.before.before.args in
-    unfit_figure a.s a.f 2 (omega arith) _ k.fits4.ensures c.if3.true
+    let a = k.args in
+    unfit_figure a.s a.f 2 (omega arith) _ k.fits-3.ensures c.if-not-fits-3.true-raw
 
-returns-4 : tie.Need-returns-4
+returns-4 : tie.Need-returns-then-not-fits-4
 returns-4 c =
     let k = c.before in
-    let a = k.before.before.before.before.before.before.before.args in
-    unfit_figure a.s a.f 3 (omega arith) _ k.fits5.ensures c.if4.true
+    let a = k.args in
+    unfit_figure a.s a.f 3 (omega arith) _ k.fits-4.ensures c.if-not-fits-4.true-raw
 
-returns-5 : tie.Need-returns-5
+returns-5 : tie.Need-returns-then-not-fits-5
 returns-5 c =
     let k = c.before in
-    let a = k.before.before.before.before.before.before.before.before.before.args in
-    unfit_figure a.s a.f 4 (omega arith) _ k.fits6.ensures c.if5.true
+    let a = k.args in
+    unfit_figure a.s a.f 4 (omega arith) _ k.fits-5.ensures c.if-not-fits-5.true-raw
 
-returns-6 : tie.Need-returns-6
+returns-6 : tie.Need-returns-then-not-fits-6
 returns-6 c =
     let k = c.before in
-    let a = k.before.before.before.before.before.before.before.before.before.before.before.args in
-    unfit_figure a.s a.f 5 (omega arith) _ k.fits7.ensures c.if6.true
+    let a = k.args in
+    unfit_figure a.s a.f 5 (omega arith) _ k.fits-6.ensures c.if-not-fits-6.true-raw
 
 -- what the sums hold so far
 fit : (s : tie.Start) → fitting s.args.s ≡ true
 fit s = sums_fit s.args.s (search rules) (search rules) (search rules) (search rules) (search rules) (search rules) (search rules) (search rules)
 
-returns-7 : tie.Need-returns-7
+returns-7 : tie.Need-returns
 returns-7 c =
     let f = c.before in
     let e = f.before.before in
@@ -59,14 +59,14 @@ returns-7 c =
     let m = n.before.before in
     let l = m.before.before in
     let s = l.before.before in
-    c.fits8.ensures
+    c.fits-7.ensures
     ∙ accepted_fits s.args.s s.args.f
-    (sym l.before.fits2.ensures ∙ not-false _ l.if1.false) (sym m.before.fits3.ensures ∙ not-false _ m.if2.false)
-    (sym n.before.fits4.ensures ∙ not-false _ n.if3.false) (sym d.before.fits5.ensures ∙ not-false _ d.if4.false)
-    (sym e.before.fits6.ensures ∙ not-false _ e.if5.false) (sym f.before.fits7.ensures ∙ not-false _ f.if6.false) (fit s)
+    (sym m.fits.ensures ∙ not-false _ l.if-not-fits.false-raw) (sym n.fits-2.ensures ∙ not-false _ m.if-not-fits-2.false-raw)
+    (sym d.fits-3.ensures ∙ not-false _ n.if-not-fits-3.false-raw) (sym e.fits-4.ensures ∙ not-false _ d.if-not-fits-4.false-raw)
+    (sym f.fits-5.ensures ∙ not-false _ e.if-not-fits-5.false-raw) (sym c.fits-6.ensures ∙ not-false _ f.if-not-fits-6.false-raw) (fit s)
 
-pub figures-fit-spec : {M : Type 1} → statement M
-figures-fit-spec =
+pub figures_fit_spec : {M : Type 1} → statement M
+figures_fit_spec =
     tie.close
     (tie.spec (λ c κs. search rules) returns (λ c κs. search rules) returns-2 (λ c κs. search rules) returns-3
     (λ c κs. search rules) returns-4 (λ c κs. search rules) returns-5 (λ c κs. search rules) returns-6 (λ c κs. search rules) returns-7)

@@ -8,5 +8,5 @@ use Rattle.report_text.proofs.sums.fits.Tie as tie
 returns : tie.Need-returns
 returns c = fits_as c.args.a c.args.b (search rules)
 
-pub fits-spec : {M : Type 1} → statement M
-fits-spec = tie.close (tie.spec (λ c. search rules) returns)
+pub fits_spec : {M : Type 1} → statement M
+fits_spec = tie.close (tie.spec (λ c. search rules) returns)

@@ -20,15 +20,15 @@ same s e = sym (ap (λ (i : Reported). fitting (adding s.args.s (reported_of i))
 fit : (s : tie.Start) → fitting s.args.s ≡ true
 fit s = sums_fit s.args.s (search rules) (search rules) (search rules) (search rules) (search rules) (search rules) (search rules) (search rules)
 
-returns : tie.Need-returns
-returns c = c.figures-fit.ensures ∙ same c.before.before.before.before c.before.before.image.given.1
+returns : tie.Need-returns-in-Counted
+returns c = c.figures_fit.ensures ∙ same c.before.before c.in-Counted.is
 
-returns-2 : tie.Need-returns-2
+returns-2 : tie.Need-returns-in-Refused
 returns-2 c =
-    let s = c.before.before.before in
-    c.fits2.ensures ∙ refused_fits s.args.s 0 [] (fit s) ∙ same s c.before.enum_told.given.1
+    let s = c.before.before in
+    c.fits.ensures ∙ refused_fits s.args.s 0 [] (fit s) ∙ same s c.in-Refused.is
 
-pub image-fits-spec : {M : Type 1} → statement M
-image-fits-spec =
+pub image_fits_spec : {M : Type 1} → statement M
+image_fits_spec =
     tie.close
     (tie.spec (λ c. search rules) (λ c κs. search rules) (λ c. search rules) (λ c κs. search rules) returns returns-2)

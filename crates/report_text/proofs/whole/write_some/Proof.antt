@@ -11,48 +11,48 @@ use Rattle.report_text.proofs.Writes.{written_says, take_says, take_goes}
 use Rattle.report_text.proofs.whole.write_some.Statement.{statement}
 use Rattle.report_text.proofs.whole.write_some.Tie as tie
 
-abbrev took : tie.After-count-of → tie.After-take
+abbrev took : tie.After-count_of-k → tie.After-take-taken
 took c = c.before.before.before.before.before
 
-abbrev start : tie.After-count-of → tie.Start
+abbrev start : tie.After-count_of-k → tie.Start
 start c = (took c).before.before.before.before.before.before.before
 
-abbrev out : tie.After-count-of → List ℕ
+abbrev out : tie.After-count_of-k → List ℕ
 out c = let a = (start c).args in first_out a.term a.text.now a.held.now
 
-abbrev line : tie.After-count-of → List ℕ
-line c = (took c).take.new.1.1.1.0
+abbrev line : tie.After-count_of-k → List ℕ
+line c = (took c).take-taken.new.out
 
-says : (c : tie.After-count-of)
-    → (c.count_of.result ≡ length (out c)) × (c.count_of.result ≤ length (line c)) × (take c.count_of.result (line c) ≡ out c)
+says : (c : tie.After-count_of-k)
+    → (c.count_of-k.result ≡ length (out c)) × (c.count_of-k.result ≤ length (line c)) × (take c.count_of-k.result (line c) ≡ out c)
 says c =
     let k = took c in
     let s = start c in
     let a = s.args in
-    let g = take_says a.held.now a.line.now s.pre.0 s.pre.1 a.term a.text.now in
-    written_says k.take.result.printed c.count_of.result (out c) a.line.now (line c) c.count_of.ensures (k.take.ensures.0 ∙ g.0)
-    (k.take.ensures.1.1.1 ∙ g.1) k.take.kept.1.1.1.0
+    let g = take_says a.held.now a.line.now s.requires.0 s.requires.1 a.term a.text.now in
+    written_says k.take-taken.result.printed c.count_of-k.result (out c) a.line.now (line c) c.count_of-k.ensures (k.take-taken.ensures.0 ∙ g.0)
+    (k.take-taken.ensures.1.1.1 ∙ g.1) k.take-taken.auto.out
 
 returns : tie.Need-returns
 returns c =
     let p = c.before.before.before.before in
-    let k = p.before.before.before in
+    let k = p.before.before in
     let t = took k in
     let q = says k in
     let s = start k in
     let a = s.args in
-    let g = take_goes a.held.now a.line.now s.pre.0 s.pre.1 a.term a.text.now in (
+    let g = take_goes a.held.now a.line.now s.requires.0 s.requires.1 a.term a.text.now in (
       record {
-        used_is = t.take.ensures.1.0 ∙ g.0;
-        left = t.take.ensures.1.1.0 ∙ g.1;
+        used_is = t.take-taken.ensures.1.0 ∙ g.0;
+        left = t.take-taken.ensures.1.1.0 ∙ g.1;
         counted = c.more.ensures ∙ ap (λ (x : ℕ). min (a.n + x) 9223372036854775808) q.0;
       },
       p.copy.ensures ∙ ap (sets a.room.now a.n) q.2,
     )
 
-pub write-some-spec : {M : Type 1} → statement M
-write-some-spec =
+pub write_some_spec : {M : Type 1} → statement M
+write_some_spec =
     tie.close
-    (tie.spec (λ c κs. search rules) (λ c κs. search rules) (λ c. (says c).1) (λ c. sym (length-take-le _ _ (says c.before).1)) (λ c κs. search rules)
+    (tie.spec (λ c κs. search rules) (λ c κs. search rules) (λ c. (says c).1) (λ c. sym (length-take-le _ _ (says c).1)) (λ c κs. search rules)
     (λ c κs. search rules)
     (λ c. search rules) (λ c. search rules) (λ c. search rules) returns)

@@ -9,12 +9,12 @@ use lib.Seq.{take_all}
 use Rattle.unlist_text.proofs.rooms.first.Statement.{statement}
 use Rattle.unlist_text.proofs.rooms.first.Tie as tie
 
-returns : tie.Need-returns
-returns c = let a = c.before.args in sym (take_all a.n a.bytes.now (omega arith))
+returns : tie.Need-returns-then-bytes-n
+returns c = let a = c.args in sym (take_all a.n a.bytes.now (omega arith))
 
-returns-2 : tie.Need-returns-2
+returns-2 : tie.Need-returns
 returns-2 c =
-    let a = c.before.before.args in
+    let a = c.args in
     let e : a.n - 0 ≡ a.n = omega arith in
     ap (λ (k : ℕ). take k a.bytes.now) e
 

@@ -13,91 +13,91 @@ use Rattle.unlist_text.proofs.Words.{empty_word, long_word, good_length, digit_r
 use Rattle.unlist_text.proofs.word.number.Statement.{statement}
 use Rattle.unlist_text.proofs.word.number.Tie as tie
 
-abbrev invariant_loop : tie.invariant-loop
+abbrev invariant_loop : tie.invariant-loop-i
 invariant_loop word n₀ i₀ n i = (i ≤ length word) × (n < 10 ^ i) × (argument_from n (drop i word) ≡ argument_from 0 word)
 
-abbrev decreases_loop : tie.decreases-loop
+abbrev decreases_loop : tie.decreases-loop-i
 decreases_loop word n₀ i₀ n i = length word - i
 
-abbrev start : tie.At-loop invariant_loop decreases_loop → tie.Start invariant_loop decreases_loop
+abbrev start : tie.At-loop-i invariant_loop decreases_loop → tie.Start invariant_loop decreases_loop
 start l = l.before.before.before.before
 
-abbrev word : tie.At-loop invariant_loop decreases_loop → List ℕ
+abbrev word : tie.At-loop-i invariant_loop decreases_loop → List ℕ
 word l = (start l).args.word.now
 
 -- its length is right
-long : (l : tie.At-loop invariant_loop decreases_loop) → length (word l) ≤ 9
-long l = l.before.if2.false
+long : (l : tie.At-loop-i invariant_loop decreases_loop) → length (word l) ≤ 9
+long l = l.if-word-gt9.false
 
-all : (l : tie.At-loop invariant_loop decreases_loop) → argument_from l.loop.n (drop l.loop.i (word l)) ≡ argument_of (word l)
-all l = l.loop.invariant.2 ∙ good_length (word l) l.before.before.if1.false (long l)
+all : (l : tie.At-loop-i invariant_loop decreases_loop) → argument_from l.loop-i.n (drop l.loop-i.i (word l)) ≡ argument_of (word l)
+all l = l.loop-i.invariant.2 ∙ good_length (word l) l.if-word-eq0.false (long l)
 
 -- a digit was found
-abbrev turn : tie.Else3 invariant_loop decreases_loop → tie.In-loop invariant_loop decreases_loop
+abbrev turn : tie.Else-not-is_decimal invariant_loop decreases_loop → tie.In-loop-i invariant_loop decreases_loop
 turn e = e.before.before.before
 
-abbrev at : tie.Else3 invariant_loop decreases_loop → ℕ
-at e = get_or (word (turn e).before) (turn e).before.loop.i 0
+abbrev at : tie.Else-not-is_decimal invariant_loop decreases_loop → ℕ
+at e = get_or (word (turn e).before) (turn e).loop-i.i 0
 
-found : (e : tie.Else3 invariant_loop decreases_loop) → is_decimal (at e) ≡ true
-found e = sym e.before.is-decimal.ensures ∙ not-false _ e.if3.false
+found : (e : tie.Else-not-is_decimal invariant_loop decreases_loop) → is_decimal (at e) ≡ true
+found e = sym e.is_decimal.ensures ∙ not-false _ e.if-not-is_decimal.false-raw
 
 -- what was told before is small
-small : (e : tie.Else3 invariant_loop decreases_loop) → (turn e).before.loop.n < 100000000
+small : (e : tie.Else-not-is_decimal invariant_loop decreases_loop) → (turn e).loop-i.n < 100000000
 small e =
     let l = (turn e).before in
-    let h = l.loop.inv.1 in
+    let h = l.loop-i.invariant.1 in
     let f = long l in
-    let t = (turn e).loop-test.true in
-    let k = few_digits l.loop.i (omega arith) in
+    let t = (turn e).loop-i-test.true in
+    let k = few_digits l.loop-i.i (omega arith) in
     omega (arith, h, k)
 
-returns : tie.Need-returns invariant_loop decreases_loop
-returns c = empty_word c.before.before.args.word.now c.if1.true
+returns : tie.Need-returns-then-word-eq0 invariant_loop decreases_loop
+returns c = empty_word c.args.word.now c.if-word-eq0.true
 
-returns-2 : tie.Need-returns-2 invariant_loop decreases_loop
-returns-2 c = long_word c.before.before.before.args.word.now c.if2.true
+returns-2 : tie.Need-returns-then-word-gt9 invariant_loop decreases_loop
+returns-2 c = long_word c.args.word.now c.if-word-gt9.true
 
-returns-3 : tie.Need-returns-3 invariant_loop decreases_loop
+returns-3 : tie.Need-returns-then-not-is_decimal invariant_loop decreases_loop
 returns-3 c =
     let d = c.before in
     let i = d.before.before in
     let l = i.before in
-    sym (sym (all l) ∙ word_stop (word l) l.loop.i l.loop.n i.loop-test.true (sym d.is-decimal.ensures ∙ not-true _ c.if3.true))
+    sym (sym (all l) ∙ word_stop (word l) l.loop-i.i l.loop-i.n i.loop-i-test.true (sym d.is_decimal.ensures ∙ not-true _ c.if-not-is_decimal.true-raw))
 
-mul-n : tie.Need-overflow-mul-n invariant_loop decreases_loop
+mul-n : tie.Need-overflow_mul-n invariant_loop decreases_loop
 mul-n c = let h = small c in record { fits = omega arith }
 
-cast-n : tie.Need-overflow-cast-n invariant_loop decreases_loop
+cast-n : tie.Need-overflow_cast-n invariant_loop decreases_loop
 cast-n c = let h = digit_range (at c.before) (found c.before) in record { fits = omega (arith, h.1) }
 
-sub-n : tie.Need-overflow-sub-n invariant_loop decreases_loop
+sub-n : tie.Need-overflow_sub-n invariant_loop decreases_loop
 sub-n c = (digit_range (at c.before) (found c.before)).0
 
-add-n : tie.Need-overflow-add-n invariant_loop decreases_loop
+add-n : tie.Need-overflow_add-n invariant_loop decreases_loop
 add-n c =
     let h = (digit_range (at c.before) (found c.before)).1 in
     let k = small c.before in
     record { fits = omega arith }
 
-loop-again : tie.Need-loop-preserved invariant_loop decreases_loop
+loop-again : tie.Need-loop-i-preserved invariant_loop decreases_loop
 loop-again c =
     let e = c.before in
     let i = turn e in
     let l = i.before in
     let h = (digit_range (at e) (found e)).1 in (
       omega arith,
-      more_digits l.loop.n l.loop.i (at e - 48) l.loop.inv.1 (omega arith),
-      sym (word_more (word l) l.loop.i l.loop.n i.loop-test.taken (found e)) ∙ l.loop.inv.2,
+      more_digits l.loop-i.n l.loop-i.i (at e - 48) l.loop-i.invariant.1 (omega arith),
+      sym (word_more (word l) l.loop-i.i l.loop-i.n i.loop-i-test.true (found e)) ∙ l.loop-i.invariant.2,
     )
 
-returns-4 : tie.Need-returns-4 invariant_loop decreases_loop
+returns-4 : tie.Need-returns invariant_loop decreases_loop
 returns-4 c =
     let l = c.before in
-    sym (word_end (word l) l.loop.i l.loop.n c.loop-test.false) ∙ all l
+    sym (word_end (word l) l.loop-i.i l.loop-i.n c.loop-i-test.false) ∙ all l
 
-pub number-spec : {M : Type 1} → statement M
-number-spec =
+pub number_spec : {M : Type 1} → statement M
+number_spec =
     tie.close
     (tie.spec invariant_loop decreases_loop returns returns-2 (λ c. (omega arith, omega arith, refl)) (λ c. search rules) (λ c κs. search rules) returns-3 mul-n
     (λ c. search rules)
