@@ -17,19 +17,19 @@ read-requires : tie.Need-read-requires
 read-requires c κs =
     let t = c.before.before in
     let o = t.before in
-    let s = o.before.before.before in
+    let s = o.before.before in
     let a = s.args in
-    let l : length a.text.now < 2 ^ 63 = omega (arith, s.well-formed.1.0.1) in
-    let e = rw o.place_of.ensures at t.read-line.ensures in
-    read_small a.mode a.text.now _ l (omega arith) t.read-line.result e
+    let l : length a.text.now < 2 ^ 63 = omega (arith, s.well_formed.1.0.1) in
+    let e = rw o.place_of.ensures at t.read_line-read.ensures in
+    read_small a.mode a.text.now _ l (omega arith) t.read_line-read.result e
 
 returns : tie.Need-returns
 returns c =
     let n = c.before in
     let t = n.before.before in
-    let w = t.before.before.before.before.args.words.now in
-    let e = rw t.before.place_of.ensures at t.read-line.ensures in
+    let w = n.args.words.now in
+    let e = rw t.place_of.ensures at t.read_line-read.ensures in
     (c.read.ensures ∙ ap (reply_of line_values) e, n.put_next.ensures ∙ ap (λ (x : Answer Found). words_after x w) e)
 
-pub read-line-spec : {M : Type 1} → statement M
-read-line-spec = tie.close (tie.spec (λ c κs. search rules) (λ c κs. search rules) (λ c κs. search rules) read-requires returns)
+pub read_line_spec : {M : Type 1} → statement M
+read_line_spec = tie.close (tie.spec (λ c κs. search rules) (λ c κs. search rules) (λ c κs. search rules) read-requires returns)

@@ -16,44 +16,44 @@ use Rattle.c_answers.proofs.back_replies.restored.Tie as tie
 small : {e k : Restored} → e ≡ k → number_in_restored e < 2 ^ 63 → number_in_restored k < 2 ^ 63
 small p h = rw (← p) h
 
-returns : tie.Need-returns
+returns : tie.Need-returns-in-Written
 returns c =
-    let t = c.before.before in
-    by_case count_values restored_of t.r.given.1 (told1 c.one.ensures (to_z_pos w64 (small t.r.given.1 t.before.before.requires)))
+    let t = c.before in
+    by_case count_values restored_of t.in-Written.is (told1 c.one.ensures (to_z_pos w64 (small t.in-Written.is t.requires)))
 
-returns-2 : tie.Need-returns-2
+returns-2 : tie.Need-returns-in-LongImage
 returns-2 c =
-    let t = c.before.before in
-    by_case count_values restored_of t.r2.given.1 (told1 c.one2.ensures (to_z_pos w64 (small t.r2.given.1 t.before.before.requires)))
+    let t = c.before in
+    by_case count_values restored_of t.in-LongImage.is (told1 c.one-in-LongImage.ensures (to_z_pos w64 (small t.in-LongImage.is t.requires)))
 
-returns-3 : tie.Need-returns-3
+returns-3 : tie.Need-returns-in-ShortMarks
 returns-3 c =
-    let t = c.before.before in
-    by_case count_values restored_of t.r3.given.1 (told1 c.one3.ensures (to_z_pos w64 (small t.r3.given.1 t.before.before.requires)))
+    let t = c.before in
+    by_case count_values restored_of t.in-ShortMarks.is (told1 c.one-in-ShortMarks.ensures (to_z_pos w64 (small t.in-ShortMarks.is t.requires)))
 
-returns-4 : tie.Need-returns-4
+returns-4 : tie.Need-returns-in-NoRoom
 returns-4 c =
-    let t = c.before.before in
-    by_case count_values restored_of t.r4.given.1 (told1 c.one4.ensures (to_z_pos w64 (small t.r4.given.1 t.before.before.requires)))
+    let t = c.before in
+    by_case count_values restored_of t.in-NoRoom.is (told1 c.one-in-NoRoom.ensures (to_z_pos w64 (small t.in-NoRoom.is t.requires)))
 
-returns-5 : tie.Need-returns-5
+returns-5 : tie.Need-returns-in-Malformed
 returns-5 c =
-    let t = c.before.before in
-    by_case count_values restored_of t.r5.given.1 (told1 c.one5.ensures (to_z_pos w64 (small t.r5.given.1 t.before.before.requires)))
+    let t = c.before in
+    by_case count_values restored_of t.in-Malformed.is (told1 c.one-in-Malformed.ensures (to_z_pos w64 (small t.in-Malformed.is t.requires)))
 
-returns-6 : tie.Need-returns-6
+returns-6 : tie.Need-returns-in-PastEnd
 returns-6 c =
-    let t = c.before.before in
-    by_case count_values restored_of t.r6.given.1 (told1 c.one6.ensures (to_z_pos w64 (small t.r6.given.1 t.before.before.requires)))
+    let t = c.before in
+    by_case count_values restored_of t.in-PastEnd.is (told1 c.one-in-PastEnd.ensures (to_z_pos w64 (small t.in-PastEnd.is t.requires)))
 
-pub restored-spec : {M : Type 1} → statement M
-restored-spec =
+pub restored_spec : {M : Type 1} → statement M
+restored_spec =
     tie.close
     (tie.spec
-    (λ c. search rules) (λ c. record { sfits = small c.before.r.given.1 c.before.before.before.requires }) (λ c κs. search rules)
-    (λ c. search rules) (λ c. record { sfits = small c.before.r2.given.1 c.before.before.before.requires }) (λ c κs. search rules)
-    (λ c. search rules) (λ c. record { sfits = small c.before.r3.given.1 c.before.before.before.requires }) (λ c κs. search rules)
-    (λ c. search rules) (λ c. record { sfits = small c.before.r4.given.1 c.before.before.before.requires }) (λ c κs. search rules)
-    (λ c. search rules) (λ c. record { sfits = small c.before.r5.given.1 c.before.before.before.requires }) (λ c κs. search rules)
-    (λ c. search rules) (λ c. record { sfits = small c.before.r6.given.1 c.before.before.before.requires }) (λ c κs. search rules)
+    (λ c. search rules) (λ c. record { sfits = small c.in-Written.is c.requires }) (λ c κs. search rules)
+    (λ c. search rules) (λ c. record { sfits = small c.in-LongImage.is c.requires }) (λ c κs. search rules)
+    (λ c. search rules) (λ c. record { sfits = small c.in-ShortMarks.is c.requires }) (λ c κs. search rules)
+    (λ c. search rules) (λ c. record { sfits = small c.in-NoRoom.is c.requires }) (λ c κs. search rules)
+    (λ c. search rules) (λ c. record { sfits = small c.in-Malformed.is c.requires }) (λ c κs. search rules)
+    (λ c. search rules) (λ c. record { sfits = small c.in-PastEnd.is c.requires }) (λ c κs. search rules)
     returns returns-2 returns-3 returns-4 returns-5 returns-6)

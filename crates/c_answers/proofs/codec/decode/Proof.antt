@@ -19,7 +19,7 @@ of_parts (refused n vs) = refl
 returns : tie.Need-returns
 unfolding parts_answer
 returns c =
-    c.decoded.ensures ∙ ap (reply_of parts_values) c.before.decode.ensures ∙ of_parts (decode_answer c.before.before.before.args.bytes.now)
+    c.decoded.ensures ∙ ap (reply_of parts_values) c.decode.ensures ∙ of_parts (decode_answer c.args.bytes.now)
 
-pub decode-spec : {M : Type 1} → statement M
-decode-spec = tie.close (tie.spec (λ c κs. search rules) (λ c κs. search rules) returns)
+pub decode_spec : {M : Type 1} → statement M
+decode_spec = tie.close (tie.spec (λ c κs. search rules) (λ c κs. search rules) returns)

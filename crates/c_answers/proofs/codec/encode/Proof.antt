@@ -19,14 +19,14 @@ start e = e.before.before.before.before
 abbrev room : tie.After-encode → List ℕ
 room e = (start e).args.out.now
 
-instr : (e : tie.After-encode) → e.before.before.with_first.result ≡ named (start e).args.first (start e).args.a (start e).args.b (start e).args.c
+instr : (e : tie.After-encode) → e.with_first.result ≡ named (start e).args.first (start e).args.a (start e).args.b (start e).args.c
 instr e =
     let s = start e in
-    e.before.before.with_first.ensures ∙ named_is s.args.first s.fits.a s.fits.b s.fits.c
+    e.with_first.ensures ∙ named_is s.args.first s.ranges.a s.ranges.b s.ranges.c
 
 encoded-requires : tie.Need-encoded-requires
 encoded-requires c κs =
-    let e = c.before.before in count_small e.before.before.with_first.result (room e) e.encode.result e.encode.ensures.0
+    let e = c.before.before in count_small e.with_first.result (room e) e.encode.result e.encode.ensures.0
 
 returns : tie.Need-returns
 returns c =
@@ -36,6 +36,6 @@ returns c =
           ∙ ap (λ (j : Instr). encode_room j (room e)) (instr e),
     )
 
-pub encode-spec : {M : Type 1} → statement M
-encode-spec =
+pub encode_spec : {M : Type 1} → statement M
+encode_spec =
     tie.close (tie.spec (λ c κs. search rules) (λ c κs. search rules) encoded-requires (λ c. search rules) returns)

@@ -18,5 +18,5 @@ returns c =
     let e = i.with_first.ensures ∙ named_is s.args.first s.ranges.a s.ranges.b s.ranges.c in
     c.resolved.ensures ∙ ap (reply_of instr_values) (r.resolve.ensures ∙ ap (λ (j : Instr). resolve_answer s.args.mode j s.args.base) e)
 
-pub resolve-spec : {M : Type 1} → statement M
-resolve-spec = tie.close (tie.spec (λ c κs. search rules) (λ c κs. search rules) (λ c κs. search rules) returns)
+pub resolve_spec : {M : Type 1} → statement M
+resolve_spec = tie.close (tie.spec (λ c κs. search rules) (λ c κs. search rules) (λ c κs. search rules) returns)

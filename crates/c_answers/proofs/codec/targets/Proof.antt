@@ -14,7 +14,7 @@ use Rattle.c_answers.proofs.codec.targets.Tie as tie
 targeted-requires : tie.Need-targeted-requires
 targeted-requires c κs =
     let s = c.before.before in
-    targets_small s.args.mode s.args.position c.before.with_first.result c.targets.result s.ranges.position.fits c.targets.ensures
+    targets_small s.args.mode s.args.position c.with_first.result c.targets.result s.ranges.position.fits c.targets.ensures
 
 returns : tie.Need-returns
 returns c =
@@ -24,5 +24,5 @@ returns c =
     let e = i.with_first.ensures ∙ named_is s.args.first s.ranges.a s.ranges.b s.ranges.c in
     c.targeted.ensures ∙ ap (reply_of targets_values) (t.targets.ensures ∙ ap (λ (j : Instr). targets_answer s.args.mode s.args.position j) e)
 
-pub targets-spec : {M : Type 1} → statement M
-targets-spec = tie.close (tie.spec (λ c κs. search rules) (λ c κs. search rules) targeted-requires returns)
+pub targets_spec : {M : Type 1} → statement M
+targets_spec = tie.close (tie.spec (λ c κs. search rules) (λ c κs. search rules) targeted-requires returns)

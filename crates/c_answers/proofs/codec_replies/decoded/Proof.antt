@@ -7,17 +7,17 @@ use Rattle.c_answers.specs.Codec.{parts_values}
 use Rattle.c_answers.proofs.codec_replies.decoded.Statement.{statement}
 use Rattle.c_answers.proofs.codec_replies.decoded.Tie as tie
 
-returns : tie.Need-returns
-returns c = by_case parts_values decoded_parts_of c.before.before.d.given.1 c.parts.ensures
+returns : tie.Need-returns-in-Found
+returns c = by_case parts_values decoded_parts_of c.in-Found.is c.parts.ensures
 
-returns-2 : tie.Need-returns-2
-returns-2 c = by_case parts_values decoded_parts_of c.before.enum_told.given.1 c.one.ensures
+returns-2 : tie.Need-returns-in-Nothing
+returns-2 c = by_case parts_values decoded_parts_of c.in-Nothing.is c.one.ensures
 
-returns-3 : tie.Need-returns-3
-returns-3 c = by_case parts_values decoded_parts_of c.before.before.d2.given.1 c.cut.ensures
+returns-3 : tie.Need-returns-in-Cut
+returns-3 c = by_case parts_values decoded_parts_of c.in-Cut.is c.cut.ensures
 
-pub decoded-spec : {M : Type 1} → statement M
-decoded-spec =
+pub decoded_spec : {M : Type 1} → statement M
+decoded_spec =
     tie.close
     (tie.spec (λ c. search rules) (λ c κs. search rules) (λ c. search rules) (λ c κs. search rules) (λ c. search rules) (λ c κs. search rules) returns
     returns-2 returns-3)

@@ -9,7 +9,7 @@ use Rattle.c_answers.proofs.codec_replies.instr.Statement.{statement}
 use Rattle.c_answers.proofs.codec_replies.instr.Tie as tie
 
 returns : tie.Need-returns
-returns c = c.parts.ensures ∙ ap (λ (v : Parts). reply 0 (parts_values v)) c.before.apart.ensures
+returns c = c.parts.ensures ∙ ap (λ (v : Parts). reply 0 (parts_values v)) c.apart.ensures
 
-pub instr-spec : {M : Type 1} → statement M
-instr-spec = tie.close (tie.spec (λ c κs. search rules) (λ c κs. search rules) returns)
+pub instr_spec : {M : Type 1} → statement M
+instr_spec = tie.close (tie.spec (λ c κs. search rules) (λ c κs. search rules) returns)

@@ -10,9 +10,9 @@ use Rattle.c_answers.proofs.codec_replies.misfit.Tie as tie
 
 returns : tie.Need-returns
 returns c =
-    let m = c.before.before.before.before.args.m in
+    let m = c.args.m in
     let z : Read m.value = search rules in
     told2 c.two.ensures (to_z_pos w64 (search rules)) (wide_value z)
 
-pub misfit-spec : {M : Type 1} → statement M
-misfit-spec = tie.close (tie.spec (λ c. search rules) (λ c. widened c.before.before.before.args.m.value) (λ c κs. search rules) returns)
+pub misfit_spec : {M : Type 1} → statement M
+misfit_spec = tie.close (tie.spec (λ c. search rules) (λ c. widened c.args.m.value) (λ c κs. search rules) returns)

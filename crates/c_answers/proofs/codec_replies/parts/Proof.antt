@@ -11,7 +11,7 @@ use Rattle.c_answers.proofs.Sizes.{form_small}
 use Rattle.c_answers.proofs.codec_replies.parts.Statement.{statement}
 use Rattle.c_answers.proofs.codec_replies.parts.Tie as tie
 
-abbrev start : tie.After-struct-told → tie.Start
+abbrev start : tie.After-struct_told-1 → tie.Start
 start t = t.before.before.before.before
 
 -- the operands, read back
@@ -29,13 +29,13 @@ returns c =
     let t = c.before.before.before.before.before in
     let s = start t in
     let z = t.before.before.before in
-    told5 c.new.ensures (to_z_pos w64 (search rules)) (to_z_pos w64 (rw z.size.ensures (form_small s.args.v.form)) ∙ ap pos z.size.ensures)
+    told5 c.new.ensures (to_z_pos w64 (search rules)) (to_z_pos w64 (rw z.size-size.ensures (form_small s.args.v.form)) ∙ ap pos z.size-size.ensures)
     (wide_value (read_a s)) (wide_value (read_b s)) (wide_value (read_c s))
 
-pub parts-spec : {M : Type 1} → statement M
-parts-spec =
+pub parts_spec : {M : Type 1} → statement M
+parts_spec =
     tie.close
-    (tie.spec (λ c κs. search rules) (λ c. record { sfits = rw c.size.ensures (form_small c.before.args.v.form) }) (λ c. search rules)
+    (tie.spec (λ c κs. search rules) (λ c. record { sfits = rw c.size-size.ensures (form_small c.args.v.form) }) (λ c. search rules)
     (λ c. widened (start c).args.v.a) (λ c. widened (start c.before.before).args.v.b)
     (λ c. widened (start c.before.before.before.before).args.v.c)
     (λ c κs. search rules) returns)

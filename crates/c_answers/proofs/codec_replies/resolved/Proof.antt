@@ -9,17 +9,17 @@ use Rattle.c_answers.specs.Codec.{instr_values}
 use Rattle.c_answers.proofs.codec_replies.resolved.Statement.{statement}
 use Rattle.c_answers.proofs.codec_replies.resolved.Tie as tie
 
-returns : tie.Need-returns
-returns c = by_case instr_values resolved_of c.before.before.d.given.1 c.instr.ensures
+returns : tie.Need-returns-in-Fields
+returns c = by_case instr_values resolved_of c.in-Fields.is c.instr.ensures
 
-returns-2 : tie.Need-returns-2
-returns-2 c = by_case instr_values resolved_of c.before.before.d2.given.1 (told1 c.one.ensures (to_z_pos w64 (search rules)))
+returns-2 : tie.Need-returns-in-FarBase
+returns-2 c = by_case instr_values resolved_of c.in-FarBase.is (told1 c.one.ensures (to_z_pos w64 (search rules)))
 
-returns-3 : tie.Need-returns-3
-returns-3 c = by_case instr_values resolved_of c.before.before.d3.given.1 c.why.ensures
+returns-3 : tie.Need-returns-in-Refused
+returns-3 c = by_case instr_values resolved_of c.in-Refused.is c.why.ensures
 
-pub resolved-spec : {M : Type 1} → statement M
-resolved-spec =
+pub resolved_spec : {M : Type 1} → statement M
+resolved_spec =
     tie.close
     (tie.spec (λ c. search rules) (λ c κs. search rules)
     (λ c. search rules) (λ c. search rules) (λ c κs. search rules)

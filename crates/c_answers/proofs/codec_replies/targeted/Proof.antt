@@ -17,36 +17,36 @@ use Rattle.c_answers.proofs.codec_replies.targeted.Tie as tie
 small : {e k : Targets} → e ≡ k → next_in_targets e < 2 ^ 63 → next_in_targets k < 2 ^ 63
 small p h = rw (← p) h
 
-returns : tie.Need-returns
-returns c = by_case targets_values targets_of c.before.enum_told.given.1 c.one.ensures
+returns : tie.Need-returns-in-Nowhere
+returns c = by_case targets_values targets_of c.in-Nowhere.is c.one.ensures
 
-returns-2 : tie.Need-returns-2
+returns-2 : tie.Need-returns-in-One
 returns-2 c =
-    let t = c.before.before in
-    let x : Read t.t.given.0.0 = search rules in
-    by_case targets_values targets_of t.t.given.1 (told2 c.two.ensures refl (wide_value x))
+    let t = c.before in
+    let x : Read t.in-One.a = search rules in
+    by_case targets_values targets_of t.in-One.is (told2 c.two.ensures refl (wide_value x))
 
-returns-3 : tie.Need-returns-3
+returns-3 : tie.Need-returns-in-Two
 returns-3 c =
-    let t = c.before.before in
-    let x : Read t.t2.given.0.0 = search rules in
-    let y : Read t.t2.given.0.1.0 = search rules in
-    by_case targets_values targets_of t.t2.given.1 (told3 c.three.ensures refl (wide_value x) (wide_value y))
+    let t = c.before in
+    let x : Read t.in-Two.a = search rules in
+    let y : Read t.in-Two.b = search rules in
+    by_case targets_values targets_of t.in-Two.is (told3 c.three.ensures refl (wide_value x) (wide_value y))
 
-returns-4 : tie.Need-returns-4
+returns-4 : tie.Need-returns-in-PastEnd
 returns-4 c =
-    let t = c.before.before in
-    by_case targets_values targets_of t.t3.given.1 (told1 c.one2.ensures (to_z_pos w64 (small t.t3.given.1 t.before.before.requires)))
+    let t = c.before in
+    by_case targets_values targets_of t.in-PastEnd.is (told1 c.one-in-PastEnd.ensures (to_z_pos w64 (small t.in-PastEnd.is t.requires)))
 
-returns-5 : tie.Need-returns-5
-returns-5 c = by_case targets_values targets_of c.before.before.t4.given.1 c.misfit.ensures
+returns-5 : tie.Need-returns-in-Unfit
+returns-5 c = by_case targets_values targets_of c.in-Unfit.is c.misfit.ensures
 
-pub targeted-spec : {M : Type 1} → statement M
-targeted-spec =
+pub targeted_spec : {M : Type 1} → statement M
+targeted_spec =
     tie.close
     (tie.spec (λ c. search rules) (λ c κs. search rules)
-    (λ c. search rules) (λ c. widened c.before.t.given.0.0) (λ c κs. search rules)
-    (λ c. search rules) (λ c. widened c.before.t2.given.0.0) (λ c. widened c.before.t2.given.0.1.0) (λ c κs. search rules)
-    (λ c. search rules) (λ c. record { sfits = small c.before.t3.given.1 c.before.before.before.requires }) (λ c κs. search rules)
+    (λ c. search rules) (λ c. widened c.in-One.a) (λ c κs. search rules)
+    (λ c. search rules) (λ c. widened c.in-Two.a) (λ c. widened c.in-Two.b) (λ c κs. search rules)
+    (λ c. search rules) (λ c. record { sfits = small c.in-PastEnd.is c.requires }) (λ c κs. search rules)
     (λ c. search rules) (λ c κs. search rules)
     returns returns-2 returns-3 returns-4 returns-5)

@@ -10,31 +10,31 @@ use Rattle.c_answers.specs.Codec.{instr_values}
 use Rattle.c_answers.proofs.codec_replies.why.Statement.{statement}
 use Rattle.c_answers.proofs.codec_replies.why.Tie as tie
 
-returns : tie.Need-returns
-returns c = by_case instr_values why_of c.before.before.w.given.1 c.misfit.ensures
+returns : tie.Need-returns-in-Unfit
+returns c = by_case instr_values why_of c.in-Unfit.is c.misfit.ensures
 
-returns-2 : tie.Need-returns-2
+returns-2 : tie.Need-returns-in-NoAddress
 returns-2 c =
-    let w = c.before.before in
-    let x : Read w.w2.given.0.0 = search rules in
-    by_case instr_values why_of w.w2.given.1 (told1 c.one.ensures (wide_value x))
+    let w = c.before in
+    let x : Read w.in-NoAddress.z = search rules in
+    by_case instr_values why_of w.in-NoAddress.is (told1 c.one.ensures (wide_value x))
 
-returns-3 : tie.Need-returns-3
+returns-3 : tie.Need-returns-in-TooFar
 returns-3 c =
-    let w = c.before.before in
-    let x : Read w.w3.given.0.0 = search rules in
-    by_case instr_values why_of w.w3.given.1 (told1 c.one2.ensures (wide_value x))
+    let w = c.before in
+    let x : Read w.in-TooFar.z = search rules in
+    by_case instr_values why_of w.in-TooFar.is (told1 c.one-in-TooFar.ensures (wide_value x))
 
-returns-4 : tie.Need-returns-4
+returns-4 : tie.Need-returns-in-OtherPage
 returns-4 c =
-    by_case instr_values why_of c.before.before.before.before.w4.given.1
+    by_case instr_values why_of c.in-OtherPage.is
     (told2 c.two.ensures (to_z_pos w64 (search rules)) (to_z_pos w64 (search rules)))
 
-pub why-spec : {M : Type 1} → statement M
-why-spec =
+pub why_spec : {M : Type 1} → statement M
+why_spec =
     tie.close
     (tie.spec (λ c. search rules) (λ c κs. search rules)
-    (λ c. search rules) (λ c. widened c.before.w2.given.0.0) (λ c κs. search rules)
-    (λ c. search rules) (λ c. widened c.before.w3.given.0.0) (λ c κs. search rules)
+    (λ c. search rules) (λ c. widened c.in-NoAddress.z) (λ c κs. search rules)
+    (λ c. search rules) (λ c. widened c.in-TooFar.z) (λ c κs. search rules)
     (λ c. search rules) (λ c. search rules) (λ c. search rules) (λ c κs. search rules)
     returns returns-2 returns-3 returns-4)

@@ -4,11 +4,11 @@ use borrow.Author.Tests.{eq-eqb, ne_eqb}
 use Rattle.c_answers.proofs.listed.choice.Statement.{statement}
 use Rattle.c_answers.proofs.listed.choice.Tie as tie
 
-returns : tie.Need-returns
-returns c = rw (eq-eqb _ 0 c.if1.true)
+returns : tie.Need-returns-then-arrivals-eq0
+returns c = rw (eq-eqb _ 0 c.if-arrivals-eq0.true)
 
-returns-2 : tie.Need-returns-2
-returns-2 c = rw (ne_eqb _ 0 c.if1.false)
+returns-2 : tie.Need-returns
+returns-2 c = rw (ne_eqb _ 0 c.if-arrivals-eq0.false)
 
-pub choice-spec : {M : Type 1} → statement M
-choice-spec = tie.close (tie.spec returns returns-2)
+pub choice_spec : {M : Type 1} → statement M
+choice_spec = tie.close (tie.spec returns returns-2)

@@ -14,12 +14,12 @@ use Rattle.c_answers.proofs.listed.list_text.Tie as tie
 viewed-requires : tie.Need-viewed-requires
 viewed-requires c κs =
     let t = c.before.before in
-    let a = t.before.before.before.before.args in
-    room_small [] tt (output_of a.text.now) a.room.now (omega (arith, output_fits a.text.now)) t.list-text.result t.list-text.ensures.0
+    let a = t.args in
+    room_small [] tt (output_of a.text.now) a.room.now (omega (arith, output_fits a.text.now)) t.list_text.result t.list_text.ensures.0
 
 returns : tie.Need-returns
 returns c =
-    let t = c.before.before.before in (c.viewed.ensures ∙ ap (reply_of count_values) t.list-text.ensures.0, t.list-text.ensures.1)
+    let t = c.before.before.before in (c.viewed.ensures ∙ ap (reply_of count_values) t.list_text.ensures.0, t.list_text.ensures.1)
 
-pub list-text-spec : {M : Type 1} → statement M
-list-text-spec = tie.close (tie.spec (λ c κs. search rules) viewed-requires (λ c. search rules) returns)
+pub list_text_spec : {M : Type 1} → statement M
+list_text_spec = tie.close (tie.spec (λ c κs. search rules) viewed-requires (λ c. search rules) returns)

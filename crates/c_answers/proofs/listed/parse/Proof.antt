@@ -16,7 +16,7 @@ parsed-requires c κs =
     let t = c.before.before.before.before in
     let s = t.before.before.before.before.before.before in
     let a = s.args in
-    let l : length a.text.now < 2 ^ 63 = omega (arith, s.well-formed.0.1) in
+    let l : length a.text.now < 2 ^ 63 = omega (arith, s.well_formed.0.1) in
     parsed_small a.text.now l a.entries.now a.image.now t.parse.result t.parse.ensures.0
 
 returns : tie.Need-returns
@@ -24,5 +24,5 @@ returns c =
     let t = c.before.before.before.before.before in
     let e = t.parse.ensures in (c.parsed.ensures ∙ ap (reply_of input_values) e.0, e.1)
 
-pub parse-spec : {M : Type 1} → statement M
-parse-spec = tie.close (tie.spec (λ c κs. search rules) parsed-requires (λ c. search rules) (λ c. search rules) returns)
+pub parse_spec : {M : Type 1} → statement M
+parse_spec = tie.close (tie.spec (λ c κs. search rules) parsed-requires (λ c. search rules) (λ c. search rules) returns)

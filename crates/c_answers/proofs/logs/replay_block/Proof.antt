@@ -17,19 +17,19 @@ replayed-requires c κs =
     let l = t.before.before in
     let s = l.before.before.before.before.before.before.before in
     let a = s.args in
-    let i : length a.image.now < 2 ^ 63 = omega (arith, s.well-formed.1.1.1.0.1) in
-    let m : length a.marks.now < 2 ^ 63 = omega (arith, s.well-formed.1.1.1.1.0.1) in
+    let i : length a.image.now < 2 ^ 63 = omega (arith, s.well_formed.1.1.1.0.1) in
+    let m : length a.marks.now < 2 ^ 63 = omega (arith, s.well_formed.1.1.1.1.0.1) in
     block_small a.image.now a.marks.now i m a.counts.now a.mode a.text.now a.entries.now
-    l.log-of.result t.take-block.result.answer t.take-block.ensures.0
+    l.log_of-log.result t.take_block-fed.result.answer t.take_block-fed.ensures.0
 
 returns : tie.Need-returns
 returns c =
     let t = c.before.before.before.before.before in
-    let e = rw t.before.before.log-of.ensures at t.take-block.ensures in
-    (c.replayed.ensures ∙ ap (reply_of replay_values) e.0, (c.before.put-log.ensures ∙ ap words_of e.1.0, e.1.1))
+    let e = rw t.log_of-log.ensures at t.take_block-fed.ensures in
+    (c.replayed.ensures ∙ ap (reply_of replay_values) e.0, (c.put_log.ensures ∙ ap words_of e.1.0, e.1.1))
 
-pub replay-block-spec : {M : Type 1} → statement M
-replay-block-spec =
+pub replay_block_spec : {M : Type 1} → statement M
+replay_block_spec =
     tie.close
     (tie.spec
     (λ c κs. search rules) (λ c κs. search rules) (λ c κs. search rules) replayed-requires (λ c. search rules) returns)

@@ -10,11 +10,11 @@ use Rattle.c_answers.proofs.logs.replay_close.Statement.{statement}
 use Rattle.c_answers.proofs.logs.replay_close.Tie as tie
 
 replayed-requires : tie.Need-replayed-requires
-replayed-requires c κs = closed_small c.before.log-of.result c.close.result c.close.ensures
+replayed-requires c κs = closed_small c.log_of.result c.close.result c.close.ensures
 
 returns : tie.Need-returns
 returns c =
-    c.replayed.ensures ∙ ap (reply_of replay_values) (c.before.close.ensures ∙ ap closed_of c.before.before.log-of.ensures)
+    c.replayed.ensures ∙ ap (reply_of replay_values) (c.close.ensures ∙ ap closed_of c.log_of.ensures)
 
-pub replay-close-spec : {M : Type 1} → statement M
-replay-close-spec = tie.close (tie.spec (λ c κs. search rules) (λ c κs. search rules) replayed-requires returns)
+pub replay_close_spec : {M : Type 1} → statement M
+replay_close_spec = tie.close (tie.spec (λ c κs. search rules) (λ c κs. search rules) replayed-requires returns)

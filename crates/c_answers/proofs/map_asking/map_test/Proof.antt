@@ -13,13 +13,13 @@ use Rattle.c_answers.proofs.map_asking.map_test.Tie as tie
 asked-requires : tie.Need-asked-requires
 unfolding test_answer
 asked-requires c κs =
-    let a = c.before.before.args in
+    let a = c.args in
     let n : a.length < 2 ^ 63 = omega arith in
     let p : a.p < 2 ^ 63 = omega arith in
     asked_small a.words.now a.length _ a.p _ n p c.test.result c.test.ensures
 
 returns : tie.Need-returns
-returns c = c.asked.ensures ∙ ap (reply_of count_values) c.before.test.ensures
+returns c = c.asked.ensures ∙ ap (reply_of count_values) c.test.ensures
 
-pub map-test-spec : {M : Type 1} → statement M
-map-test-spec = tie.close (tie.spec (λ c κs. search rules) asked-requires returns)
+pub map_test_spec : {M : Type 1} → statement M
+map_test_spec = tie.close (tie.spec (λ c κs. search rules) asked-requires returns)

@@ -14,16 +14,16 @@ updated-requires : tie.Need-updated-requires
 updated-requires c κs =
     let t = c.before.before.before in
     let s = t.before.before.before.before.before in
-    let i : length s.args.image.now < 2 ^ 63 = omega (arith, s.well-formed.0.1) in
-    let m : length s.args.marks.now < 2 ^ 63 = omega (arith, s.well-formed.1.0.1) in
-    built_small s.args.image.now s.args.marks.now i m s.args.words.now c.as-updated.result
-    (c.as-updated.ensures ∙ t.build-map.ensures.0)
+    let i : length s.args.image.now < 2 ^ 63 = omega (arith, s.well_formed.0.1) in
+    let m : length s.args.marks.now < 2 ^ 63 = omega (arith, s.well_formed.1.0.1) in
+    built_small s.args.image.now s.args.marks.now i m s.args.words.now c.as_updated.result
+    (c.as_updated.ensures ∙ t.build_map.ensures.0)
 
 returns : tie.Need-returns
 returns c =
     let u = c.before in
     let t = u.before.before.before in
-    (c.updated.ensures ∙ ap (reply_of count_values) (u.as-updated.ensures ∙ t.build-map.ensures.0), t.build-map.ensures.1)
+    (c.updated.ensures ∙ ap (reply_of count_values) (u.as_updated.ensures ∙ t.build_map.ensures.0), t.build_map.ensures.1)
 
-pub map-build-spec : {M : Type 1} → statement M
-map-build-spec = tie.close (tie.spec (λ c κs. search rules) (λ c κs. search rules) updated-requires (λ c. search rules) returns)
+pub map_build_spec : {M : Type 1} → statement M
+map_build_spec = tie.close (tie.spec (λ c κs. search rules) (λ c κs. search rules) updated-requires (λ c. search rules) returns)

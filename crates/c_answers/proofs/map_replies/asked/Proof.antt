@@ -16,28 +16,28 @@ use Rattle.c_answers.proofs.map_replies.asked.Tie as tie
 small : {e k : Asked} → e ≡ k → length_in_asked e < 2 ^ 63 → length_in_asked k < 2 ^ 63
 small p h = rw (← p) h
 
-returns : tie.Need-returns
-returns c = by_case count_values asked_of c.before.before.a.given.1 (told1 c.one.ensures (to_z_pos w64 (search rules)))
+returns : tie.Need-returns-in-Told
+returns c = by_case count_values asked_of c.in-Told.is (told1 c.one.ensures (to_z_pos w64 (search rules)))
 
-returns-2 : tie.Need-returns-2
+returns-2 : tie.Need-returns-in-LongImage
 returns-2 c =
-    let t = c.before.before in
-    by_case count_values asked_of t.a2.given.1 (told1 c.one2.ensures (to_z_pos w64 (small t.a2.given.1 t.before.before.requires)))
+    let t = c.before in
+    by_case count_values asked_of t.in-LongImage.is (told1 c.one-in-LongImage.ensures (to_z_pos w64 (small t.in-LongImage.is t.requires)))
 
-returns-3 : tie.Need-returns-3
+returns-3 : tie.Need-returns-in-NoRoom
 returns-3 c =
-    let t = c.before.before in
-    by_case count_values asked_of t.a3.given.1 (told1 c.one3.ensures (to_z_pos w64 (small t.a3.given.1 t.before.before.requires)))
+    let t = c.before in
+    by_case count_values asked_of t.in-NoRoom.is (told1 c.one-in-NoRoom.ensures (to_z_pos w64 (small t.in-NoRoom.is t.requires)))
 
-returns-4 : tie.Need-returns-4
-returns-4 c = by_case count_values asked_of c.before.before.a4.given.1 (told1 c.one4.ensures (to_z_pos w64 (search rules)))
+returns-4 : tie.Need-returns-in-Outside
+returns-4 c = by_case count_values asked_of c.in-Outside.is (told1 c.one-in-Outside.ensures (to_z_pos w64 (search rules)))
 
-pub asked-spec : {M : Type 1} → statement M
-asked-spec =
+pub asked_spec : {M : Type 1} → statement M
+asked_spec =
     tie.close
     (tie.spec
     (λ c. search rules) (λ c. search rules) (λ c κs. search rules)
-    (λ c. search rules) (λ c. record { sfits = small c.before.a2.given.1 c.before.before.before.requires }) (λ c κs. search rules)
-    (λ c. search rules) (λ c. record { sfits = small c.before.a3.given.1 c.before.before.before.requires }) (λ c κs. search rules)
+    (λ c. search rules) (λ c. record { sfits = small c.in-LongImage.is c.requires }) (λ c κs. search rules)
+    (λ c. search rules) (λ c. record { sfits = small c.in-NoRoom.is c.requires }) (λ c κs. search rules)
     (λ c. search rules) (λ c. search rules) (λ c κs. search rules)
     returns returns-2 returns-3 returns-4)

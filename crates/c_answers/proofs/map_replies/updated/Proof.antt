@@ -16,40 +16,40 @@ use Rattle.c_answers.proofs.map_replies.updated.Tie as tie
 small : {e k : Updated} → e ≡ k → length_in_updated e < 2 ^ 63 → length_in_updated k < 2 ^ 63
 small p h = rw (← p) h
 
-returns : tie.Need-returns
+returns : tie.Need-returns-in-Set
 returns c =
-    let t = c.before.before in
-    by_case count_values updated_of t.u.given.1 (told1 c.one.ensures (to_z_pos w64 (small t.u.given.1 t.before.before.requires)))
+    let t = c.before in
+    by_case count_values updated_of t.in-Set.is (told1 c.one.ensures (to_z_pos w64 (small t.in-Set.is t.requires)))
 
-returns-2 : tie.Need-returns-2
+returns-2 : tie.Need-returns-in-LongImage
 returns-2 c =
-    let t = c.before.before in
-    by_case count_values updated_of t.u2.given.1 (told1 c.one2.ensures (to_z_pos w64 (small t.u2.given.1 t.before.before.requires)))
+    let t = c.before in
+    by_case count_values updated_of t.in-LongImage.is (told1 c.one-in-LongImage.ensures (to_z_pos w64 (small t.in-LongImage.is t.requires)))
 
-returns-3 : tie.Need-returns-3
+returns-3 : tie.Need-returns-in-ShortMarks
 returns-3 c =
-    let t = c.before.before in
-    by_case count_values updated_of t.u3.given.1 (told1 c.one3.ensures (to_z_pos w64 (small t.u3.given.1 t.before.before.requires)))
+    let t = c.before in
+    by_case count_values updated_of t.in-ShortMarks.is (told1 c.one-in-ShortMarks.ensures (to_z_pos w64 (small t.in-ShortMarks.is t.requires)))
 
-returns-4 : tie.Need-returns-4
-returns-4 c = by_case count_values updated_of c.before.before.u4.given.1 (told1 c.one4.ensures (to_z_pos w64 (search rules)))
+returns-4 : tie.Need-returns-in-Damaged
+returns-4 c = by_case count_values updated_of c.in-Damaged.is (told1 c.one-in-Damaged.ensures (to_z_pos w64 (search rules)))
 
-returns-5 : tie.Need-returns-5
+returns-5 : tie.Need-returns-in-NoRoom
 returns-5 c =
-    let t = c.before.before in
-    by_case count_values updated_of t.u5.given.1 (told1 c.one5.ensures (to_z_pos w64 (small t.u5.given.1 t.before.before.requires)))
+    let t = c.before in
+    by_case count_values updated_of t.in-NoRoom.is (told1 c.one-in-NoRoom.ensures (to_z_pos w64 (small t.in-NoRoom.is t.requires)))
 
-returns-6 : tie.Need-returns-6
-returns-6 c = by_case count_values updated_of c.before.before.u6.given.1 (told1 c.one6.ensures (to_z_pos w64 (search rules)))
+returns-6 : tie.Need-returns-in-Outside
+returns-6 c = by_case count_values updated_of c.in-Outside.is (told1 c.one-in-Outside.ensures (to_z_pos w64 (search rules)))
 
-pub updated-spec : {M : Type 1} → statement M
-updated-spec =
+pub updated_spec : {M : Type 1} → statement M
+updated_spec =
     tie.close
     (tie.spec
-    (λ c. search rules) (λ c. record { sfits = small c.before.u.given.1 c.before.before.before.requires }) (λ c κs. search rules)
-    (λ c. search rules) (λ c. record { sfits = small c.before.u2.given.1 c.before.before.before.requires }) (λ c κs. search rules)
-    (λ c. search rules) (λ c. record { sfits = small c.before.u3.given.1 c.before.before.before.requires }) (λ c κs. search rules)
+    (λ c. search rules) (λ c. record { sfits = small c.in-Set.is c.requires }) (λ c κs. search rules)
+    (λ c. search rules) (λ c. record { sfits = small c.in-LongImage.is c.requires }) (λ c κs. search rules)
+    (λ c. search rules) (λ c. record { sfits = small c.in-ShortMarks.is c.requires }) (λ c κs. search rules)
     (λ c. search rules) (λ c. search rules) (λ c κs. search rules)
-    (λ c. search rules) (λ c. record { sfits = small c.before.u5.given.1 c.before.before.before.requires }) (λ c κs. search rules)
+    (λ c. search rules) (λ c. record { sfits = small c.in-NoRoom.is c.requires }) (λ c κs. search rules)
     (λ c. search rules) (λ c. search rules) (λ c κs. search rules)
     returns returns-2 returns-3 returns-4 returns-5 returns-6)

@@ -16,37 +16,37 @@ use Rattle.c_answers.proofs.trace_replies.stepped.Tie as tie
 small : {e k : Stepped} → e ≡ k → length_in_stepped e < 2 ^ 63 → length_in_stepped k < 2 ^ 63
 small p h = rw (← p) h
 
-returns : tie.Need-returns
+returns : tie.Need-returns-in-Traced
 returns c =
-    by_case step_values stepped_of c.before.before.before.before.s.given.1
+    by_case step_values stepped_of c.in-Traced.is
     (told2 c.two.ensures (to_z_pos w64 (search rules)) (to_z_pos w64 (search rules)))
 
-returns-2 : tie.Need-returns-2
+returns-2 : tie.Need-returns-in-LongImage
 returns-2 c =
-    let t = c.before.before in
-    by_case step_values stepped_of t.s2.given.1 (told1 c.one.ensures (to_z_pos w64 (small t.s2.given.1 t.before.before.requires)))
+    let t = c.before in
+    by_case step_values stepped_of t.in-LongImage.is (told1 c.one.ensures (to_z_pos w64 (small t.in-LongImage.is t.requires)))
 
-returns-3 : tie.Need-returns-3
+returns-3 : tie.Need-returns-in-ShortMarks
 returns-3 c =
-    let t = c.before.before in
-    by_case step_values stepped_of t.s3.given.1 (told1 c.one2.ensures (to_z_pos w64 (small t.s3.given.1 t.before.before.requires)))
+    let t = c.before in
+    by_case step_values stepped_of t.in-ShortMarks.is (told1 c.one-in-ShortMarks.ensures (to_z_pos w64 (small t.in-ShortMarks.is t.requires)))
 
-returns-4 : tie.Need-returns-4
-returns-4 c = by_case step_values stepped_of c.before.before.s4.given.1 (told1 c.one3.ensures (to_z_pos w64 (search rules)))
+returns-4 : tie.Need-returns-in-NotWaiting
+returns-4 c = by_case step_values stepped_of c.in-NotWaiting.is (told1 c.one-in-NotWaiting.ensures (to_z_pos w64 (search rules)))
 
-returns-5 : tie.Need-returns-5
-returns-5 c = by_case step_values stepped_of c.before.before.s5.given.1 c.cut.ensures
+returns-5 : tie.Need-returns-in-Cut
+returns-5 c = by_case step_values stepped_of c.in-Cut.is c.cut.ensures
 
-returns-6 : tie.Need-returns-6
-returns-6 c = by_case step_values stepped_of c.before.before.s6.given.1 (told1 c.one4.ensures (to_z_pos w64 (search rules)))
+returns-6 : tie.Need-returns-in-Damaged
+returns-6 c = by_case step_values stepped_of c.in-Damaged.is (told1 c.one-in-Damaged.ensures (to_z_pos w64 (search rules)))
 
-pub stepped-spec : {M : Type 1} → statement M
-stepped-spec =
+pub stepped_spec : {M : Type 1} → statement M
+stepped_spec =
     tie.close
     (tie.spec
     (λ c. search rules) (λ c. search rules) (λ c. search rules) (λ c κs. search rules)
-    (λ c. search rules) (λ c. record { sfits = small c.before.s2.given.1 c.before.before.before.requires }) (λ c κs. search rules)
-    (λ c. search rules) (λ c. record { sfits = small c.before.s3.given.1 c.before.before.before.requires }) (λ c κs. search rules)
+    (λ c. search rules) (λ c. record { sfits = small c.in-LongImage.is c.requires }) (λ c κs. search rules)
+    (λ c. search rules) (λ c. record { sfits = small c.in-ShortMarks.is c.requires }) (λ c κs. search rules)
     (λ c. search rules) (λ c. search rules) (λ c κs. search rules)
     (λ c. search rules) (λ c κs. search rules)
     (λ c. search rules) (λ c. search rules) (λ c κs. search rules)

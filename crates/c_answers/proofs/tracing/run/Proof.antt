@@ -15,9 +15,9 @@ ran-requires : tie.Need-ran-requires
 ran-requires c κs =
     let t = c.before.before.before.before in
     let s = t.before.before.before.before.before.before.before.before in
-    let i : length s.args.image.now < 2 ^ 63 = omega (arith, s.well-formed.1.0.1) in
-    let m : length s.args.marks.now < 2 ^ 63 = omega (arith, s.well-formed.1.1.0.1) in
-    let o : length s.args.order.now < 2 ^ 63 = omega (arith, s.well-formed.1.1.1.0.1) in
+    let i : length s.args.image.now < 2 ^ 63 = omega (arith, s.well_formed.1.0.1) in
+    let m : length s.args.marks.now < 2 ^ 63 = omega (arith, s.well_formed.1.1.0.1) in
+    let o : length s.args.order.now < 2 ^ 63 = omega (arith, s.well_formed.1.1.1.0.1) in
     ran_small s.args.image.now s.args.marks.now i m s.args.mode s.args.order.now s.args.entries.now s.args.pins.now
     s.args.limit o t.run.result t.run.ensures.0
 

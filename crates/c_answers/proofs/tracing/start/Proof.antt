@@ -14,8 +14,8 @@ started-requires : tie.Need-started-requires
 started-requires c κs =
     let t = c.before.before in
     let s = t.before.before.before.before.before.before in
-    let i : length s.args.image.now < 2 ^ 63 = omega (arith, s.well-formed.0.1) in
-    let m : length s.args.marks.now < 2 ^ 63 = omega (arith, s.well-formed.1.0.1) in
+    let i : length s.args.image.now < 2 ^ 63 = omega (arith, s.well_formed.0.1) in
+    let m : length s.args.marks.now < 2 ^ 63 = omega (arith, s.well_formed.1.0.1) in
     started_small s.args.image.now s.args.marks.now i m s.args.entries.now s.args.pins.now t.start.result t.start.ensures.0
 
 returns : tie.Need-returns

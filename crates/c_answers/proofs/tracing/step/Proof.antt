@@ -15,8 +15,8 @@ stepped-requires : tie.Need-stepped-requires
 stepped-requires c κs =
     let t = c.before.before in
     let s = t.before.before.before.before in
-    let i : length s.args.image.now < 2 ^ 63 = omega (arith, s.well-formed.1.0.1) in
-    let m : length s.args.marks.now < 2 ^ 63 = omega (arith, s.well-formed.1.1.0.1) in
+    let i : length s.args.image.now < 2 ^ 63 = omega (arith, s.well_formed.1.0.1) in
+    let m : length s.args.marks.now < 2 ^ 63 = omega (arith, s.well_formed.1.1.0.1) in
     stepped_small s.args.image.now s.args.marks.now i m s.args.mode s.args.p t.step.result t.step.ensures.0
 
 returns : tie.Need-returns

@@ -14,7 +14,7 @@ use Rattle.c_answers.proofs.viewing.data_run.Tie as tie
 
 returns : tie.Need-returns
 returns c =
-    told1 c.one.ensures (to_z_pos w64 (search rules) ∙ ap (λ (l : List ℕ). pos (length l)) c.before.data-run.ensures)
+    told1 c.one.ensures (to_z_pos w64 (search rules) ∙ ap (λ (l : List ℕ). pos (length l)) c.data_run.ensures)
 
-pub data-run-spec : {M : Type 1} → statement M
-data-run-spec = tie.close (tie.spec (λ c κs. search rules) (λ c. search rules) (λ c κs. search rules) returns)
+pub data_run_spec : {M : Type 1} → statement M
+data_run_spec = tie.close (tie.spec (λ c κs. search rules) (λ c. search rules) (λ c κs. search rules) returns)
