@@ -6,7 +6,7 @@ use Rattle.pottagewing.proofs.codec.pw_decode.Statement.{statement}
 use Rattle.pottagewing.proofs.codec.pw_decode.Tie as tie
 
 returns : tie.Need-returns
-returns c = given c.before.before.decode.ensures c.give.ensures
+returns c = given c.decode.ensures c.give.ensures
 
-pub pw-decode-spec : {M : Type 1} → statement M
-pw-decode-spec = tie.close (tie.spec (λ c κs. search rules) (λ c κs. search rules) returns)
+pub pw_decode_spec : {M : Type 1} → statement M
+pw_decode_spec = tie.close (tie.spec (λ c κs. search rules) (λ c κs. search rules) returns)

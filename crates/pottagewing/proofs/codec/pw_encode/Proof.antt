@@ -18,5 +18,5 @@ returns c =
     let g = given (t.encode.ensures.0 ∙ ap (λ (j : Instr). reply_of count_values (encode_answer j s.args.out.now)) e) c.give.ensures in
     (g.0, (g.1, t.encode.ensures.1 ∙ ap (λ (j : Instr). encode_room j s.args.out.now) e))
 
-pub pw-encode-spec : {M : Type 1} → statement M
-pw-encode-spec = tie.close (tie.spec (λ c κs. search rules) (λ c κs. search rules) (λ c. search rules) returns)
+pub pw_encode_spec : {M : Type 1} → statement M
+pw_encode_spec = tie.close (tie.spec (λ c κs. search rules) (λ c κs. search rules) (λ c. search rules) returns)

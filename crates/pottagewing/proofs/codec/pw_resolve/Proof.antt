@@ -21,5 +21,5 @@ returns c =
     given (r.resolve.ensures ∙ ap₂ (λ (o : Mode) (j : Instr). reply_of instr_values (resolve_answer o j s.args.base)) m.mode.ensures e)
     c.give.ensures
 
-pub pw-resolve-spec : {M : Type 1} → statement M
-pw-resolve-spec = tie.close (tie.spec (λ c κs. search rules) (λ c κs. search rules) (λ c κs. search rules) returns)
+pub pw_resolve_spec : {M : Type 1} → statement M
+pw_resolve_spec = tie.close (tie.spec (λ c κs. search rules) (λ c κs. search rules) (λ c κs. search rules) returns)

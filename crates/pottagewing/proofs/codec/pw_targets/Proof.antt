@@ -21,5 +21,5 @@ returns c =
     given (t.targets.ensures ∙ ap₂ (λ (o : Mode) (j : Instr). reply_of targets_values (targets_answer o s.args.position j)) m.mode.ensures e)
     c.give.ensures
 
-pub pw-targets-spec : {M : Type 1} → statement M
-pw-targets-spec = tie.close (tie.spec (λ c κs. search rules) (λ c κs. search rules) (λ c κs. search rules) returns)
+pub pw_targets_spec : {M : Type 1} → statement M
+pw_targets_spec = tie.close (tie.spec (λ c κs. search rules) (λ c κs. search rules) (λ c κs. search rules) returns)

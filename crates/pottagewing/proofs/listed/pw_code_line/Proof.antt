@@ -8,8 +8,8 @@ use Rattle.pottagewing.proofs.listed.pw_code_line.Tie as tie
 returns : tie.Need-returns
 returns c =
     let t = c.before.before.before.before in
-    let e = rw t.before.before.mode.ensures at t.code-line.ensures in
+    let e = rw t.mode.ensures at t.code_line.ensures in
     let g = given e.0 c.give.ensures in (g.0, (g.1, e.1))
 
-pub pw-code-line-spec : {M : Type 1} → statement M
-pw-code-line-spec = tie.close (tie.spec (λ c κs. search rules) (λ c κs. search rules) (λ c κs. search rules) (λ c. search rules) returns)
+pub pw_code_line_spec : {M : Type 1} → statement M
+pw_code_line_spec = tie.close (tie.spec (λ c κs. search rules) (λ c κs. search rules) (λ c κs. search rules) (λ c. search rules) returns)

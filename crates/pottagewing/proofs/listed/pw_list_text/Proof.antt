@@ -8,8 +8,8 @@ use Rattle.pottagewing.proofs.listed.pw_list_text.Tie as tie
 returns : tie.Need-returns
 returns c =
     let t = c.before.before.before.before in
-    let g = given t.list-text.ensures.0 c.give.ensures in
-    (g.0, (g.1, t.list-text.ensures.1))
+    let g = given t.list_text.ensures.0 c.give.ensures in
+    (g.0, (g.1, t.list_text.ensures.1))
 
-pub pw-list-text-spec : {M : Type 1} → statement M
-pw-list-text-spec = tie.close (tie.spec (λ c κs. search rules) (λ c κs. search rules) (λ c. search rules) returns)
+pub pw_list_text_spec : {M : Type 1} → statement M
+pw_list_text_spec = tie.close (tie.spec (λ c κs. search rules) (λ c κs. search rules) (λ c. search rules) returns)

@@ -11,5 +11,5 @@ returns c =
     let g = given t.parse.ensures.0 c.give.ensures in
     (g.0, (g.1, t.parse.ensures.1))
 
-pub pw-parse-spec : {M : Type 1} → statement M
-pw-parse-spec = tie.close (tie.spec (λ c κs. search rules) (λ c κs. search rules) (λ c. search rules) (λ c. search rules) returns)
+pub pw_parse_spec : {M : Type 1} → statement M
+pw_parse_spec = tie.close (tie.spec (λ c κs. search rules) (λ c κs. search rules) (λ c. search rules) (λ c. search rules) returns)

@@ -8,8 +8,8 @@ use Rattle.pottagewing.proofs.listed.pw_read_line.Tie as tie
 returns : tie.Need-returns
 returns c =
     let t = c.before.before in
-    let e = rw t.before.before.mode.ensures at t.read-line.ensures in
+    let e = rw t.mode.ensures at t.read_line.ensures in
     let g = given e.0 c.give.ensures in (g.0, (g.1, e.1))
 
-pub pw-read-line-spec : {M : Type 1} → statement M
-pw-read-line-spec = tie.close (tie.spec (λ c κs. search rules) (λ c κs. search rules) (λ c κs. search rules) returns)
+pub pw_read_line_spec : {M : Type 1} → statement M
+pw_read_line_spec = tie.close (tie.spec (λ c κs. search rules) (λ c κs. search rules) (λ c κs. search rules) returns)

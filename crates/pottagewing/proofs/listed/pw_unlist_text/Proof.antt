@@ -8,8 +8,8 @@ use Rattle.pottagewing.proofs.listed.pw_unlist_text.Tie as tie
 returns : tie.Need-returns
 returns c =
     let t = c.before.before.before.before in
-    let g = given t.unlist-text.ensures.0 c.give.ensures in
-    (g.0, (g.1, t.unlist-text.ensures.1))
+    let g = given t.unlist_text.ensures.0 c.give.ensures in
+    (g.0, (g.1, t.unlist_text.ensures.1))
 
-pub pw-unlist-text-spec : {M : Type 1} → statement M
-pw-unlist-text-spec = tie.close (tie.spec (λ c κs. search rules) (λ c κs. search rules) (λ c. search rules) returns)
+pub pw_unlist_text_spec : {M : Type 1} → statement M
+pw_unlist_text_spec = tie.close (tie.spec (λ c κs. search rules) (λ c κs. search rules) (λ c. search rules) returns)

@@ -8,8 +8,8 @@ use Rattle.pottagewing.proofs.logs.pw_replay_block.Tie as tie
 returns : tie.Need-returns
 returns c =
     let t = c.before.before.before.before in
-    let e = rw t.before.before.before.mode.ensures at t.replay-block.ensures in
+    let e = rw t.mode.ensures at t.replay_block.ensures in
     let g = given e.0 c.give.ensures in (g.0, (g.1, e.1))
 
-pub pw-replay-block-spec : {M : Type 1} → statement M
-pw-replay-block-spec = tie.close (tie.spec (λ c κs. search rules) (λ c κs. search rules) (λ c κs. search rules) (λ c. search rules) returns)
+pub pw_replay_block_spec : {M : Type 1} → statement M
+pw_replay_block_spec = tie.close (tie.spec (λ c κs. search rules) (λ c κs. search rules) (λ c κs. search rules) (λ c. search rules) returns)

@@ -6,7 +6,7 @@ use Rattle.pottagewing.proofs.logs.pw_replay_close.Statement.{statement}
 use Rattle.pottagewing.proofs.logs.pw_replay_close.Tie as tie
 
 returns : tie.Need-returns
-returns c = given c.before.before.replay-close.ensures c.give.ensures
+returns c = given c.replay_close.ensures c.give.ensures
 
-pub pw-replay-close-spec : {M : Type 1} → statement M
-pw-replay-close-spec = tie.close (tie.spec (λ c κs. search rules) (λ c κs. search rules) returns)
+pub pw_replay_close_spec : {M : Type 1} → statement M
+pw_replay_close_spec = tie.close (tie.spec (λ c κs. search rules) (λ c κs. search rules) returns)

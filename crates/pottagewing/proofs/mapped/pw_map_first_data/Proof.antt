@@ -6,7 +6,7 @@ use Rattle.pottagewing.proofs.mapped.pw_map_first_data.Statement.{statement}
 use Rattle.pottagewing.proofs.mapped.pw_map_first_data.Tie as tie
 
 returns : tie.Need-returns
-returns c = given c.before.before.map-first-data.ensures c.give.ensures
+returns c = given c.map_first_data.ensures c.give.ensures
 
-pub pw-map-first-data-spec : {M : Type 1} → statement M
-pw-map-first-data-spec = tie.close (tie.spec (λ c κs. search rules) (λ c κs. search rules) returns)
+pub pw_map_first_data_spec : {M : Type 1} → statement M
+pw_map_first_data_spec = tie.close (tie.spec (λ c κs. search rules) (λ c κs. search rules) returns)

@@ -8,8 +8,8 @@ use Rattle.pottagewing.proofs.mapped.pw_map_update.Tie as tie
 returns : tie.Need-returns
 returns c =
     let t = c.before.before.before.before in
-    let g = given t.map-update.ensures.0 c.give.ensures in
-    (g.0, (g.1, t.map-update.ensures.1))
+    let g = given t.map_update.ensures.0 c.give.ensures in
+    (g.0, (g.1, t.map_update.ensures.1))
 
-pub pw-map-update-spec : {M : Type 1} → statement M
-pw-map-update-spec = tie.close (tie.spec (λ c κs. search rules) (λ c κs. search rules) (λ c. search rules) returns)
+pub pw_map_update_spec : {M : Type 1} → statement M
+pw_map_update_spec = tie.close (tie.spec (λ c κs. search rules) (λ c κs. search rules) (λ c. search rules) returns)

@@ -11,5 +11,5 @@ returns c =
     let g = given t.start.ensures.0 c.give.ensures in
     (g.0, (g.1, t.start.ensures.1))
 
-pub pw-start-spec : {M : Type 1} → statement M
-pw-start-spec = tie.close (tie.spec (λ c κs. search rules) (λ c κs. search rules) (λ c. search rules) returns)
+pub pw_start_spec : {M : Type 1} → statement M
+pw_start_spec = tie.close (tie.spec (λ c κs. search rules) (λ c κs. search rules) (λ c. search rules) returns)

@@ -8,8 +8,8 @@ use Rattle.pottagewing.proofs.tracing.pw_step.Tie as tie
 returns : tie.Need-returns
 returns c =
     let t = c.before.before.before.before in
-    let e = rw t.before.before.mode.ensures at t.step.ensures in
+    let e = rw t.mode.ensures at t.step.ensures in
     let g = given e.0 c.give.ensures in (g.0, (g.1, e.1))
 
-pub pw-step-spec : {M : Type 1} → statement M
-pw-step-spec = tie.close (tie.spec (λ c κs. search rules) (λ c κs. search rules) (λ c κs. search rules) (λ c. search rules) returns)
+pub pw_step_spec : {M : Type 1} → statement M
+pw_step_spec = tie.close (tie.spec (λ c κs. search rules) (λ c κs. search rules) (λ c κs. search rules) (λ c. search rules) returns)

@@ -6,7 +6,7 @@ use Rattle.pottagewing.proofs.viewing.pw_data_run.Statement.{statement}
 use Rattle.pottagewing.proofs.viewing.pw_data_run.Tie as tie
 
 returns : tie.Need-returns
-returns c = given c.before.before.data-run.ensures c.give.ensures
+returns c = given c.data_run.ensures c.give.ensures
 
-pub pw-data-run-spec : {M : Type 1} → statement M
-pw-data-run-spec = tie.close (tie.spec (λ c κs. search rules) (λ c κs. search rules) returns)
+pub pw_data_run_spec : {M : Type 1} → statement M
+pw_data_run_spec = tie.close (tie.spec (λ c κs. search rules) (λ c κs. search rules) returns)

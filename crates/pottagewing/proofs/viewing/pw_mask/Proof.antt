@@ -11,5 +11,5 @@ returns c =
     let g = given t.mask.ensures.0 c.give.ensures in
     (g.0, (g.1, t.mask.ensures.1))
 
-pub pw-mask-spec : {M : Type 1} → statement M
-pw-mask-spec = tie.close (tie.spec (λ c κs. search rules) (λ c κs. search rules) (λ c. search rules) returns)
+pub pw_mask_spec : {M : Type 1} → statement M
+pw_mask_spec = tie.close (tie.spec (λ c κs. search rules) (λ c κs. search rules) (λ c. search rules) returns)

@@ -11,5 +11,5 @@ returns c =
     let g = given t.overlaps.ensures.0 c.give.ensures in
     (g.0, (g.1, t.overlaps.ensures.1))
 
-pub pw-overlaps-spec : {M : Type 1} → statement M
-pw-overlaps-spec = tie.close (tie.spec (λ c κs. search rules) (λ c κs. search rules) (λ c. search rules) returns)
+pub pw_overlaps_spec : {M : Type 1} → statement M
+pw_overlaps_spec = tie.close (tie.spec (λ c κs. search rules) (λ c κs. search rules) (λ c. search rules) returns)
