@@ -9,8 +9,7 @@ ghost use Rattle.c_answers.specs.Reply.{refusal_number, values_of, count_values}
 ghost use Rattle.c_answers.specs.Codec.{instr_values, named, targets_values};
 
 // Accepted: form, size, three operands.
-#[unsafe(no_mangle)]
-pub extern "C" fn pw_decode(bytes: &[u8], answer: &mut [i64; 5]) -> u32
+pub fn pw_decode(bytes: &[u8], answer: &mut [i64; 5]) -> u32
     ensures value { result ≡ refusal_number (decode_answer bytes.now) }
     ensures answer_after { answer.new ≡ values_of instr_values (decode_answer bytes.now) }
 {
@@ -18,15 +17,7 @@ pub extern "C" fn pw_decode(bytes: &[u8], answer: &mut [i64; 5]) -> u32
 }
 
 // Accepted: the number of bytes written.
-#[unsafe(no_mangle)]
-pub extern "C" fn pw_encode(
-    first: u8,
-    a: i32,
-    b: i32,
-    c: i32,
-    out: &mut [u8],
-    answer: &mut [i64; 5],
-) -> u32
+pub fn pw_encode(first: u8, a: i32, b: i32, c: i32, out: &mut [u8], answer: &mut [i64; 5]) -> u32
     ensures value { result ≡ refusal_number (encode_answer (named first a b c) out.old) }
     ensures answer_after { answer.new ≡ values_of count_values (encode_answer (named first a b c) out.old) }
     ensures out_after { out.new ≡ encode_room (named first a b c) out.old }
@@ -35,8 +26,7 @@ pub extern "C" fn pw_encode(
 }
 
 // Accepted: form, size, three fields.
-#[unsafe(no_mangle)]
-pub extern "C" fn pw_resolve(
+pub fn pw_resolve(
     mode: u32,
     first: u8,
     a: i32,
@@ -52,8 +42,7 @@ pub extern "C" fn pw_resolve(
 }
 
 // Accepted: how many targets, then the targets.
-#[unsafe(no_mangle)]
-pub extern "C" fn pw_targets(
+pub fn pw_targets(
     mode: u32,
     position: u32,
     first: u8,

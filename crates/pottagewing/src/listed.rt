@@ -16,8 +16,7 @@ ghost use Rattle.c_answers.specs.Parsing.{input_values};
 ghost use Rattle.c_answers.specs.Places.{place_in, line_values, words_after};
 
 // Accepted: the number of bytes written.
-#[unsafe(no_mangle)]
-pub extern "C" fn pw_listing(
+pub fn pw_listing(
     mode: u32,
     image: &[u8],
     marks: &[u8],
@@ -34,8 +33,7 @@ pub extern "C" fn pw_listing(
 }
 
 // Accepted: the number of bytes written.
-#[unsafe(no_mangle)]
-pub extern "C" fn pw_code_line(
+pub fn pw_code_line(
     mode: u32,
     position: u32,
     bytes: &[u8],
@@ -50,8 +48,7 @@ pub extern "C" fn pw_code_line(
 }
 
 // Accepted: the number of bytes written, those of a refusal's line among them.
-#[unsafe(no_mangle)]
-pub extern "C" fn pw_list_text(text: &[u8], room: &mut [u8], answer: &mut [i64; 5]) -> u32
+pub fn pw_list_text(text: &[u8], room: &mut [u8], answer: &mut [i64; 5]) -> u32
     ensures value { result ≡ refusal_number (room_answer [] (output_of text.now) room.old) }
     ensures answer_after { answer.new ≡ values_of count_values (room_answer [] (output_of text.now) room.old) }
     ensures room_after { room.new ≡ room_after [] (output_of text.now) room.old }
@@ -60,13 +57,7 @@ pub extern "C" fn pw_list_text(text: &[u8], room: &mut [u8], answer: &mut [i64; 
 }
 
 // Accepted: how many entries, and how many bytes.
-#[unsafe(no_mangle)]
-pub extern "C" fn pw_parse(
-    text: &[u8],
-    entries: &mut [u32],
-    image: &mut [u8],
-    answer: &mut [i64; 5],
-) -> u32
+pub fn pw_parse(text: &[u8], entries: &mut [u32], image: &mut [u8], answer: &mut [i64; 5]) -> u32
     ensures value { result ≡ refusal_number (parse_answer text.now entries.old image.old) }
     ensures answer_after { answer.new ≡ values_of input_values (parse_answer text.now entries.old image.old) }
     ensures entries_after { entries.new ≡ parse_entries text.now entries.old image.old }
@@ -76,8 +67,7 @@ pub extern "C" fn pw_parse(
 }
 
 // Accepted: the number of bytes written, those of `R` lines among them.
-#[unsafe(no_mangle)]
-pub extern "C" fn pw_report_text(text: &[u8], room: &mut [u8], answer: &mut [i64; 5]) -> u32
+pub fn pw_report_text(text: &[u8], room: &mut [u8], answer: &mut [i64; 5]) -> u32
     ensures value { result ≡ refusal_number (report_answer text.now room.old) }
     ensures answer_after { answer.new ≡ values_of count_values (report_answer text.now room.old) }
     ensures room_after { room.new ≡ report_room text.now room.old }
@@ -86,8 +76,7 @@ pub extern "C" fn pw_report_text(text: &[u8], room: &mut [u8], answer: &mut [i64
 }
 
 // Accepted: the number of lines read.
-#[unsafe(no_mangle)]
-pub extern "C" fn pw_read_back(
+pub fn pw_read_back(
     mode: u32,
     text: &[u8],
     length: u32,
@@ -104,13 +93,7 @@ pub extern "C" fn pw_read_back(
 }
 
 // Accepted: the letter, the position, and how many positions or bytes follow, and the words are the next place; all values 0 at the end.
-#[unsafe(no_mangle)]
-pub extern "C" fn pw_read_line(
-    mode: u32,
-    text: &[u8],
-    place: &mut [u64; 4],
-    answer: &mut [i64; 5],
-) -> u32
+pub fn pw_read_line(mode: u32, text: &[u8], place: &mut [u64; 4], answer: &mut [i64; 5]) -> u32
     ensures value { result ≡ refusal_number (read_answer (mode_of mode) text.now (place_in place.old)) }
     ensures answer_after { answer.new ≡ values_of line_values (read_answer (mode_of mode) text.now (place_in place.old)) }
     ensures place_after { place.new ≡ words_after (read_answer (mode_of mode) text.now (place_in place.old)) place.old }
@@ -119,13 +102,7 @@ pub extern "C" fn pw_read_line(
 }
 
 // Accepted: the number of bytes written, those of a refusal's line among them.
-#[unsafe(no_mangle)]
-pub extern "C" fn pw_unlist_text(
-    text: &[u8],
-    length: u32,
-    room: &mut [u8],
-    answer: &mut [i64; 5],
-) -> u32
+pub fn pw_unlist_text(text: &[u8], length: u32, room: &mut [u8], answer: &mut [i64; 5]) -> u32
     ensures value { result ≡ refusal_number (room_answer [] (unlisted_of text.now length) room.old) }
     ensures answer_after { answer.new ≡ values_of count_values (room_answer [] (unlisted_of text.now length) room.old) }
     ensures room_after { room.new ≡ room_after [] (unlisted_of text.now length) room.old }

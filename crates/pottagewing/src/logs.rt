@@ -9,8 +9,7 @@ ghost use Rattle.c_answers.specs.Reply.{refusal_number, values_of};
 ghost use Rattle.c_answers.specs.Logs.{replay_values, log_of, words_of};
 
 // Accepted: the lines, the interrupts and the free moves.
-#[unsafe(no_mangle)]
-pub extern "C" fn pw_replay(
+pub fn pw_replay(
     mode: u32,
     text: &[u8],
     image: &[u8],
@@ -32,16 +31,14 @@ pub extern "C" fn pw_replay(
 }
 
 // Makes the words a record before the first block.
-#[unsafe(no_mangle)]
-pub extern "C" fn pw_replay_open(words: &mut [u64; 7])
+pub fn pw_replay_open(words: &mut [u64; 7])
     ensures { words.new ≡ words_of begun }
 {
     c_answers::replay_open(words);
 }
 
 // Accepted: the lines, the interrupts and the free moves of all blocks up to this one.
-#[unsafe(no_mangle)]
-pub extern "C" fn pw_replay_block(
+pub fn pw_replay_block(
     mode: u32,
     words: &mut [u64; 7],
     text: &[u8],
@@ -77,8 +74,7 @@ pub extern "C" fn pw_replay_block(
 }
 
 // Accepted: the lines, the interrupts and the free moves of the log.
-#[unsafe(no_mangle)]
-pub extern "C" fn pw_replay_close(words: &[u64; 7], answer: &mut [i64; 5]) -> u32
+pub fn pw_replay_close(words: &[u64; 7], answer: &mut [i64; 5]) -> u32
     ensures value { result ≡ refusal_number (closed_of (log_of words.now)) }
     ensures answer_after { answer.new ≡ values_of replay_values (closed_of (log_of words.now)) }
 {

@@ -6,13 +6,7 @@ ghost use Rattle.map.specs.Update.{update_answer, update_words};
 ghost use Rattle.c_answers.specs.Reply.{refusal_number, values_of, count_values};
 
 // Accepted: the number of words written.
-#[unsafe(no_mangle)]
-pub extern "C" fn pw_map_build(
-    image: &[u8],
-    marks: &[u8],
-    words: &mut [u64],
-    answer: &mut [i64; 5],
-) -> u32
+pub fn pw_map_build(image: &[u8], marks: &[u8], words: &mut [u64], answer: &mut [i64; 5]) -> u32
     ensures value { result ≡ refusal_number (build_answer image.now marks.now words.old) }
     ensures answer_after { answer.new ≡ values_of count_values (build_answer image.now marks.now words.old) }
     ensures words_after { words.new ≡ build_words image.now marks.now words.old }
@@ -21,13 +15,7 @@ pub extern "C" fn pw_map_build(
 }
 
 // Accepted: 1 where the position is code, else 0.
-#[unsafe(no_mangle)]
-pub extern "C" fn pw_map_test(
-    words: &[u64],
-    length: u32,
-    position: u32,
-    answer: &mut [i64; 5],
-) -> u32
+pub fn pw_map_test(words: &[u64], length: u32, position: u32, answer: &mut [i64; 5]) -> u32
     ensures value { result ≡ refusal_number (test_answer words.now length position) }
     ensures answer_after { answer.new ≡ values_of count_values (test_answer words.now length position) }
 {
@@ -35,14 +23,7 @@ pub extern "C" fn pw_map_test(
 }
 
 // Accepted: how many positions of the stretch are code.
-#[unsafe(no_mangle)]
-pub extern "C" fn pw_map_count(
-    words: &[u64],
-    length: u32,
-    begin: u32,
-    end: u32,
-    answer: &mut [i64; 5],
-) -> u32
+pub fn pw_map_count(words: &[u64], length: u32, begin: u32, end: u32, answer: &mut [i64; 5]) -> u32
     ensures value { result ≡ refusal_number (count_answer words.now length begin end) }
     ensures answer_after { answer.new ≡ values_of count_values (count_answer words.now length begin end) }
 {
@@ -50,13 +31,7 @@ pub extern "C" fn pw_map_count(
 }
 
 // Accepted: the first data byte's position, or the image's length.
-#[unsafe(no_mangle)]
-pub extern "C" fn pw_map_first_data(
-    words: &[u64],
-    length: u32,
-    position: u32,
-    answer: &mut [i64; 5],
-) -> u32
+pub fn pw_map_first_data(words: &[u64], length: u32, position: u32, answer: &mut [i64; 5]) -> u32
     ensures value { result ≡ refusal_number (first_answer words.now length position) }
     ensures answer_after { answer.new ≡ values_of count_values (first_answer words.now length position) }
 {
@@ -64,8 +39,7 @@ pub extern "C" fn pw_map_first_data(
 }
 
 // Accepted: the number of bits set, which is the instruction's size.
-#[unsafe(no_mangle)]
-pub extern "C" fn pw_map_update(
+pub fn pw_map_update(
     image: &[u8],
     marks: &[u8],
     words: &mut [u64],

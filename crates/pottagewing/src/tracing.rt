@@ -9,8 +9,7 @@ ghost use Rattle.c_answers.specs.Reply.{refusal_number, values_of, count_values}
 ghost use Rattle.c_answers.specs.Tracing.{step_values, run_values, sweep_values};
 
 // Accepted: the number of positions set.
-#[unsafe(no_mangle)]
-pub extern "C" fn pw_start(
+pub fn pw_start(
     image: &[u8],
     marks: &mut [u8],
     entries: &[u32],
@@ -25,14 +24,7 @@ pub extern "C" fn pw_start(
 }
 
 // Accepted: the new mark, and how many positions became waiting.
-#[unsafe(no_mangle)]
-pub extern "C" fn pw_step(
-    mode: u32,
-    image: &[u8],
-    marks: &mut [u8],
-    p: u32,
-    answer: &mut [i64; 5],
-) -> u32
+pub fn pw_step(mode: u32, image: &[u8], marks: &mut [u8], p: u32, answer: &mut [i64; 5]) -> u32
     ensures value { result ≡ refusal_number (step_answer (mode_of mode) image.now marks.old p) }
     ensures answer_after { answer.new ≡ values_of step_values (step_answer (mode_of mode) image.now marks.old p) }
     ensures marks_after { marks.new ≡ step_marks (mode_of mode) image.now marks.old p }
@@ -41,8 +33,7 @@ pub extern "C" fn pw_step(
 }
 
 // Accepted: 1 where it finished or 0 where the limit stopped it, the steps, and the positions noted.
-#[unsafe(no_mangle)]
-pub extern "C" fn pw_run(
+pub fn pw_run(
     mode: u32,
     image: &[u8],
     marks: &mut [u8],
@@ -76,8 +67,7 @@ pub extern "C" fn pw_run(
 }
 
 // Accepted: the sweeps, the last one counted, and the steps.
-#[unsafe(no_mangle)]
-pub extern "C" fn pw_sweep(
+pub fn pw_sweep(
     mode: u32,
     image: &[u8],
     marks: &mut [u8],

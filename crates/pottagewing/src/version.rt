@@ -8,8 +8,7 @@ impl Version {
     pub const NUMBER: u32 = 6;
 }
 
-#[unsafe(no_mangle)]
-pub extern "C" fn pw_version() -> u32
+pub fn pw_version() -> u32
     ensures { result ≡ 6 }
 {
     Version::NUMBER

@@ -9,8 +9,7 @@ ghost use Rattle.c_answers.specs.Modes.{mode_of};
 ghost use Rattle.c_answers.specs.Reply.{five, refusal_number, values_of, count_values};
 
 // Accepted: the number of bytes written.
-#[unsafe(no_mangle)]
-pub extern "C" fn pw_mask(image: &[u8], marks: &[u8], mask: &mut [u8], answer: &mut [i64; 5]) -> u32
+pub fn pw_mask(image: &[u8], marks: &[u8], mask: &mut [u8], answer: &mut [i64; 5]) -> u32
     ensures value { result ≡ refusal_number (mask_answer image.now marks.now mask.old) }
     ensures answer_after { answer.new ≡ values_of count_values (mask_answer image.now marks.now mask.old) }
     ensures mask_after { mask.new ≡ mask_room image.now marks.now mask.old }
@@ -19,8 +18,7 @@ pub extern "C" fn pw_mask(image: &[u8], marks: &[u8], mask: &mut [u8], answer: &
 }
 
 // Accepted: the number of bytes written.
-#[unsafe(no_mangle)]
-pub extern "C" fn pw_target_marks(
+pub fn pw_target_marks(
     mode: u32,
     image: &[u8],
     marks: &[u8],
@@ -35,8 +33,7 @@ pub extern "C" fn pw_target_marks(
 }
 
 // Accepted: the number of positions written.
-#[unsafe(no_mangle)]
-pub extern "C" fn pw_overlaps(
+pub fn pw_overlaps(
     image: &[u8],
     marks: &[u8],
     p: u32,
@@ -51,8 +48,7 @@ pub extern "C" fn pw_overlaps(
 }
 
 // Accepted: the number of positions written.
-#[unsafe(no_mangle)]
-pub extern "C" fn pw_arrivals(
+pub fn pw_arrivals(
     mode: u32,
     image: &[u8],
     marks: &[u8],
@@ -68,8 +64,7 @@ pub extern "C" fn pw_arrivals(
 }
 
 // Never refused: the length of the run, which begins at p.
-#[unsafe(no_mangle)]
-pub extern "C" fn pw_data_run(image: &[u8], mask: &[u8], p: u32, answer: &mut [i64; 5]) -> u32
+pub fn pw_data_run(image: &[u8], mask: &[u8], p: u32, answer: &mut [i64; 5]) -> u32
     ensures value { result ≡ 0 }
     ensures answer_after { answer.new ≡ five (count_values (length (data_run image.now mask.now p))) }
 {
