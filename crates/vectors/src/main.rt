@@ -7,8 +7,8 @@ ghost use Rattle.std.specs.Prelude.{◌≡◌, ◌≤◌, length, IfOk};
 
 mod calls;
 mod line;
+mod list;
 mod narrow;
-mod replay;
 mod rings;
 mod traces;
 
@@ -50,6 +50,6 @@ fn main(rt: HostRuntime) -> io::Result<()> {
     if n == text.len() {
         return println!(rt; "vectors: too long");
     }
-    let tally = replay::replay(&text[0..n]);
+    let tally = list::replay(&text[0..n]);
     report(&rt, tally.held, tally.all)
 }

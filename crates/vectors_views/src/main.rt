@@ -5,7 +5,7 @@
 ghost use Rattle.std.specs.Prelude.{◌≡◌, ◌≤◌, length, IfOk};
 
 mod line;
-mod replay;
+mod list;
 mod rings;
 mod view;
 
@@ -47,6 +47,6 @@ fn main(rt: HostRuntime) -> io::Result<()> {
     if n == text.len() {
         return println!(rt; "views: too long");
     }
-    let tally = replay::replay(&text[0..n]);
+    let tally = list::replay(&text[0..n]);
     report(&rt, tally.held, tally.all)
 }
