@@ -3,16 +3,18 @@
 // The list was made by `compare/run --vectors SRC` over the original Rust's sources; data/ABOUT describes its lines.
 #![tactic(auto)]
 
-ghost use Rattle.std.specs.Prelude.{◌≡◌, length};
+ghost use Rattle.std.specs.Prelude.{◌≡◌, ◌≤◌, length, IfOk};
 
 mod calls;
 mod line;
+mod list;
 mod narrow;
-mod replay;
 mod rings;
 mod traces;
 
-use libc::STDOUT_FILENO;
+use std::fs::File;
+use std::io::Read;
+use std::{fs, io};
 
 // Room for more than the list has. What a short room would cut off is not passed over: see `main`.
 fn room() -> [u8; 1_000_000]
@@ -21,28 +23,33 @@ fn room() -> [u8; 1_000_000]
     [0; 1_000_000]
 }
 
-fn report(held: u64, all: u64) {
-    io::write_all(STDOUT_FILENO, b"vectors: ");
-    io::print_decimal(STDOUT_FILENO, held);
-    io::write_all(STDOUT_FILENO, b" of ");
-    io::print_decimal(STDOUT_FILENO, all);
-    io::write_all(STDOUT_FILENO, b" hold\n");
+// Reads until `room` is full or the file ends, and says how many bytes it put at its start.
+fn read_full(file: &mut File, room: &mut [u8]) -> io::Result<usize>
+    ensures { IfOk result (λ n. n ≤ length room.new) }
+{
+    let mut done: usize = 0;
+    while done < room.len() {
+        let n = file.read(&mut room[done..])?;
+        if n == 0 {
+            break;
+        }
+        done += n;
+    }
+    Ok(done)
 }
 
-fn main() {
-    let path = b"vectors";
-    let file = os::open_read(path);
-    if file < 0 {
-        os::fail(path);
-        return;
-    }
+fn report(rt: &impl Print, held: u64, all: u64) -> io::Result<()> {
+    println!(rt; "vectors: {held} of {all} hold")
+}
+
+fn main(rt: HostRuntime) -> io::Result<()> {
+    let mut file = fs::open(&rt, "vectors")?;
     let mut text = room();
-    let n = io::read_full(file, &mut text);
-    libc::close(file);
+    let n = read_full(&mut file, &mut text)?;
+    drop(file);
     if n == text.len() {
-        io::write_all(STDOUT_FILENO, b"vectors: too long\n");
-        return;
+        return println!(rt; "vectors: too long");
     }
-    let tally = replay::replay(&text[0..n]);
-    report(tally.held, tally.all);
+    let tally = list::replay(&text[0..n]);
+    report(&rt, tally.held, tally.all)
 }

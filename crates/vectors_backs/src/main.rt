@@ -2,7 +2,7 @@
 // The list was made by `compare/run --backs SRC`; data/ABOUT describes its lines.
 #![tactic(auto)]
 
-ghost use Rattle.std.specs.Prelude.{◌≡◌, length};
+ghost use Rattle.std.specs.Prelude.{◌≡◌, ◌≤◌, length, IfOk};
 
 mod case;
 mod judge;
@@ -10,7 +10,9 @@ mod number;
 mod part;
 mod replay;
 
-use libc::STDOUT_FILENO;
+use std::fs::File;
+use std::io::Read;
+use std::{fs, io};
 
 // More than the list has, and more than any of its texts.
 fn list_room() -> [u8; 100_000]
@@ -26,30 +28,35 @@ fn wanted_room() -> [u8; 140_000]
     [0; 140_000]
 }
 
-fn report(held: u64, all: u64) {
-    io::write_all(STDOUT_FILENO, b"readings back: ");
-    io::print_decimal(STDOUT_FILENO, held);
-    io::write_all(STDOUT_FILENO, b" of ");
-    io::print_decimal(STDOUT_FILENO, all);
-    io::write_all(STDOUT_FILENO, b" hold\n");
+// Reads until `room` is full or the file ends, and says how many bytes it put at its start.
+fn read_full(file: &mut File, room: &mut [u8]) -> io::Result<usize>
+    ensures { IfOk result (λ n. n ≤ length room.new) }
+{
+    let mut done: usize = 0;
+    while done < room.len() {
+        let n = file.read(&mut room[done..])?;
+        if n == 0 {
+            break;
+        }
+        done += n;
+    }
+    Ok(done)
 }
 
-fn main() {
-    let path = b"backs";
-    let file = os::open_read(path);
-    if file < 0 {
-        os::fail(path);
-        return;
-    }
+fn report(rt: &impl Print, held: u64, all: u64) -> io::Result<()> {
+    println!(rt; "readings back: {held} of {all} hold")
+}
+
+fn main(rt: HostRuntime) -> io::Result<()> {
+    let mut file = fs::open(&rt, "backs")?;
     let mut list = list_room();
-    let n = io::read_full(file, &mut list);
-    libc::close(file);
+    let n = read_full(&mut file, &mut list)?;
+    drop(file);
     if n == list.len() {
-        io::write_all(STDOUT_FILENO, b"readings back: too long\n");
-        return;
+        return println!(rt; "readings back: too long");
     }
     let mut text = list_room();
     let mut wanted = wanted_room();
     let tally = replay::replay(&list[0..n], &mut text, &mut wanted);
-    report(tally.held, tally.all);
+    report(&rt, tally.held, tally.all)
 }

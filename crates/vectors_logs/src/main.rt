@@ -2,7 +2,7 @@
 // The list was made by `compare/run --logs SRC`; data/ABOUT describes its lines.
 #![tactic(auto)]
 
-ghost use Rattle.std.specs.Prelude.{◌≡◌, length};
+ghost use Rattle.std.specs.Prelude.{◌≡◌, ◌≤◌, length, IfOk};
 
 mod blocks;
 mod case;
@@ -13,7 +13,9 @@ mod number;
 mod part;
 mod wanted;
 
-use libc::STDOUT_FILENO;
+use std::fs::File;
+use std::io::Read;
+use std::{fs, io};
 
 // More than the list has.
 fn list_room() -> [u8; 100_000]
@@ -49,27 +51,32 @@ fn counts_room() -> [u64; 140_000]
     [counts::OLD; 140_000]
 }
 
-fn report(held: u64, all: u64) {
-    io::write_all(STDOUT_FILENO, b"logs: ");
-    io::print_decimal(STDOUT_FILENO, held);
-    io::write_all(STDOUT_FILENO, b" of ");
-    io::print_decimal(STDOUT_FILENO, all);
-    io::write_all(STDOUT_FILENO, b" hold\n");
+// Reads until `room` is full or the file ends, and says how many bytes it put at its start.
+fn read_full(file: &mut File, room: &mut [u8]) -> io::Result<usize>
+    ensures { IfOk result (λ n. n ≤ length room.new) }
+{
+    let mut done: usize = 0;
+    while done < room.len() {
+        let n = file.read(&mut room[done..])?;
+        if n == 0 {
+            break;
+        }
+        done += n;
+    }
+    Ok(done)
 }
 
-fn main() {
-    let path = b"logs";
-    let file = os::open_read(path);
-    if file < 0 {
-        os::fail(path);
-        return;
-    }
+fn report(rt: &impl Print, held: u64, all: u64) -> io::Result<()> {
+    println!(rt; "logs: {held} of {all} hold")
+}
+
+fn main(rt: HostRuntime) -> io::Result<()> {
+    let mut file = fs::open(&rt, "logs")?;
     let mut room = list_room();
-    let n = io::read_full(file, &mut room);
-    libc::close(file);
+    let n = read_full(&mut file, &mut room)?;
+    drop(file);
     if n == room.len() {
-        io::write_all(STDOUT_FILENO, b"logs: too long\n");
-        return;
+        return println!(rt; "logs: too long");
     }
     let mut text = text_room();
     let mut given = given_room();
@@ -82,5 +89,5 @@ fn main() {
         &mut entries,
         &mut counts,
     );
-    report(tally.held, tally.all);
+    report(&rt, tally.held, tally.all)
 }

@@ -3,7 +3,7 @@
 // The list was made by `compare/run --terms SRC`; data/ABOUT describes its lines.
 #![tactic(auto)]
 
-ghost use Rattle.std.specs.Prelude.{◌≡◌, length};
+ghost use Rattle.std.specs.Prelude.{◌≤◌, length, IfOk};
 
 mod blocks;
 mod call;
@@ -17,37 +17,46 @@ mod rooms;
 mod short;
 mod sum;
 
-use libc::STDOUT_FILENO;
 use replay::Tally;
+use std::fs::File;
+use std::io::Read;
+use std::{fs, io};
 
-fn print(what: &[u8], tally: Tally) {
-    io::write_all(STDOUT_FILENO, what);
-    io::print_decimal(STDOUT_FILENO, tally.held);
-    io::write_all(STDOUT_FILENO, b" of ");
-    io::print_decimal(STDOUT_FILENO, tally.all);
-    io::write_all(STDOUT_FILENO, b" hold\n");
+// Reads until `room` is full or the file ends, and says how many bytes it put at its start.
+fn read_full(file: &mut File, room: &mut [u8]) -> io::Result<usize>
+    ensures { IfOk result (λ n. n ≤ length room.new) }
+{
+    let mut done: usize = 0;
+    while done < room.len() {
+        let n = file.read(&mut room[done..])?;
+        if n == 0 {
+            break;
+        }
+        done += n;
+    }
+    Ok(done)
 }
 
-fn main() {
-    let path = b"terms";
-    let file = os::open_read(path);
-    if file < 0 {
-        os::fail(path);
-        return;
-    }
+fn print(rt: &impl Print, what: &[u8], tally: Tally) -> io::Result<()> {
+    rt.write_all(what)?;
+    println!(rt; "{} of {} hold", tally.held, tally.all)
+}
+
+fn main(rt: HostRuntime) -> io::Result<()> {
+    let mut file = fs::open(&rt, "terms")?;
     let mut list = rooms::given();
-    let n = io::read_full(file, &mut list);
-    libc::close(file);
+    let n = read_full(&mut file, &mut list)?;
+    drop(file);
     if n == list.len() {
-        io::write_all(STDOUT_FILENO, b"terms: too long\n");
-        return;
+        return println!(rt; "terms: too long");
     }
     let mut given = rooms::given();
     let mut room = rooms::output();
     print(
+        &rt,
         b"terms: ",
         replay::replay(&list[0..n], &mut given, &mut room),
-    );
-    print(b"sums: ", full::replay());
-    print(b"rooms: ", short::replay());
+    )?;
+    print(&rt, b"sums: ", full::replay())?;
+    print(&rt, b"rooms: ", short::replay())
 }

@@ -6,5 +6,5 @@ use lib.ListN.{length-replicate}
 use Rattle.vectors_lists.proofs.large.Statement.{statement}
 use Rattle.vectors_lists.proofs.large.Tie as tie
 
-pub large-spec : {M : Type 1} → statement M
-large-spec = tie.close (tie.spec (λ c. sym (length-replicate {A = ℕ} 5046274 0)))
+pub large_spec : {M : Type 1} → statement M
+large_spec = tie.close (tie.spec (λ c. sym (length-replicate {A = ℕ} 5046274 0)))

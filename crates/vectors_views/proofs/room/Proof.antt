@@ -6,5 +6,5 @@ use lib.ListN.{length-replicate}
 use Rattle.vectors_views.proofs.room.Statement.{statement}
 use Rattle.vectors_views.proofs.room.Tie as tie
 
-pub room-spec : {M : Type 1} → statement M
-room-spec = tie.close (tie.spec (λ c. sym (length-replicate {A = ℕ} 100000 0)))
+pub room_spec : {M : Type 1} → statement M
+room_spec = tie.close (tie.spec (λ c. sym (length-replicate {A = ℕ} 100000 0)))

@@ -5,10 +5,10 @@ use borrow.Author.Rules.{rules}
 use Rattle.vectors.proofs.line.read.Statement.{statement}
 use Rattle.vectors.proofs.line.read.Tie as tie
 
-abbrev invariant_loop : tie.invariant-loop
+abbrev invariant_loop : tie.invariant-loop-k
 invariant_loop text numbers₀ k₀ numbers k = k ≤ 11
 
-abbrev decreases_loop : tie.decreases-loop
+abbrev decreases_loop : tie.decreases-loop-k
 decreases_loop text numbers₀ k₀ numbers k = 11 - k
 
 pub read_spec : {M : Type 1} → statement M

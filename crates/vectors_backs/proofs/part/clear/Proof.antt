@@ -7,10 +7,10 @@ use lib.ListN.{length}
 use Rattle.vectors_backs.proofs.part.clear.Statement.{statement}
 use Rattle.vectors_backs.proofs.part.clear.Tie as tie
 
-abbrev invariant_loop : tie.invariant-loop
+abbrev invariant_loop : tie.invariant-loop-i
 invariant_loop wanted₀ i₀ wanted i = (i ≤ length wanted₀) × (length wanted ≡ length wanted₀)
 
-abbrev decreases_loop : tie.decreases-loop
+abbrev decreases_loop : tie.decreases-loop-i
 decreases_loop wanted₀ i₀ wanted i = length wanted₀ - i
 
 pub clear_spec : {M : Type 1} → statement M

@@ -12,5 +12,5 @@ returns c =
     let k = piece_inside 10 s.args.list.now s.args.at c.end.result c.end.ensures s.requires in
     (omega (arith, c.end.ensures), k)
 
-pub line-end-spec : {M : Type 1} → statement M
-line-end-spec = tie.close (tie.spec (λ c κs. search rules) returns)
+pub line_end_spec : {M : Type 1} → statement M
+line_end_spec = tie.close (tie.spec (λ c κs. search rules) returns)

@@ -6,14 +6,14 @@ use lib.ListN.{length}
 use Rattle.vectors_lists.proofs.call.is_old.Statement.{statement}
 use Rattle.vectors_lists.proofs.call.is_old.Tie as tie
 
-abbrev invariant_loop : tie.invariant-loop
+abbrev invariant_loop : tie.invariant-loop-i
 invariant_loop room i₀ i = i ≤ length room
 
-abbrev decreases_loop : tie.decreases-loop
+abbrev decreases_loop : tie.decreases-loop-i
 decreases_loop room i₀ i = length room - i
 
-pub is-old-spec : {M : Type 1} → statement M
-is-old-spec =
+pub is_old_spec : {M : Type 1} → statement M
+is_old_spec =
     tie.close
     (tie.spec invariant_loop decreases_loop (λ c. search rules) (λ c. search rules) (λ c. search rules) (λ c. search rules) (λ c. search rules)
     (λ c. search rules) (λ c. search rules))

@@ -7,14 +7,14 @@ use lib.ListN.{length}
 use Rattle.vectors_lists.proofs.part.put_once.Statement.{statement}
 use Rattle.vectors_lists.proofs.part.put_once.Tie as tie
 
-abbrev invariant_loop : tie.invariant-loop
+abbrev invariant_loop : tie.invariant-loop-i
 invariant_loop written part at room₀ width next₀ i₀ room next i = (1 ≤ width) × (width ≤ 2) × (length room ≡ length room₀)
 
-abbrev decreases_loop : tie.decreases-loop
+abbrev decreases_loop : tie.decreases-loop-i
 decreases_loop written part at room₀ width next₀ i₀ room next i = length part - i
 
-pub put-once-spec : {M : Type 1} → statement M
-put-once-spec =
+pub put_once_spec : {M : Type 1} → statement M
+put_once_spec =
     tie.close
     (tie.spec invariant_loop decreases_loop (λ c κs. search rules) (λ c. search rules) (λ c. search rules) (λ c. search rules) (λ c. search rules)
     (λ c. search rules) (λ c. search rules) (λ c κs. search rules) (λ c. search rules) (λ c. search rules) (λ c. search rules)

@@ -6,10 +6,10 @@ use lib.ListN.{length}
 use Rattle.vectors_lists.proofs.sum.of.Statement.{statement}
 use Rattle.vectors_lists.proofs.sum.of.Tie as tie
 
-abbrev invariant_loop : tie.invariant-loop
+abbrev invariant_loop : tie.invariant-loop-i
 invariant_loop bytes mixed₀ i₀ mixed i = i ≤ length bytes
 
-abbrev decreases_loop : tie.decreases-loop
+abbrev decreases_loop : tie.decreases-loop-i
 decreases_loop bytes mixed₀ i₀ mixed i = length bytes - i
 
 pub of_spec : {M : Type 1} → statement M

@@ -7,10 +7,10 @@ use lib.ListN.{length}
 use Rattle.vectors_logs.proofs.counts.clear.Statement.{statement}
 use Rattle.vectors_logs.proofs.counts.clear.Tie as tie
 
-abbrev invariant_loop : tie.invariant-loop
+abbrev invariant_loop : tie.invariant-loop-i
 invariant_loop counts₀ i₀ counts i = (i ≤ length counts₀) × (length counts ≡ length counts₀)
 
-abbrev decreases_loop : tie.decreases-loop
+abbrev decreases_loop : tie.decreases-loop-i
 decreases_loop counts₀ i₀ counts i = length counts₀ - i
 
 pub clear_spec : {M : Type 1} → statement M

@@ -7,10 +7,10 @@ use lib.ListN.{length}
 use Rattle.vectors_logs.proofs.counts.copy.Statement.{statement}
 use Rattle.vectors_logs.proofs.counts.copy.Tie as tie
 
-abbrev invariant_loop : tie.invariant-loop
+abbrev invariant_loop : tie.invariant-loop-i
 invariant_loop from to₀ i₀ to i = (i ≤ length from) × (length to ≡ length to₀)
 
-abbrev decreases_loop : tie.decreases-loop
+abbrev decreases_loop : tie.decreases-loop-i
 decreases_loop from to₀ i₀ to i = length from - i
 
 pub copy_spec : {M : Type 1} → statement M

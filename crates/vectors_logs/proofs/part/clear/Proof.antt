@@ -7,10 +7,10 @@ use lib.ListN.{length}
 use Rattle.vectors_logs.proofs.part.clear.Statement.{statement}
 use Rattle.vectors_logs.proofs.part.clear.Tie as tie
 
-abbrev invariant_loop : tie.invariant-loop
+abbrev invariant_loop : tie.invariant-loop-i
 invariant_loop given₀ i₀ given i = (i ≤ length given₀) × (length given ≡ length given₀)
 
-abbrev decreases_loop : tie.decreases-loop
+abbrev decreases_loop : tie.decreases-loop-i
 decreases_loop given₀ i₀ given i = length given₀ - i
 
 pub clear_spec : {M : Type 1} → statement M

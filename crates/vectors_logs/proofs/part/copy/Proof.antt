@@ -7,10 +7,10 @@ use lib.ListN.{length}
 use Rattle.vectors_logs.proofs.part.copy.Statement.{statement}
 use Rattle.vectors_logs.proofs.part.copy.Tie as tie
 
-abbrev invariant_loop : tie.invariant-loop
+abbrev invariant_loop : tie.invariant-loop-i
 invariant_loop part at room₀ next₀ i₀ room next i = (i ≤ length part) × (length room ≡ length room₀)
 
-abbrev decreases_loop : tie.decreases-loop
+abbrev decreases_loop : tie.decreases-loop-i
 decreases_loop part at room₀ next₀ i₀ room next i = length part - i
 
 pub copy_spec : {M : Type 1} → statement M

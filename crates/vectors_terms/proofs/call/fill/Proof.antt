@@ -7,10 +7,10 @@ use lib.ListN.{length}
 use Rattle.vectors_terms.proofs.call.fill.Statement.{statement}
 use Rattle.vectors_terms.proofs.call.fill.Tie as tie
 
-abbrev invariant_loop : tie.invariant-loop
+abbrev invariant_loop : tie.invariant-loop-i
 invariant_loop room₀ i₀ room i = (i ≤ length room₀) × (length room ≡ length room₀)
 
-abbrev decreases_loop : tie.decreases-loop
+abbrev decreases_loop : tie.decreases-loop-i
 decreases_loop room₀ i₀ room i = length room₀ - i
 
 pub fill_spec : {M : Type 1} → statement M

@@ -7,10 +7,10 @@ use lib.ListN.{length}
 use Rattle.vectors_terms.proofs.part.put.Statement.{statement}
 use Rattle.vectors_terms.proofs.part.put.Tie as tie
 
-abbrev invariant_loop : tie.invariant-loop
+abbrev invariant_loop : tie.invariant-loop-k
 invariant_loop part times at room₀ next₀ k₀ room next k = (k ≤ times) × (length room ≡ length room₀)
 
-abbrev decreases_loop : tie.decreases-loop
+abbrev decreases_loop : tie.decreases-loop-k
 decreases_loop part times at room₀ next₀ k₀ room next k = times - k
 
 pub put_spec : {M : Type 1} → statement M

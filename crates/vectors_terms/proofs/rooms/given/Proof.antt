@@ -6,5 +6,5 @@ use lib.ListN.{length-replicate}
 use Rattle.vectors_terms.proofs.rooms.given.Statement.{statement}
 use Rattle.vectors_terms.proofs.rooms.given.Tie as tie
 
-pub given-spec : {M : Type 1} → statement M
-given-spec = tie.close (tie.spec (λ c. sym (length-replicate {A = ℕ} 120000 0)))
+pub given_spec : {M : Type 1} → statement M
+given_spec = tie.close (tie.spec (λ c. sym (length-replicate {A = ℕ} 120000 0)))

@@ -6,5 +6,5 @@ use lib.ListN.{length-replicate}
 use Rattle.vectors_terms.proofs.rooms.output.Statement.{statement}
 use Rattle.vectors_terms.proofs.rooms.output.Tie as tie
 
-pub output-spec : {M : Type 1} → statement M
-output-spec = tie.close (tie.spec (λ c. sym (length-replicate {A = ℕ} 210000 0)))
+pub output_spec : {M : Type 1} → statement M
+output_spec = tie.close (tie.spec (λ c. sym (length-replicate {A = ℕ} 210000 0)))

@@ -6,5 +6,5 @@ use lib.ListN.{length-replicate}
 use Rattle.vectors_terms.proofs.rooms.printed.Statement.{statement}
 use Rattle.vectors_terms.proofs.rooms.printed.Tie as tie
 
-pub printed-spec : {M : Type 1} → statement M
-printed-spec = tie.close (tie.spec (λ c. sym (length-replicate {A = ℕ} 512 0)))
+pub printed_spec : {M : Type 1} → statement M
+printed_spec = tie.close (tie.spec (λ c. sym (length-replicate {A = ℕ} 512 0)))

@@ -5,10 +5,10 @@ use borrow.Author.Rules.{rules}
 use Rattle.vectors_views.proofs.line.read.Statement.{statement}
 use Rattle.vectors_views.proofs.line.read.Tie as tie
 
-abbrev invariant_loop : tie.invariant-loop
+abbrev invariant_loop : tie.invariant-loop-k
 invariant_loop text values₀ k₀ values k = k ≤ 49
 
-abbrev decreases_loop : tie.decreases-loop
+abbrev decreases_loop : tie.decreases-loop-k
 decreases_loop text values₀ k₀ values k = 49 - k
 
 pub read_spec : {M : Type 1} → statement M

@@ -7,10 +7,10 @@ use lib.ListN.{length}
 use Rattle.vectors_views.proofs.rings.put.Statement.{statement}
 use Rattle.vectors_views.proofs.rings.put.Tie as tie
 
-abbrev invariant_loop : tie.invariant-loop
+abbrev invariant_loop : tie.invariant-loop-i
 invariant_loop part at room₀ i₀ room i = (i ≤ length part) × (length room ≡ length room₀)
 
-abbrev decreases_loop : tie.decreases-loop
+abbrev decreases_loop : tie.decreases-loop-i
 decreases_loop part at room₀ i₀ room i = length part - i
 
 pub put_spec : {M : Type 1} → statement M

@@ -5,14 +5,14 @@ use borrow.Author.Rules.{rules}
 use Rattle.vectors_views.proofs.view.are.Statement.{statement}
 use Rattle.vectors_views.proofs.view.are.Tie as tie
 
-abbrev invariant_loop : tie.invariant-loop
+abbrev invariant_loop : tie.invariant-loop-i
 invariant_loop bytes places values i₀ i = i ≤ 10
 
-abbrev decreases_loop : tie.decreases-loop
+abbrev decreases_loop : tie.decreases-loop-i
 decreases_loop bytes places values i₀ i = 10 - i
 
-pub are-spec : {M : Type 1} → statement M
-are-spec =
+pub are_spec : {M : Type 1} → statement M
+are_spec =
     tie.close
     (tie.spec invariant_loop decreases_loop
     (λ c. search rules) (λ c. search rules) (λ c. search rules) (λ c. search rules) (λ c. search rules) (λ c. search rules)
