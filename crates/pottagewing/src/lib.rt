@@ -1,6 +1,6 @@
 // The C face: each call answers 0 or the number of a refusal, and puts the values into a room of five that the caller lends.
-// include/pottagewing.h declares the calls for C. They all stand here, since an archive has the functions of its own crate alone; what each
-// hands over is worked out in c_answers.
+// include/pottagewing.h declares the calls for C, which pottagewing_c exports under these names; what each hands over is worked out in
+// c_answers.
 #![tactic(auto)]
 
 pub mod codec;

@@ -1,5 +1,5 @@
-// A reader: it holds the lent text of a listing, and the place of the line that is next. Each function over it is proved by a walk of its
-// MIR, by hand; `read_back::read::read_line` does the work, and `read`, whose parameters are plain, needs no walk where it is called.
+// A reader: it holds the lent text of a listing, and the place of the line that is next. `read_back::read::read_line` does the work, and
+// `read` has plain parameters.
 #![tactic(auto)]
 
 ghost use Rattle.std.specs.Prelude.{◌≡◌};
