@@ -4,8 +4,9 @@
 
 ghost use Rattle.std.specs.Prelude.{◌≡◌, ◌≤◌, length};
 
-use libc::{STDIN_FILENO, STDOUT_FILENO};
 use report_text::{Term, term};
+use std::io;
+use std::io::Read;
 use views::Viewed;
 
 // As much as is held of an image's text.
@@ -22,16 +23,23 @@ fn printed() -> [u8; Term::MOST_PRINTED]
     [0; Term::MOST_PRINTED]
 }
 
-fn show(viewed: Viewed, out: &[u8]) {
+fn show(rt: &HostRuntime, viewed: Viewed, out: &[u8]) -> io::Result<()> {
     if let Viewed::Written(n) = viewed {
         if n <= out.len() {
-            io::write_all(STDOUT_FILENO, &out[0..n]);
+            rt.write_all(&out[0..n])?;
         }
     }
+    Ok(())
 }
 
 // Takes a whole block: each call takes a byte at least.
-fn feed(before: Term, block: &[u8], held: &mut [u8], out: &mut [u8]) -> Term
+fn feed(
+    rt: &HostRuntime,
+    before: Term,
+    block: &[u8],
+    held: &mut [u8],
+    out: &mut [u8],
+) -> io::Result<Term>
     requires { (51200 ≤ length held.old) × (512 ≤ length out.old) }
 {
     let mut term = before;
@@ -39,36 +47,37 @@ fn feed(before: Term, block: &[u8], held: &mut [u8], out: &mut [u8]) -> Term
     while at < block.len() {
         let taken = term::take(term, &block[at..], held, out);
         let viewed = taken.printed;
-        show(viewed, out);
+        show(rt, viewed, out)?;
         let after = taken.term;
         term = after;
         at += taken.used;
     }
-    term
+    Ok(term)
 }
 
 // Blocks to the end of the input, or to the refusal 22. The loop counts its turns down, from a number that no input uses up, since nothing says
 // that an input ends.
-fn feed_all(block: &mut [u8], held: &mut [u8], out: &mut [u8]) -> Term
+fn feed_all(rt: &HostRuntime, block: &mut [u8], held: &mut [u8], out: &mut [u8]) -> io::Result<Term>
     requires { (51200 ≤ length held.old) × (512 ≤ length out.old) }
 {
+    let mut stdin = rt.stdin();
     let mut term = Term::new();
     let mut turns = u64::MAX;
     while 0 < turns && !term.over {
-        let n = io::count(libc::read(STDIN_FILENO, block), block);
+        let n = stdin.read(block)?;
         if n == 0 {
-            return term;
+            return Ok(term);
         }
-        term = feed(term, &block[0..n], held, out);
+        term = feed(rt, term, &block[0..n], held, out)?;
         turns -= 1;
     }
-    term
+    Ok(term)
 }
 
-fn main() {
-    let mut block = io::large_buffer();
+fn main(rt: HostRuntime) -> io::Result<()> {
+    let mut block = [0; 65_536];
     let mut held = held();
     let mut out = printed();
-    let term = feed_all(&mut block, &mut held, &mut out);
-    show(term::close(term, &held, &mut out), &out);
+    let term = feed_all(&rt, &mut block, &mut held, &mut out)?;
+    show(&rt, term::close(term, &held, &mut out), &out)
 }

@@ -2,9 +2,11 @@
 // argument is the image's length.
 #![tactic(auto)]
 
-ghost use Rattle.std.specs.Prelude.{◌≡◌, length};
+ghost use Rattle.std.specs.Prelude.{◌≡◌, ◌≤◌, IfOk, length};
 
-use libc::{STDERR_FILENO, STDIN_FILENO, STDOUT_FILENO};
+use std::io;
+use std::io::Read;
+use std::rt::Env;
 use unlist_text::Argument;
 use views::Viewed;
 
@@ -22,38 +24,49 @@ fn output() -> [u8; 133_120]
     [0; 133_120]
 }
 
-fn show(text: &[u8], length: usize, out: &mut [u8]) {
+fn show(rt: &HostRuntime, text: &[u8], length: usize, out: &mut [u8]) -> io::Result<()> {
     if let Viewed::Written(n) = unlist_text::unlist_text(text, length, out) {
         if n <= out.len() {
-            io::write_all(STDOUT_FILENO, &out[0..n]);
+            rt.write_all(&out[0..n])?;
         }
     }
+    Ok(())
 }
 
-fn unlist(length: usize) {
+// Reads until the room is full or the input ends: how many bytes it put at its start.
+fn read_full(from: &mut impl Read, room: &mut [u8]) -> io::Result<usize>
+    ensures { IfOk result (λ n. n ≤ length room.new) }
+{
+    let mut done: usize = 0;
+    while done < room.len() {
+        let n = from.read(&mut room[done..])?;
+        if n == 0 {
+            break;
+        }
+        done += n;
+    }
+    Ok(done)
+}
+
+fn unlist(rt: &HostRuntime, length: usize) -> io::Result<()> {
     let mut text = listing();
-    let n = io::read_full(STDIN_FILENO, &mut text);
+    let n = read_full(&mut rt.stdin(), &mut text)?;
     if n == text.len() {
-        io::write_all(
-            STDERR_FILENO,
-            b"unlist: the listing is longer than 5046272 bytes\n",
-        );
-        return;
+        return rt
+            .stderr()
+            .write_all(b"unlist: the listing is longer than 5046272 bytes\n");
     }
     let mut out = output();
-    show(&text[0..n], length, &mut out);
+    show(rt, &text[0..n], length, &mut out)
 }
 
-fn main() {
-    let mut word = io::buffer();
-    let n = os::arg(1, &mut word);
+fn main(rt: HostRuntime) -> io::Result<()> {
+    let mut word = [0; 4096];
+    let n = rt.arg(1, &mut word).unwrap_or(0);
     match unlist_text::number(&word[0..n]) {
-        Argument::Number(length) => unlist(length),
-        Argument::NotNumber => {
-            io::write_all(
-                STDERR_FILENO,
-                b"usage: unlist LENGTH < LISTING, LENGTH in 1 to 9 decimal digits\n",
-            );
-        }
+        Argument::Number(length) => unlist(&rt, length),
+        Argument::NotNumber => rt.stderr().write_all(
+            b"usage: unlist LENGTH < LISTING, LENGTH in 1 to 9 decimal digits\n",
+        ),
     }
 }
