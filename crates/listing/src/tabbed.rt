@@ -104,6 +104,7 @@ fn list_chosen(mode: Mode, image: &[u8], marks: &[u8], room: &mut [u8]) -> Viewe
 }
 
 // The listing of the traced image without arrivals: how many bytes were written.
+#[inline(never)]
 pub fn listing_declined(mode: Mode, image: &[u8], marks: &[u8], room: &mut [u8]) -> Viewed
     ensures result_value { viewed_of result ≡ listing_answer mode image.now marks.now Declined room.old }
     ensures room_after { room.new ≡ listing_room mode image.now marks.now Declined room.old }
@@ -116,6 +117,7 @@ pub fn listing_declined(mode: Mode, image: &[u8], marks: &[u8], room: &mut [u8])
 }
 
 // With them.
+#[inline(never)]
 fn listing_chosen(mode: Mode, image: &[u8], marks: &[u8], room: &mut [u8]) -> Viewed
     ensures result_value { viewed_of result ≡ listing_answer mode image.now marks.now Chosen room.old }
     ensures room_after { room.new ≡ listing_room mode image.now marks.now Chosen room.old }
