@@ -1,14 +1,16 @@
 -- The refusals 1 and 2 stepped through, whatever follows them.
 -- Assumes nothing.
-use mathlib.Core.Path.{◌≡◌, ◌∙◌}
+use mathlib.Core.Path.{◌≡◌, sym, ◌∙◌}
 use mathlib.Core.List.{List, [], ◌∷◌, ◌++◌}
 use Prim.Native.Nat.{ℕ, ◌<◌, ◌≤◌}
 use lib.IntN.{pos}
 use lib.ListN.{length}
 use borrow.Author.Tests.{lt-ltb, le-ltb}
 use Rattle.instruction.specs.Answer.{refused, Refusal, judge}
-use Rattle.instruction.proofs.Judging.{pass, stop}
-use Rattle.marks.specs.Refusals.{size_refusals}
+use Rattle.instruction.proofs.Judging.{pass, stop, first_of}
+use Rattle.marks.specs.Refusals.{size_refusals, size_refused}
+use Rattle.marks.specs.declared.sizes.SizeError.{SizeError}
+use Rattle.marks.specs.declared.sizes.SizeError.TheVariants.{LongImage, ShortMarks}
 
 module _ {A : Type 0} (image m : List ℕ) (rs : List Refusal) (a : A) where
   abbrev n : ℕ
@@ -23,3 +25,8 @@ module _ {A : Type 0} (image m : List ℕ) (rs : List Refusal) (a : A) where
 
     pub right_sizes : n ≤ length m → judge (size_refusals image m ++ rs) a ≡ judge rs a
     right_sizes h = pass _ _ _ (le-ltb 65536 n fits) ∙ pass _ _ _ (le-ltb (length m) n h)
+
+  -- what the two refuse alone they refuse, whatever follows
+  pub sizes_refused : (e : SizeError) → size_refused {A = Unit {0}} e ≡ judge (size_refusals image m) tt → size_refused e ≡ judge (size_refusals image m ++ rs) a
+  sizes_refused (LongImage k) e = sym (first_of rs tt a (size_refusals image m) 1 (pos k ∷ []) (sym e))
+  sizes_refused (ShortMarks k) e = sym (first_of rs tt a (size_refusals image m) 2 (pos k ∷ []) (sym e))

@@ -22,9 +22,7 @@ fn pin_one(marks: &mut [u8], n: usize, q: u32)
 pub fn pin(marks: &mut [u8], n: usize, pins: &[u32])
     ensures { marks.new ≡ pin n pins.now marks.old }
 {
-    let mut i = 0;
-    while i < pins.len() {
-        pin_one(marks, n, pins[i]);
-        i += 1;
+    for q in pins {
+        pin_one(marks, n, *q);
     }
 }
