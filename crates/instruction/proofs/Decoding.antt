@@ -3,7 +3,9 @@
 use Rattle.std.proofs.Common.{◌≡◌, ℕ, ◌-◌, ◌<◌, ◌≤◌, List, [], ◌∷◌, length, get_or, ℤ, pos, sym, refl, ap, ◌∙◌, ap₂, arith, le-ltb, lt-ltb, eq-eqb, ne_eqb}
 use Rattle.instruction.specs.Answer.{Answer, accepted, refused, on_accepted}
 use Rattle.instruction.specs.CutOff.{cut_values}
-use Rattle.instruction.specs.Decode.{decode_answer, parts_answer, fields_in, cut_at}
+use Rattle.instruction.specs.declared.decode.DecodeError.{DecodeError}
+use Rattle.instruction.specs.declared.decode.DecodeError.TheVariants.{Nothing, Cut}
+use Rattle.instruction.specs.Decode.{decode_refused, decode_answer, parts_answer, fields_in, cut_at}
 use Rattle.instruction.specs.Forms.{form_at, form_of, size_of}
 use Rattle.instruction.specs.Parts.{made_of, parts_of}
 use Rattle.instruction.specs.declared.answer.CutOff.{CutOff}
@@ -63,6 +65,10 @@ module _ (s : List ℕ) where
       by : (r : Answer Instr) → refused n vs ≡ on_accepted parts_of r → refused n vs ≡ r
       by (accepted i) f = absurd (differ f)
       by (refused m ws) f = let p : n ≡ m = cc in let q : vs ≡ ws = cc in cc
+
+  pub told_whole : (e : DecodeError) → decode_refused e ≡ parts_answer s → decode_refused e ≡ decode_answer s
+  told_whole Nothing f = refused_whole _ _ f
+  told_whole (Cut c) f = refused_whole _ _ f
 
   -- the parts are those of the instruction that decode answers
   pub record Made (v : Parts) : Type 0 where

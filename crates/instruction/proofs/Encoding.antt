@@ -5,7 +5,10 @@ use Rattle.instruction.specs.Answer.{Answer, accepted, refused, after}
 use Rattle.instruction.specs.Encode.{form_in, misfits, fit_answer, encode_answer, encode_room, instr_bytes}
 use Rattle.instruction.specs.Range.{unfit}
 use Rattle.instruction.specs.Forms.{form_at, bits, size_of}
-use Rattle.instruction.specs.Kinds.{kind_at}
+use Rattle.instruction.specs.Kinds.{kind_at, three_of}
+use Rattle.instruction.specs.ResolveOperand.{misfit_values}
+use Rattle.instruction.specs.declared.answer.Misfit.{Misfit}
+use Rattle.instruction.specs.declared.kind.Kinds.{Kinds}
 use Rattle.instruction.specs.Parts.{parts_of}
 use Rattle.instruction.specs.Code.{code_of}
 use Rattle.instruction.specs.Layout.{blank, bytes_by, written_room}
@@ -44,6 +47,32 @@ module _ (i : Instr) where
   pub fits : Unfit1 i false → Unfit2 i false → Unfit3 i false → accepted tt ≡ fit_answer i
   unfolding fit_answer
   fits a b c = sym (pass _ _ _ a ∙ pass _ _ _ b ∙ pass _ _ _ c ∙ done _)
+
+-- the same of what the code was answered for its parts and its kinds, each operand read back from the machine
+module _ (i : Instr) (v : Parts) (apart : v ≡ parts_of i) (k : Kinds) (kinds : k ≡ three_of (form_in i).shape) where
+  pub seen1 : {z : ℤ} {t : Bool} → z ≡ v.a → unfit k.a z ≡ t → Unfit1 i t
+  seen1 f e = let p : k.a ≡ kind_at (form_in i).shape 0 = ap (λ (k : Kinds). k.a) kinds in cc
+
+  pub seen2 : {z : ℤ} {t : Bool} → z ≡ v.b → unfit k.b z ≡ t → Unfit2 i t
+  seen2 f e = let p : k.b ≡ kind_at (form_in i).shape 1 = ap (λ (k : Kinds). k.b) kinds in cc
+
+  pub seen3 : {z : ℤ} {t : Bool} → z ≡ v.c → unfit k.c z ≡ t → Unfit3 i t
+  seen3 f e = let p : k.c ≡ kind_at (form_in i).shape 2 = ap (λ (k : Kinds). k.c) kinds in cc
+
+  -- the first operand that does not fit, and what is told of it
+  pub told1 : {z : ℤ} {m : Misfit} → z ≡ v.a → (unfit k.a z ≡ true) × (m ≡ record { operand = 1; value = z }) → refused 7 (misfit_values m) ≡ fit_answer i
+  told1 f e = let p = fit1 i (seen1 f e.0) in let q = e.1 in cc
+
+  module _ {x : ℤ} (fx : x ≡ v.a) (first : unfit k.a x ≡ false) where
+    pub told2 : {z : ℤ} {m : Misfit} → z ≡ v.b → (unfit k.b z ≡ true) × (m ≡ record { operand = 2; value = z }) → refused 7 (misfit_values m) ≡ fit_answer i
+    told2 f e = let p = fit2 i (seen1 fx first) (seen2 f e.0) in let q = e.1 in cc
+
+    module _ {y : ℤ} (fy : y ≡ v.b) (second : unfit k.b y ≡ false) where
+      pub told3 : {z : ℤ} {m : Misfit} → z ≡ v.c → (unfit k.c z ≡ true) × (m ≡ record { operand = 3; value = z }) → refused 7 (misfit_values m) ≡ fit_answer i
+      told3 f e = let p = fit3 i (seen1 fx first) (seen2 fy second) (seen3 f e.0) in let q = e.1 in cc
+
+      pub all_fit : {z : ℤ} → z ≡ v.c → unfit k.c z ≡ false → accepted tt ≡ fit_answer i
+      all_fit f e = fits i (seen1 fx first) (seen2 fy second) (seen3 f e)
 
 -- ---- encode
 

@@ -1,6 +1,6 @@
 -- What a shape reads out of bytes, in closed form: x is the first byte, p the second and q the third. A byte is the sum of its bits.
 -- Assumes nothing.
-use Rattle.std.proofs.Common.{◌≡◌, ℕ, ◌+◌, ◌*◌, ◌/◌, ◌%◌, ◌<◌, List, get_or, ℤ, pos, sym, refl, ap, add-zero, zero-add, arith}
+use Rattle.std.proofs.Common.{◌≡◌, ℕ, ◌+◌, ◌*◌, ◌/◌, ◌%◌, List, get_or, ℤ, pos, sym, refl, ap, add-zero, zero-add, arith}
 use Rattle.instruction.specs.Bytes.{Bytes}
 use Rattle.instruction.specs.Kinds.{kinds_of}
 use Rattle.instruction.specs.declared.kind.Shape.{Shape}

@@ -5,9 +5,10 @@ use lib.IntN.{sub_ℕ}
 use Rattle.instruction.specs.Answer.{Answer, accepted, refused, refuse, judge}
 use Rattle.instruction.specs.Code.{code_of}
 use Rattle.instruction.specs.Range.{outside, unfit}
-use Rattle.instruction.specs.ResolveOperand.{no_address, top, wrapped, nearest, difference, operand_refusals, field_of}
+use Rattle.instruction.specs.declared.answer.Misfit.{Misfit}
+use Rattle.instruction.specs.ResolveOperand.{misfit_values, no_address, top, wrapped, nearest, difference, operand_refusals, field_of}
 use Rattle.instruction.specs.declared.kind.Kind.{Kind}
-use Rattle.instruction.specs.declared.kind.Kind.TheVariants.{Page, Short, Long}
+use Rattle.instruction.specs.declared.kind.Kind.TheVariants.{Page, Far, Short, Long}
 use Rattle.instruction.proofs.Judging.{pass, stop, done}
 use Rattle.instruction.proofs.FieldSign.{diff}
 use Rattle.instruction.proofs.Sign.{natural}
@@ -20,6 +21,11 @@ address_is z e = let v = natural 65535 z e in ap code_of v.is
 pub wrapped_less : (z : ℤ) → wrapped z < 65536
 wrapped_less (pos n) = omega arith
 wrapped_less (negsuc n) = omega arith
+
+-- what is told of an operand that does not fit
+pub told : {A : Type 0} {m : Misfit} {n : ℕ} {z : ℤ} {r : Answer A} → m ≡ record { operand = n; value = z } → refused 7 (pos n ∷ z ∷ []) ≡ r
+    → refused 7 (misfit_values m) ≡ r
+told e f = cc
 
 -- ---- an operand that is its own field
 
@@ -37,6 +43,11 @@ module _ (k : Kind) (n : ℕ) (z : ℤ) where
 
 abbrev pub answer_of : Mode → ℕ → ℕ → Kind → ℤ → Answer ℤ
 answer_of mode base n k z = judge (operand_refusals mode base n k z) (field_of mode base k z)
+
+-- an operand of sixteen bits holds the addresses
+pub no_far : (z : ℤ) → unfit Far z ≡ no_address z
+unfolding unfit
+no_far z = refl
 
 module _ (mode : Mode) (base n : ℕ) (z : ℤ) where
   pub page_no : no_address z ≡ true → refused 7 (pos n ∷ z ∷ []) ≡ answer_of mode base n Page z

@@ -1,6 +1,6 @@
 -- What decode answers. Document 01, 'Forms', and refusals 12 and 5 of 'Numbers given when a call says no'.
 -- Assumes nothing.
-use Rattle.std.specs.Prelude.{ℕ, ◌-◌, List, [], ◌∷◌, length, ℤ, pos, ◌==◌, nat_lt, slice_index}
+use Rattle.std.specs.Prelude.{Result, Ok, Err, ℕ, ◌-◌, List, [], ◌∷◌, length, ℤ, pos, ◌==◌, nat_lt, slice_index}
 use Rattle.instruction.specs.Answer.{Answer, accepted, refused, refuse, judge, on_accepted}
 use Rattle.instruction.specs.CutOff.{cut_values}
 use Rattle.instruction.specs.Forms.{form_at, form_of, bits, size_of}
@@ -9,10 +9,8 @@ use Rattle.instruction.specs.Parts.{made_of, parts_of}
 use Rattle.instruction.specs.Code.{operand_of}
 use Rattle.instruction.specs.Pattern.{field}
 use Rattle.instruction.specs.declared.answer.CutOff.{CutOff}
-use Rattle.instruction.specs.declared.decode.Decoded.{Decoded}
-use Rattle.instruction.specs.declared.decode.Decoded.TheVariants.{Found, Nothing, Cut}
-use Rattle.instruction.specs.declared.decode.DecodedParts.{DecodedParts}
-use Rattle.instruction.specs.declared.decode.DecodedParts.TheVariants as parts
+use Rattle.instruction.specs.declared.decode.DecodeError.{DecodeError}
+use Rattle.instruction.specs.declared.decode.DecodeError.TheVariants.{Nothing, Cut}
 use Rattle.instruction.specs.declared.instr.Instr.{Instr}
 use Rattle.instruction.specs.declared.instr.Parts.{Parts}
 
@@ -29,11 +27,14 @@ fields_in k s = record { form = k; a = operand_in k s 0; b = operand_in k s 1; c
 unfoldable pub cut_at : List ℕ → ℕ → CutOff
 cut_at s p = record { position = p; first = slice_index s p; missing = size_of (form_at (form_of (slice_index s p))) - (length s - p) }
 
--- the number and values of each answer
-abbrev pub decoded_of : Decoded → Answer Instr
-decoded_of (Found i) = accepted i
-decoded_of Nothing = refused 12 (pos 0 ∷ [])
-decoded_of (Cut c) = refused 5 (cut_values c)
+-- the number and values of each refusal
+abbrev pub decode_refused : {A : Type 0} → DecodeError → Answer A
+decode_refused Nothing = refused 12 (pos 0 ∷ [])
+decode_refused (Cut c) = refused 5 (cut_values c)
+
+abbrev pub decoded_of : Result Instr DecodeError → Answer Instr
+decoded_of (Ok i) = accepted i
+decoded_of (Err e) = decode_refused e
 
 -- nothing: 12; cut off by the end: 5, with position 0; else the instruction of the form whose pattern matches
 unfoldable pub decode_answer : List ℕ → Answer Instr
@@ -47,10 +48,9 @@ decode_answer s =
 
 -- ---- the parts of the instruction
 
-abbrev pub decoded_parts_of : DecodedParts → Answer Parts
-decoded_parts_of (parts.Found v) = accepted v
-decoded_parts_of parts.Nothing = refused 12 (pos 0 ∷ [])
-decoded_parts_of (parts.Cut c) = refused 5 (cut_values c)
+abbrev pub decoded_parts_of : Result Parts DecodeError → Answer Parts
+decoded_parts_of (Ok v) = accepted v
+decoded_parts_of (Err e) = decode_refused e
 
 -- what decode answers, with its instruction taken apart
 unfoldable pub parts_answer : List ℕ → Answer Parts

@@ -1,6 +1,6 @@
 -- What encode answers and writes. Document 01, 'Resolving operands' (the ranges of fields) and refusals 7 and 11, in this order.
 -- Assumes nothing.
-use Rattle.std.specs.Prelude.{ℕ, List, [], ◌∷◌, ◌++◌, length, drop, pos, nat_lt}
+use Rattle.std.specs.Prelude.{Result, Ok, Err, ℕ, List, [], ◌∷◌, ◌++◌, length, drop, pos, nat_lt}
 use Rattle.instruction.specs.Answer.{Answer, accepted, refused, Refusal, refuse, judge, after}
 use Rattle.instruction.specs.Forms.{Form, form_at, bits, size_of}
 use Rattle.instruction.specs.Kinds.{kind_at}
@@ -9,10 +9,9 @@ use Rattle.instruction.specs.Parts.{parts_of}
 use Rattle.instruction.specs.Code.{code_of}
 use Rattle.instruction.specs.Pattern.{filled}
 use Rattle.instruction.specs.ResolveOperand.{misfit_values}
-use Rattle.instruction.specs.declared.encode.Encoded.{Encoded}
-use Rattle.instruction.specs.declared.encode.Encoded.TheVariants.{Written, Unfit, NoRoom}
-use Rattle.instruction.specs.declared.encode.Fit.{Fit}
-use Rattle.instruction.specs.declared.encode.Fit.TheVariants.{Fits, Outside}
+use Rattle.instruction.specs.declared.answer.Misfit.{Misfit}
+use Rattle.instruction.specs.declared.encode.EncodeError.{EncodeError}
+use Rattle.instruction.specs.declared.encode.EncodeError.TheVariants.{Unfit, NoRoom}
 use Rattle.instruction.specs.declared.instr.Instr.{Instr}
 
 -- the form of an instruction
@@ -29,9 +28,9 @@ misfits i =
 
 -- ---- whether every field is in its range
 
-abbrev pub fit_of : Fit → Answer (Unit {0})
-fit_of Fits = accepted tt
-fit_of (Outside m) = refused 7 (misfit_values m)
+abbrev pub fit_of : Result (Unit {0}) Misfit → Answer (Unit {0})
+fit_of (Ok u) = accepted tt
+fit_of (Err m) = refused 7 (misfit_values m)
 
 unfoldable pub fit_answer : Instr → Answer (Unit {0})
 fit_answer i = judge (misfits i) tt
@@ -42,10 +41,10 @@ fit_answer i = judge (misfits i) tt
 unfoldable pub instr_bytes : Instr → List ℕ
 instr_bytes i = filled (bits (form_in i)) (code_of (parts_of i).a ∷ code_of (parts_of i).b ∷ code_of (parts_of i).c ∷ [])
 
-abbrev pub encoded_of : Encoded → Answer ℕ
-encoded_of (Written n) = accepted n
-encoded_of (Unfit m) = refused 7 (misfit_values m)
-encoded_of (NoRoom n) = refused 11 (pos n ∷ [])
+abbrev pub encoded_of : Result ℕ EncodeError → Answer ℕ
+encoded_of (Ok n) = accepted n
+encoded_of (Err (Unfit m)) = refused 7 (misfit_values m)
+encoded_of (Err (NoRoom n)) = refused 11 (pos n ∷ [])
 
 -- the number of bytes written
 unfoldable pub encode_answer : Instr → List ℕ → Answer ℕ

@@ -1,24 +1,22 @@
 -- What resolve answers. Document 01, 'Resolving operands': a mode (document 02, W7), plain
 -- numbers and a base in, fields out, by refusals 14, 7, 8, 9 and 10.
 -- Assumes nothing.
-use Rattle.std.specs.Prelude.{ℕ, [], ◌∷◌, pos}
-use Rattle.instruction.specs.Answer.{Answer, accepted, refused, judge}
+use Rattle.std.specs.Prelude.{Result, Ok, Err, ℕ}
+use Rattle.instruction.specs.Answer.{Answer, accepted, judge}
 use Rattle.instruction.specs.Kinds.{three_of}
 use Rattle.instruction.specs.declared.kind.Kinds.{Kinds}
-use Rattle.instruction.specs.ResolveOperand.{field_of, why_of, refusals}
+use Rattle.instruction.specs.ResolveOperand.{field_of, resolve_refused, refusals}
 use Rattle.instruction.specs.Encode.{form_in}
 use Rattle.instruction.specs.Parts.{parts_of, made_of}
 use Rattle.instruction.specs.declared.instr.Instr.{Instr}
 use Rattle.instruction.specs.declared.instr.Parts.{Parts}
 use Rattle.instruction.specs.declared.mode.Mode.{Mode}
-use Rattle.instruction.specs.declared.resolve.Resolved.{Resolved}
-use Rattle.instruction.specs.declared.resolve.Resolved.TheVariants.{Fields, FarBase, Refused}
+use Rattle.instruction.specs.declared.resolve_operand.ResolveError.{ResolveError}
 
 -- the number and values of each answer
-abbrev pub resolved_of : Resolved → Answer Instr
-resolved_of (Fields i) = accepted i
-resolved_of (FarBase b) = refused 14 (pos b ∷ [])
-resolved_of (Refused w) = why_of w
+abbrev pub resolved_of : Result Instr ResolveError → Answer Instr
+resolved_of (Ok i) = accepted i
+resolved_of (Err e) = resolve_refused e
 
 -- the refusals of its numbers and the base, and else the instruction with the fields
 unfoldable pub resolve_answer : Mode → Instr → ℕ → Answer Instr

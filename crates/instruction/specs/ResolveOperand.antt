@@ -1,7 +1,7 @@
 -- What numbers as written become. Document 01, 'Resolving operands': plain numbers and a base in, fields out, by refusals 14, 7, 8, 9 and 10.
 -- Document 02, W7: in wrapping mode the difference of a short branch is brought to -32,768..32,767 modulo 65,536 before the range check.
 -- Assumes nothing.
-use Rattle.std.specs.Prelude.{ℕ, ◌-◌, ◌/◌, ◌%◌, Bool, cond, not, List, [], ◌∷◌, ◌++◌, ℤ, pos, negsuc, ◌+ℤ◌, ◌-ℤ◌, ◌==◌, nat_lt, unsigned_abs}
+use Rattle.std.specs.Prelude.{Result, Ok, Err, ℕ, ◌-◌, ◌/◌, ◌%◌, Bool, cond, not, List, [], ◌∷◌, ◌++◌, ℤ, pos, negsuc, ◌+ℤ◌, ◌-ℤ◌, ◌==◌, nat_lt, unsigned_abs}
 use Rattle.instruction.specs.Answer.{Answer, accepted, refused, Refusal, refuse, judge}
 use Rattle.instruction.specs.Range.{outside}
 use Rattle.instruction.specs.declared.answer.Misfit.{Misfit}
@@ -11,12 +11,10 @@ use Rattle.instruction.specs.declared.kind.Kinds.{Kinds}
 use Rattle.instruction.specs.declared.layout.Fields.{Fields}
 use Rattle.instruction.specs.declared.mode.Mode.{Mode}
 use Rattle.instruction.specs.declared.mode.Mode.TheVariants.{Unwrapped, Wrapping}
-use Rattle.instruction.specs.declared.resolve_operand.Field.{Field}
-use Rattle.instruction.specs.declared.resolve_operand.Field.TheVariants.{Is, Not}
-use Rattle.instruction.specs.declared.resolve_operand.Resolution.{Resolution}
-use Rattle.instruction.specs.declared.resolve_operand.Resolution.TheVariants.{All, FarBase, Refused}
-use Rattle.instruction.specs.declared.resolve_operand.Why.{Why}
-use Rattle.instruction.specs.declared.resolve_operand.Why.TheVariants.{Unfit, NoAddress, TooFar, OtherPage}
+use Rattle.instruction.specs.declared.resolve_operand.ResolveError.{ResolveError}
+use Rattle.instruction.specs.declared.resolve_operand.ResolveError.TheVariants.{FarBase, Operand}
+use Rattle.instruction.specs.declared.resolve_operand.OperandError.{OperandError}
+use Rattle.instruction.specs.declared.resolve_operand.OperandError.TheVariants.{Unfit, NoAddress, TooFar, OtherPage}
 
 -- not an address, 0 to 65,535
 abbrev pub no_address : ℤ → Bool
@@ -75,20 +73,23 @@ abbrev pub misfit_values : Misfit → List ℤ
 misfit_values m = pos m.operand ∷ m.value ∷ []
 
 -- the number and values of each answer
-abbrev pub why_of : {A : Type 0} → Why → Answer A
+abbrev pub why_of : {A : Type 0} → OperandError → Answer A
 why_of (Unfit m) = refused 7 (misfit_values m)
 why_of (NoAddress z) = refused 8 (z ∷ [])
 why_of (TooFar z) = refused 9 (z ∷ [])
 why_of (OtherPage t) = refused 10 (pos t.base ∷ pos t.address ∷ [])
 
-abbrev pub operand_answer : Field → Answer ℤ
-operand_answer (Is z) = accepted z
-operand_answer (Not w) = why_of w
+abbrev pub resolve_refused : {A : Type 0} → ResolveError → Answer A
+resolve_refused (FarBase b) = refused 14 (pos b ∷ [])
+resolve_refused (Operand w) = why_of w
 
-abbrev pub resolution_of : Resolution → Answer Fields
-resolution_of (All f) = accepted f
-resolution_of (FarBase b) = refused 14 (pos b ∷ [])
-resolution_of (Refused w) = why_of w
+abbrev pub operand_answer : Result ℤ OperandError → Answer ℤ
+operand_answer (Ok z) = accepted z
+operand_answer (Err w) = why_of w
+
+abbrev pub resolution_of : Result Fields ResolveError → Answer Fields
+resolution_of (Ok f) = accepted f
+resolution_of (Err e) = resolve_refused e
 
 -- a base above 65,536: 14; then the operands as written, the first failure named
 abbrev pub refusals : Mode → Kinds → ℤ → ℤ → ℤ → ℕ → List Refusal

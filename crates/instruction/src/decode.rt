@@ -8,49 +8,44 @@ use crate::answer::CutOff;
 use crate::instr::{Instr, Parts};
 use crate::{build, first, form, read};
 
-#[derive(Clone, Copy)]
-pub enum Decoded {
-    Found(Instr),
+// Why bytes are no instruction.
+#[derive(Clone, Copy, Debug, PartialEq, Eq)]
+pub enum DecodeError {
     // 12: no byte.
     Nothing,
     // 5: fewer bytes than the form has.
     Cut(CutOff),
 }
 
-// The same with the parts of the instruction, for callers that would take it apart again.
-#[derive(Clone, Copy)]
-pub enum DecodedParts {
-    Found(Parts),
-    Nothing,
-    Cut(CutOff),
-}
-
 impl Parts {
-    pub fn decode(bytes: &[u8]) -> DecodedParts
+    // The same as `Instr::decode`, for callers that would take the instruction apart again.
+    pub fn decode(bytes: &[u8]) -> Result<Parts, DecodeError>
         ensures { decoded_parts_of result ≡ parts_answer bytes.now }
     {
-        if bytes.len() == 0 {
-            return DecodedParts::Nothing;
+        if bytes.is_empty() {
+            return Err(DecodeError::Nothing);
         }
         let first = bytes[0];
         let size = first::size_by(first) as usize;
         if bytes.len() < size {
-            return DecodedParts::Cut(CutOff::new(0, first, (size - bytes.len()) as u8));
+            let missing = (size - bytes.len()) as u8;
+            return Err(DecodeError::Cut(CutOff {
+                position: 0,
+                first,
+                missing,
+            }));
         }
         let form = form::lookup(first);
         let f = read::read(form::shape_by(first), bytes);
-        DecodedParts::Found(Parts::new(form, f.a, f.b, f.c))
+        Ok(Parts::new(form, f.a, f.b, f.c))
     }
 }
 
 impl Instr {
-    pub fn decode(bytes: &[u8]) -> Decoded
+    pub fn decode(bytes: &[u8]) -> Result<Instr, DecodeError>
         ensures { decoded_of result ≡ decode_answer bytes.now }
     {
-        match Parts::decode(bytes) {
-            DecodedParts::Found(v) => Decoded::Found(build::build(v.form, v.a, v.b, v.c)),
-            DecodedParts::Nothing => Decoded::Nothing,
-            DecodedParts::Cut(c) => Decoded::Cut(c),
-        }
+        let v = Parts::decode(bytes)?;
+        Ok(build::build(v.form, v.a, v.b, v.c))
     }
 }

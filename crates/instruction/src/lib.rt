@@ -26,12 +26,11 @@ mod tables;
 mod write;
 
 pub use answer::{CutOff, Misfit, Tops};
-pub use decode::{Decoded, DecodedParts};
-pub use encode::{Encoded, Fit};
+pub use decode::DecodeError;
+pub use encode::EncodeError;
 pub use first::FirstByte;
 pub use flow::Flow;
 pub use instr::{Instr, Parts};
 pub use kind::{Kind, Kinds, Shape};
 pub use mode::Mode;
-pub use resolve::Resolved;
-pub use resolve_operand::Why;
+pub use resolve_operand::{OperandError, ResolveError};

@@ -5,28 +5,17 @@ ghost use Rattle.instruction.specs.Resolve.{resolved_of, resolve_answer};
 
 use crate::instr::Instr;
 use crate::mode::Mode;
-use crate::resolve_operand::{Resolution, Why};
+use crate::resolve_operand::ResolveError;
 use crate::{build, resolve_operand};
-
-#[derive(Clone, Copy)]
-pub enum Resolved {
-    Fields(Instr),
-    // 14: a base above 65,536.
-    FarBase(u32),
-    Refused(Why),
-}
 
 impl Instr {
     // The instruction whose operands are numbers as written, with fields in their place.
-    pub fn resolve(self, mode: Mode, base: u32) -> Resolved
+    pub fn resolve(self, mode: Mode, base: u32) -> Result<Instr, ResolveError>
         ensures { resolved_of result ≡ resolve_answer mode self base }
     {
         let v = self.apart();
         let k = self.kinds();
-        match resolve_operand::resolve(mode, k, v.a, v.b, v.c, base) {
-            Resolution::All(f) => Resolved::Fields(build::build(v.form, f.a, f.b, f.c)),
-            Resolution::FarBase(far) => Resolved::FarBase(far),
-            Resolution::Refused(why) => Resolved::Refused(why),
-        }
+        let f = resolve_operand::resolve(mode, k, v.a, v.b, v.c, base)?;
+        Ok(build::build(v.form, f.a, f.b, f.c))
     }
 }

@@ -1,6 +1,6 @@
 -- `form::lookup` meets its contract.
 -- Assumes nothing.
-use Rattle.std.proofs.Common.{◌≡◌, ℕ, ◌+◌, ◌*◌, ◌/◌, ◌%◌, ◌^◌, ◌<◌, ltb, sym, ap, ◌∙◌, subst, ap₂, arith, ltb→lt, rules}
+use Rattle.std.proofs.Common.{◌≡◌, ℕ, ◌+◌, ◌*◌, ◌/◌, ◌%◌, ◌^◌, ◌<◌, ltb, sym, ◌∙◌, subst, ap₂, arith, ltb→lt, rules}
 use Rattle.instruction.specs.Tables.{table_word, by_column}
 use Rattle.instruction.specs.Forms.{forms, form_named}
 use Rattle.instruction.specs.Grid.{grid, entry, column, rule_of}

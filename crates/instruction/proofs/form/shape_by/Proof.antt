@@ -1,6 +1,6 @@
 -- `form::shape_by` meets its contract.
 -- Assumes nothing.
-use Rattle.std.proofs.Common.{◌≡◌, ℕ, ◌<◌, sym, refl, ◌∙◌, rules}
+use Rattle.std.proofs.Common.{ℕ, ◌<◌, sym, refl, ◌∙◌, rules}
 use Rattle.instruction.specs.FirstBits.{shaped_by}
 use Rattle.instruction.specs.Forms.{form_at, form_of}
 use Rattle.instruction.specs.Tables.{shape_at}
