@@ -7,60 +7,54 @@ use lib.Dec.{eqb}
 use Rattle.instruction.specs.Answer.{Answer, accepted, refused}
 use Rattle.instruction.specs.Decode.{decoded_of, decoded_parts_of}
 use Rattle.instruction.specs.Encode.{encoded_of, fit_of}
-use Rattle.instruction.specs.declared.decode.Decoded.{Decoded}
-use Rattle.instruction.specs.declared.decode.Decoded.TheVariants.{Found, Nothing, Cut}
-use Rattle.instruction.specs.declared.decode.DecodedParts.{DecodedParts}
-use Rattle.instruction.specs.declared.decode.DecodedParts.TheVariants as parts
-use Rattle.instruction.specs.declared.encode.Encoded.{Encoded}
-use Rattle.instruction.specs.declared.encode.Encoded.TheVariants.{Written, Unfit, NoRoom}
-use Rattle.instruction.specs.declared.encode.Fit.{Fit}
-use Rattle.instruction.specs.declared.encode.Fit.TheVariants.{Fits, Outside}
+use Rattle.instruction.specs.declared.answer.Misfit.{Misfit}
+use Rattle.instruction.specs.declared.decode.DecodeError.{DecodeError}
+use Rattle.instruction.specs.declared.decode.DecodeError.TheVariants.{Nothing, Cut}
+use Rattle.instruction.specs.declared.encode.EncodeError.{EncodeError}
+use Rattle.instruction.specs.declared.encode.EncodeError.TheVariants.{Unfit, NoRoom}
+use Rattle.std.specs.Prelude.{Result, Ok, Err}
 use Rattle.instruction.specs.declared.instr.Instr.{Instr}
 use Rattle.instruction.specs.declared.instr.Parts.{Parts}
 use Rattle.instruction_laws.specs.Apart.{AnswersApart}
 use Rattle.instruction_laws.proofs.ResolvedApart.{resolved_apart, resolution_apart}
 use Rattle.instruction_laws.proofs.Undone.{undone, number_at, cut, misfit}
 
-abbrev decoded : Answer Instr → Decoded
-decoded (accepted i) = Found i
-decoded (refused n vs) = cond (eqb n 12) Nothing (Cut (cut vs))
+abbrev decoded : {A : Type 0} → Answer A → Result A DecodeError
+decoded (accepted i) = Ok i
+decoded (refused n vs) = Err (cond (eqb n 12) Nothing (Cut (cut vs)))
 
-decode : (r : Decoded) → decoded (decoded_of r) ≡ r
-decode (Found i) = refl
-decode Nothing = refl
-decode (Cut c) = refl
+decode : (r : Result Instr DecodeError) → decoded (decoded_of r) ≡ r
+decode (Ok i) = refl
+decode (Err Nothing) = refl
+decode (Err (Cut c)) = refl
 
-abbrev decoded_parts : Answer Parts → DecodedParts
-decoded_parts (accepted v) = parts.Found v
-decoded_parts (refused n vs) = cond (eqb n 12) parts.Nothing (parts.Cut (cut vs))
+decode_parts : (r : Result Parts DecodeError) → decoded (decoded_parts_of r) ≡ r
+decode_parts (Ok v) = refl
+decode_parts (Err Nothing) = refl
+decode_parts (Err (Cut c)) = refl
 
-decode_parts : (r : DecodedParts) → decoded_parts (decoded_parts_of r) ≡ r
-decode_parts (parts.Found v) = refl
-decode_parts parts.Nothing = refl
-decode_parts (parts.Cut c) = refl
+abbrev fitted : Answer (Unit {0}) → Result (Unit {0}) Misfit
+fitted (accepted u) = Ok u
+fitted (refused n vs) = Err (misfit vs)
 
-abbrev fitted : Answer (Unit {0}) → Fit
-fitted (accepted u) = Fits
-fitted (refused n vs) = Outside (misfit vs)
+fit : (r : Result (Unit {0}) Misfit) → fitted (fit_of r) ≡ r
+fit (Ok u) = refl
+fit (Err m) = refl
 
-fit : (r : Fit) → fitted (fit_of r) ≡ r
-fit Fits = refl
-fit (Outside m) = refl
+abbrev encoded : Answer ℕ → Result ℕ EncodeError
+encoded (accepted n) = Ok n
+encoded (refused n vs) = Err (cond (eqb n 7) (Unfit (misfit vs)) (NoRoom (number_at vs 0)))
 
-abbrev encoded : Answer ℕ → Encoded
-encoded (accepted n) = Written n
-encoded (refused n vs) = cond (eqb n 7) (Unfit (misfit vs)) (NoRoom (number_at vs 0))
-
-encode : (r : Encoded) → encoded (encoded_of r) ≡ r
-encode (Written n) = refl
-encode (Unfit m) = refl
-encode (NoRoom n) = refl
+encode : (r : Result ℕ EncodeError) → encoded (encoded_of r) ≡ r
+encode (Ok n) = refl
+encode (Err (Unfit m)) = refl
+encode (Err (NoRoom n)) = refl
 
 pub answers_apart : AnswersApart
 answers_apart =
     record {
       decode = undone decoded_of decoded decode;
-      decode_parts = undone decoded_parts_of decoded_parts decode_parts;
+      decode_parts = undone decoded_parts_of decoded decode_parts;
       fit = undone fit_of fitted fit;
       encode = undone encoded_of encoded encode;
       resolve = resolved_apart;

@@ -4,15 +4,15 @@
 use mathlib.Core.Path.{◌≡◌, refl, ap, sym}
 use mathlib.Core.Bool.{false}
 use mathlib.Core.List.{List, ◌++◌, append-nil}
-use Prim.Native.Nat.{ℕ, ◌%◌, ◌<◌}
+use Prim.Native.Nat.{ℕ, ◌%◌}
 use native.Mathlib.Omega.{arith}
-use lib.IntN.{ℤ, pos, negsuc, nat_abs, ◌+ℤ◌, ◌-ℤ◌}
+use lib.IntN.{ℤ, pos, nat_abs, ◌+ℤ◌, ◌-ℤ◌}
 use Rattle.instruction.specs.Answer.{accepted, Refusal, judge}
 use Rattle.instruction.specs.Kinds.{kind_at}
 use Rattle.instruction.specs.Range.{unfit}
 use Rattle.instruction.specs.Parts.{parts_of}
 use Rattle.instruction.specs.Resolve.{resolve_answer}
-use Rattle.instruction.specs.ResolveOperand.{wrapped, operand_refusals, field_of}
+use Rattle.instruction.specs.ResolveOperand.{operand_refusals, field_of}
 use Rattle.instruction.specs.declared.instr.Parts.{Parts}
 use Rattle.instruction.specs.declared.kind.Kind.{Kind}
 use Rattle.instruction.specs.declared.kind.Kind.TheVariants.{Absent, Immediate, Direct, Register, BitNumber, Page, Far, Short, Long}
