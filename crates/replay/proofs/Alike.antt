@@ -2,10 +2,11 @@
 -- Assumes nothing.
 use Prim.Native.Nat.{ℕ, zero, suc, ◌/◌, ◌<◌, ◌≤◌, ◌+◌}
 use native.Mathlib.Omega.{arith}
-use mathlib.Core.Path.{◌≡◌, refl, sym, ap, ◌∙◌}
-use mathlib.Core.Bool.{Bool, true, false, cond, not}
-use mathlib.Core.Logic.{◌⊎◌, inl, inr}
+use mathlib.Core.Path.{◌≡◌, refl, ap, ◌∙◌}
+use mathlib.Core.Bool.{Bool, cond, not}
+use mathlib.Core.Logic.{inl, inr}
 use mathlib.Core.List.{List, ◌++◌}
+use Rattle.std.specs.Prelude.{Option, Some, None}
 use lib.Dec.{eqb}
 use lib.ListN.{length, get_or, set, take, drop}
 use borrow.Author.Tests.{eq-eqb}
@@ -19,24 +20,24 @@ use Rattle.replay.specs.Moves.{free_after, move_by, is_forbidden}
 use Rattle.replay.specs.Take.{State, state, move_now, fault_at, taken_at, lines_of, feed_of, block_of}
 use Rattle.replay.specs.declared.log.Log.{Log}
 use Rattle.replay.specs.declared.moves.Move.{Move}
-use Rattle.replay.specs.declared.moves.Move.TheVariants.{Target, Interrupt, Free, Forbidden}
+use Rattle.replay.specs.declared.moves.Move.TheVariants.{Target, Interrupt, Free}
 use Rattle.replay.proofs.Taking.{position_le}
 
 module _ (mode : Mode) (image m : List ℕ) (f g : ℕ → Bool) (agree : (p : ℕ) → p < 65536 → f p ≡ g p) where
   move_like : (l : Log) (p : ℕ) → p < 65536 → move_now mode image m f l p ≡ move_now mode image m g l p
   unfolding move_now move_by
   move_like l p h =
-      ap (λ (b : Bool). cond (eqb l.lines 0) Target
-      (cond (arrives mode image m p l.last) Target (cond b Interrupt (cond (free_after image m l.last) Free Forbidden))))
+      ap (λ (b : Bool). cond (eqb l.lines 0) (Some Target)
+      (cond (arrives mode image m p l.last) (Some Target) (cond b (Some Interrupt) (cond (free_after image m l.last) (Some Free) None))))
       (agree p h)
 
   -- by how control comes there
-  taken_with : State → ℕ → Move → State
+  taken_with : State → ℕ → Option Move → State
   taken_with s p by =
       let n : ℕ = cond (eqb p 65536) 18 (cond (not (traced_at image m p)) 19 (cond (is_forbidden by) 20 (cond (eqb (get_or s.counts p 0) top) 21 0))) in
       cond (eqb n 0) (state (going s.log p by) (set s.counts p (get_or s.counts p 0 + 1))) (state (refusing s.log n) s.counts)
 
-  outside_like : (s : State) (p : ℕ) (by by' : Move) → p ≡ 65536 → taken_with s p by ≡ taken_with s p by'
+  outside_like : (s : State) (p : ℕ) (by by' : Option Move) → p ≡ 65536 → taken_with s p by ≡ taken_with s p by'
   unfolding taken_with
   outside_like s p by by' e = rw (eq-eqb p 65536 e) refl
 

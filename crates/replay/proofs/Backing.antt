@@ -1,10 +1,10 @@
 -- Lines taken out of the counts again, the last of them first.
 -- Assumes nothing.
-use Prim.Native.Nat.{ℕ, zero, suc, ◌+◌, ◌-◌, ◌*◌, ◌<◌, ◌≤◌}
+use Prim.Native.Nat.{ℕ, suc, ◌-◌, ◌*◌, ◌<◌, ◌≤◌}
 use native.Mathlib.Omega.{arith}
-use mathlib.Core.Path.{◌≡◌, refl, sym, ap, subst, ◌∙◌}
+use mathlib.Core.Path.{◌≡◌, sym, ap, subst, ◌∙◌}
 use mathlib.Core.List.{List}
-use lib.ListN.{length, get_or, set, take, drop}
+use lib.ListN.{length, get_or, take, drop}
 use Rattle.replay.specs.Line.{position_of, position_at}
 use Rattle.replay.specs.Back.{less, taken_back, Counted}
 
@@ -22,10 +22,9 @@ module _ (text : List ℕ) (k : ℕ) (h : 0 < k) where
   unfolding taken_back
   back_next c t e = sym (ap (λ (j : ℕ). taken_back text j c) one_less) ∙ e
 
-  pub back_told : (q n : ℕ) → n ≡ 7 → q ≡ position_of (take n (drop ((k - 1) * 7) text)) → q ≡ p
-  back_told q n e f =
-      f ∙ ap (λ (j : ℕ). position_of (take j (drop ((k - 1) * 7) text))) e
-      ∙ ap (λ (j : ℕ). position_of (take 7 (drop j text))) (let g : (k - 1) * 7 ≡ 7 * (k - 1) = omega arith in g)
+  pub back_told : (q : ℕ) (line : List ℕ) → line ≡ take 7 (drop ((k - 1) * 7) text) → q ≡ position_of line → q ≡ p
+  back_told q line e f =
+      f ∙ ap position_of e ∙ ap (λ (j : ℕ). position_of (take 7 (drop j text))) (let g : (k - 1) * 7 ≡ 7 * (k - 1) = omega arith in g)
 
 pub back_end : (text c t : List ℕ) (k : ℕ) → k ≤ 0 → taken_back text k c ≡ t → c ≡ t
 unfolding taken_back

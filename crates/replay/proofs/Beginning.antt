@@ -1,15 +1,17 @@
 -- A line that begins with the bytes held and goes on with those of a block.
 -- Assumes nothing.
-use Prim.Native.Nat.{ℕ, zero, suc, ◌+◌, ◌-◌, ◌%◌, ◌/◌, ◌<◌, ◌≤◌, min}
+use Prim.Native.Nat.{ℕ, zero, suc, ◌+◌, ◌-◌, ◌/◌, ◌<◌, ◌≤◌, min}
 use native.Mathlib.Omega.{arith}
-use mathlib.Core.Path.{◌≡◌, refl, sym, ap, subst, ◌∙◌}
-use mathlib.Core.Bool.{Bool, true, false}
+use mathlib.Core.Path.{◌≡◌, refl, sym, ap, ◌∙◌}
 use mathlib.Core.Logic.{◌⊎◌, inl, inr}
-use mathlib.Core.List.{List, [], ◌∷◌, ◌++◌, append-nil}
-use lib.ListN.{length, set, take, drop, replicate, length-append, length-take, length-replicate, length-drop}
-use lib.Seq.{sets, sets-eq, length-sets, take_all, take-append-add, take-append_seam, length-take-le}
+use mathlib.Core.List.{List, ◌++◌}
+use lib.ListN.{length, take, drop, length-append}
+use lib.Seq.{sets, sets-eq, length-sets, take_all, take-append-add, take-append_seam, length-take-le, drop-drop}
+use Rattle.std.proofs.lemmas.List.{take_at, drop_at, append_assoc}
+use Rattle.std.specs.Int.{w64, to_le_bytes}
 use Rattle.reach.proofs.Cases.{lt_or_le}
 use Rattle.replay.specs.Log.{bytes_in, partial}
+use Rattle.replay.proofs.Bytes.{bytes_held}
 use Rattle.replay.specs.declared.log.Log.{Log}
 
 bytes_length : (k n : ℕ) → length (bytes_in k n) ≡ k
@@ -20,12 +22,6 @@ bytes_length (suc k) n = ap suc (bytes_length k (n / 256))
 pub partial_length : (l : Log) → length (partial l) ≡ min l.held 6
 unfolding partial
 partial_length l = bytes_length (min l.held 6) l.part
-
-sets_append : (l a b : List ℕ) (i : ℕ) → sets l i (a ++ b) ≡ sets (sets l i a) (i + length a) b
-sets_append l [] b i = ap (λ (k : ℕ). sets l k b) (let e : i ≡ i + 0 = omega arith in e)
-sets_append l (x ∷ a) b i =
-    sets_append (set l i x) a b (suc i)
-    ∙ ap (λ (k : ℕ). sets (sets (set l i x) (suc i) a) k b) (let e : suc i + length a ≡ i + suc (length a) = omega arith in e)
 
 take_most : (n : ℕ) (l : List ℕ) → take n l ≡ take (min n (length l)) l
 take_most n l = by (lt_or_le n (length l))
@@ -40,20 +36,26 @@ seven P text h q e l f =
     ap (λ (k : ℕ). take k (P ++ text)) (let g : 7 ≡ length P + (7 - h) = omega arith in g) ∙ take-append-add P text (7 - h)
     ∙ ap (λ (x : List ℕ). P ++ x) (take_most (7 - h) text ∙ ap (λ (k : ℕ). take k text) (sym f))
 
-pub begun_line : (l : Log) (text line line₁ line₂ : List ℕ) (h q : ℕ) → h ≡ min l.held 6 → q ≡ min (7 - h) (length text)
-    → line₁ ≡ sets line 0 (bytes_in h l.part) → line₂ ≡ sets line₁ h (take q text)
-    → (h + q ≡ length (take 7 (partial l ++ text))) × (line₂ ≡ sets line 0 (take 7 (partial l ++ text)))
+pub begun_line : (l : Log) (text line x y : List ℕ) (h q : ℕ) → length line ≡ 7 → h ≡ min l.held 6 → q ≡ min (length text) (7 - h)
+    → x ≡ take h (to_le_bytes w64 l.part) → y ≡ take q text
+    → (h + q ≡ length (take 7 (partial l ++ text)))
+    × (take h (x ++ drop h line) ++ (y ++ drop (h + q - h) (drop h (x ++ drop h line))) ≡ sets line 0 (take 7 (partial l ++ text)))
 unfolding partial
-begun_line l text line line₁ line₂ h q e f g k =
-    let b : bytes_in h l.part ≡ bytes_in (min l.held 6) l.part = ap (λ (j : ℕ). bytes_in j l.part) e in
-    let n : length (bytes_in h l.part) ≡ h = bytes_length h l.part in
-    let s = seven (bytes_in h l.part) text h q n (omega arith) f in
-    let t : take 7 (partial l ++ text) ≡ bytes_in h l.part ++ take q text = ap (λ (x : List ℕ). take 7 (x ++ text)) (sym b) ∙ s in (
-      sym (ap length t ∙ length-append (bytes_in h l.part) (take q text)
-          ∙ (let z : length (bytes_in h l.part) + length (take q text) ≡ h + q = omega (arith, n, length-take-le q text (omega arith)) in z)),
-      k ∙ ap (λ (x : List ℕ). sets x h (take q text)) g
-          ∙ ap (λ (j : ℕ). sets (sets line 0 (bytes_in h l.part)) j (take q text)) (let z : h ≡ 0 + length (bytes_in h l.part) = omega (arith, n) in z)
-          ∙ sym (sets_append line (bytes_in h l.part) (take q text) 0) ∙ ap (sets line 0) (sym t),
+begun_line l text line x y h q z e f g k =
+    let b : x ≡ bytes_in (min l.held 6) l.part = g ∙ bytes_held h l.part (omega arith) ∙ ap (λ (j : ℕ). bytes_in j l.part) e in
+    let n : length x ≡ h = ap length b ∙ bytes_length (min l.held 6) l.part ∙ sym e in
+    let m : length y ≡ q = ap length k ∙ length-take-le q text (omega arith) in
+    let t : take 7 (partial l ++ text) ≡ x ++ y =
+    ap (λ (w : List ℕ). take 7 (w ++ text)) (sym b) ∙ seven x text h q n (omega arith) (omega arith) ∙ ap (λ (w : List ℕ). x ++ w) (sym k) in
+    let o : length (x ++ y) ≡ h + q = length-append x y ∙ (let u : length x + length y ≡ h + q = omega (arith, n, m) in u) in
+    let r : drop (h + q - h) (drop h (x ++ drop h line)) ≡ drop (h + q) line =
+    ap (drop (h + q - h)) (drop_at x (drop h line) h n) ∙ drop-drop (h + q - h) h line
+    ∙ ap (λ (j : ℕ). drop j line) (let u : h + (h + q - h) ≡ h + q = omega arith in u) in (
+      sym (ap length t ∙ o),
+      ap (λ (w : List ℕ). w ++ (y ++ drop (h + q - h) (drop h (x ++ drop h line)))) (take_at x (drop h line) h n)
+          ∙ ap (λ (w : List ℕ). x ++ (y ++ w)) r ∙ sym (append_assoc x y (drop (h + q) line))
+          ∙ ap (λ (j : ℕ). (x ++ y) ++ drop j line) (let u : h + q ≡ 0 + length (x ++ y) = omega (arith, o) in u)
+          ∙ sym (sets-eq (x ++ y) line 0 (omega (arith, o))) ∙ ap (sets line 0) (sym t),
     )
 
 -- ---- the bytes of a line that was begun in an empty room

@@ -2,17 +2,15 @@
 -- Assumes nothing.
 use Prim.Native.Nat.{ℕ}
 use mathlib.Core.Path.{◌≡◌, refl, sym, ap, ◌∙◌}
-use mathlib.Core.Bool.{true, false, cond}
+use mathlib.Core.Bool.{true, false}
 use mathlib.Core.List.{List}
-use lib.Dec.{eqb}
 use borrow.Author.Tests.{eq-eqb, ne_eqb}
-use Rattle.instruction.specs.Answer.{Answer, accepted, refused, judge, after}
+use Rattle.instruction.specs.Answer.{accepted, refused, judge}
 use Rattle.instruction.specs.declared.mode.Mode.{Mode}
-use Rattle.replay.specs.Answers.{is_told, replayed_of, no_totals, lent_refusals, lent_answer, or_else, told_of}
+use Rattle.replay.specs.Answers.{is_told, replayed_of, no_totals, lent_refusals, lent_answer, told_of}
 use Rattle.replay.specs.Block.{fed, block_answer, block_log, block_counts}
 use Rattle.replay.specs.Take.{State, state}
 use Rattle.replay.specs.declared.log.Log.{Log}
-use Rattle.replay.specs.declared.answer.Totals.{Totals}
 use Rattle.replay.specs.declared.answer.Replayed.{Replayed}
 use Rattle.replay.proofs.Lent.{told_is, refused_is}
 

@@ -1,19 +1,16 @@
 -- The table of entries: a bit is set exactly where an entry in memory is.
 -- Assumes nothing.
-use Prim.Native.Nat.{ℕ, suc, ◌+◌, ◌-◌, ◌*◌, ◌/◌, ◌%◌, ◌<◌, ◌≤◌}
+use Prim.Native.Nat.{ℕ, suc, ◌+◌, ◌/◌, ◌%◌, ◌<◌, ◌≤◌}
 use native.Mathlib.Omega.{arith}
-use mathlib.Core.Path.{◌≡◌, refl, sym, ap, subst, ◌∙◌}
-use mathlib.Core.Bool.{Bool, true, false, cond, ◌||◌}
-use mathlib.Core.List.{List, [], ◌∷◌}
-use lib.Dec.{eqb, ltb}
-use lib.ListN.{length, get_or, set, drop, replicate, length-set, length-replicate, get_or-replicate, drop_of_length-le}
-use lib.Seq.{get_or-set_same, get_or-set_other, drop-cons}
-use borrow.Author.Tests.{lt-ltb, le-ltb, ne_eqb, eq-eqb, eqb-true, eqb-false, ltb-true}
-use Rattle.views.specs.Positions.{some}
-use Rattle.map.specs.Bits.{one, between, with_ones, digits}
+use mathlib.Core.Path.{◌≡◌, refl, sym, ap, ◌∙◌}
+use mathlib.Core.Bool.{Bool, true, false, cond}
+use mathlib.Core.List.{List}
+use lib.Dec.{ltb}
+use lib.ListN.{length, get_or, set, drop, length-set, drop_of_length-le}
+use lib.Seq.{drop-cons}
+use borrow.Author.Tests.{lt-ltb, le-ltb}
+use Rattle.map.specs.Bits.{with_ones}
 use Rattle.map.specs.Packed.{with_code}
-use Rattle.map.specs.Words.{code_at}
-use Rattle.map.proofs.Digits.{one_digits}
 use Rattle.replay.specs.Entry.{with_entry, with_entries}
 
 pub entry_length : (q : ℕ) (ws : List ℕ) → length (with_entry q ws) ≡ length ws

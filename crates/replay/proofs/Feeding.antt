@@ -63,13 +63,12 @@ module _ (mode : Mode) (image m : List ℕ) (isEntry : ℕ → Bool) where
   -- ---- from a place of the text on
 
   module _ (s total : State) (text : List ℕ) (at : ℕ) (so : feed_of mode image m isEntry s (drop at text) ≡ total) where
-    module _ (r : State) (p k : ℕ) (h : 7 ≤ length text - at) (g : k ≡ 7) (e : p ≡ position_of (take k (drop at text)))
-        (f : r ≡ taken_at mode image m isEntry s p) where
+    module _ (r : State) (line : List ℕ) (h : 7 ≤ length text - at) (e : line ≡ take 7 (drop at text)) (f : r ≡ taken_at mode image m isEntry s (position_of line)) where
       seven : 7 ≤ length (drop at text)
       seven = omega (arith, length-drop at text)
 
       there : r ≡ taken_at mode image m isEntry s (position_of (take 7 (drop at text)))
-      there = f ∙ ap (taken_at mode image m isEntry s) (e ∙ ap (λ (j : ℕ). position_of (take j (drop at text))) g)
+      there = f ∙ ap (λ (l : List ℕ). taken_at mode image m isEntry s (position_of l)) e
 
       pub lines_on : r.log.refusal ≡ 0 → feed_of mode image m isEntry r (drop (at + 7) text) ≡ total
       lines_on z = ap (feed_of mode image m isEntry r) (sym (drop-drop 7 at text)) ∙ feed_on s r (drop at text) seven there z ∙ so
@@ -77,8 +76,5 @@ module _ (mode : Mode) (image m : List ℕ) (isEntry : ℕ → Bool) where
       pub lines_stop : (r.log.refusal ≡ 0 → ⊥) → r ≡ total
       lines_stop z = feed_stop s r (drop at text) seven there z ∙ so
 
-    pub lines_rest : length text - at < 7 → (l : Log) (k : ℕ) → k ≡ length text - at → l ≡ keeping s.log (take k (drop at text))
-        → state l s.counts ≡ total
-    lines_rest h l k g e =
-        ap (λ (x : Log). state x s.counts) (e ∙ ap (keeping s.log) (take_all k (drop at text) (omega (arith, length-drop at text))))
-        ∙ feed_rest s (drop at text) (omega (arith, length-drop at text)) ∙ so
+    pub lines_rest : length text - at < 7 → (l : Log) → l ≡ keeping s.log (drop at text) → state l s.counts ≡ total
+    lines_rest h l e = ap (λ (x : Log). state x s.counts) e ∙ feed_rest s (drop at text) (omega (arith, length-drop at text)) ∙ so

@@ -4,7 +4,7 @@ use Prim.Native.Nat.{ℕ, zero, suc, ◌+◌, ◌-◌, ◌*◌, ◌/◌, ◌<◌
 use native.Mathlib.Omega.{arith}
 use mathlib.Core.Path.{◌≡◌, refl, sym, ap, subst, ◌∙◌}
 use mathlib.Core.Bool.{Bool, true, false, cond}
-use mathlib.Core.List.{List, [], ◌∷◌, ◌++◌}
+use mathlib.Core.List.{List, [], ◌∷◌}
 use lib.Dec.{eqb}
 use lib.ListN.{length, get_or, set, take, drop, length-set, length-drop}
 use lib.Seq.{get_or-set_same, drop-drop}
@@ -13,9 +13,9 @@ use Rattle.instruction.specs.declared.mode.Mode.{Mode}
 use Rattle.views.proofs.TracedAt.{traced_inside}
 use Rattle.replay.specs.Line.{position_of, position_at}
 use Rattle.views.specs.Positions.{some}
-use Rattle.replay.specs.Log.{top, begun, one_more, number_of, refusing, going, keeping, partial, bytes_in}
+use Rattle.replay.specs.Log.{begun, one_more, number_of, refusing, going, keeping, partial, bytes_in}
 use Rattle.replay.specs.Back.{less, taken_back, Counted}
-use Rattle.replay.specs.Take.{State, state, move_now, taken_at, lines_of, feed_of, block_of}
+use Rattle.replay.specs.Take.{State, state, move_now, lines_of, feed_of, block_of}
 use Rattle.replay.proofs.How.{How, stopped, went, how}
 use Rattle.replay.proofs.Logs.{more_next}
 

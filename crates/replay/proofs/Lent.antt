@@ -1,7 +1,7 @@
 -- What is refused before the first line: the refusals of a view, then 11.
 -- Assumes nothing.
 use Prim.Native.Nat.{ℕ, ◌<◌, ◌≤◌}
-use mathlib.Core.Path.{◌≡◌, refl, sym, ap, ◌∙◌}
+use mathlib.Core.Path.{◌≡◌, refl, sym, ◌∙◌}
 use mathlib.Core.Bool.{Bool, true, false, cond}
 use mathlib.Core.List.{List, [], ◌∷◌, ◌++◌}
 use lib.Dec.{ltb}
@@ -12,7 +12,7 @@ use Rattle.instruction.specs.Answer.{Answer, accepted, refused, Refusal, refuse,
 use Rattle.instruction.proofs.Accepting.{differ, passed}
 use Rattle.instruction.proofs.Sign.{never}
 use Rattle.views.proofs.Viewing.{small}
-use Rattle.views.specs.View.{Sound, view_refusals, viewed_of}
+use Rattle.views.specs.View.{view_refusals, viewed_of}
 use Rattle.views.specs.declared.view.Viewed.{Viewed}
 use Rattle.replay.specs.Answers.{is_told, replayed_of, no_totals, lent_refusals}
 use Rattle.replay.specs.declared.answer.Replayed.{Replayed}

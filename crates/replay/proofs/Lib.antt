@@ -2,6 +2,7 @@ pub mod Logs
 pub mod Entries
 pub mod Lines
 pub mod Bytes
+pub mod Chunks
 pub mod Keeping
 pub mod Behind
 pub mod Moving

@@ -1,12 +1,11 @@
 -- A line by its bytes, test after test.
 -- Assumes nothing.
-use Prim.Native.Nat.{ℕ, ◌+◌, ◌*◌, ◌<◌, ◌≤◌}
-use native.Mathlib.Omega.{arith}
-use mathlib.Core.Path.{◌≡◌, refl, sym, ap, ◌∙◌}
+use Prim.Native.Nat.{ℕ}
+use mathlib.Core.Path.{◌≡◌, refl}
 use mathlib.Core.Bool.{Bool, true, false, cond, ◌&&◌}
 use mathlib.Core.List.{List}
 use lib.Dec.{eqb}
-use lib.ListN.{length, get_or, take, drop}
+use lib.ListN.{length, get_or}
 use borrow.Author.Tests.{eq-eqb, ne_eqb}
 use Rattle.text.specs.Four.{is_four, four_of, four_in}
 use Rattle.replay.specs.Line.{digits_in, is_line, position_of}
@@ -20,9 +19,6 @@ module _ (l : List ℕ) where
       → is_four (digits_in l) ≡ e → parts a b c d e ≡ position_of l
   unfolding position_of is_line
   tested a b c d e p q r s t = rw (p, q, r, s, t) refl
-
-  pub short : (length l ≡ 7 → ⊥) → 65536 ≡ position_of l
-  short n = tested false _ _ _ _ (ne_eqb (length l) 7 n) refl refl refl refl
 
   pub no_letter : length l ≡ 7 → (get_or l 0 0 ≡ 80 → ⊥) → 65536 ≡ position_of l
   no_letter h n = tested true false _ _ _ (eq-eqb (length l) 7 h) (ne_eqb (get_or l 0 0) 80 n) refl refl refl

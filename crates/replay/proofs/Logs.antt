@@ -1,16 +1,20 @@
 -- Totals that stop at the top, and the record after a line.
 -- Assumes nothing.
 use Prim.Native.Nat.{ℕ, ◌+◌, ◌<◌, ◌≤◌, min}
-use mathlib.Core.Path.{◌≡◌, refl, sym, ap, ◌∙◌}
+use native.Mathlib.Omega.{arith}
+use mathlib.Core.Path.{◌≡◌, refl}
 use mathlib.Core.Bool.{Bool, true, false, cond, not, ◌&&◌}
 use mathlib.Core.List.{[], ◌∷◌}
+use Rattle.std.specs.Prelude.{Option}
 use lib.Dec.{eqb}
 use lib.IntN.{pos}
 use borrow.Author.Tests.{eq-eqb, ne_eqb, le-leb, lt-leb}
 use Rattle.instruction.specs.Answer.{Answer, accepted, refused}
-use Rattle.replay.specs.Log.{highest, one_more, more_if, going}
+use Rattle.replay.specs.Log.{highest, one_more, more_if, fault_number, refusing, going}
 use Rattle.replay.specs.Moves.{is_interrupt, is_free}
 use Rattle.replay.specs.Answers.{told_of, closed_of, number_held}
+use Rattle.replay.specs.declared.fault.Fault.{Fault}
+use Rattle.replay.specs.declared.fault.Fault.TheVariants.{Malformed, Untraced, Forbidden, Full}
 use Rattle.replay.specs.declared.log.Log.{Log}
 use Rattle.replay.specs.declared.moves.Move.{Move}
 use Rattle.replay.specs.declared.answer.Totals.{Totals}
@@ -23,7 +27,15 @@ pub more_next : (n : ℕ) → n < highest → n + 1 ≡ one_more n
 unfolding one_more
 more_next n h = rw (lt-leb highest n h) refl
 
-pub going_is : (l : Log) (p : ℕ) (by : Move) (x y : ℕ) → x ≡ more_if l.interrupts (is_interrupt by) → y ≡ more_if l.free (is_free by)
+-- a line that is refused leaves a record with a refusal
+pub refused_line : (l : Log) (f : Fault) → (refusing l (fault_number f)).refusal ≡ 0 → ⊥
+unfolding refusing
+refused_line l Malformed = λ e. omega arith
+refused_line l Untraced = λ e. omega arith
+refused_line l Forbidden = λ e. omega arith
+refused_line l Full = λ e. omega arith
+
+pub going_is : (l : Log) (p : ℕ) (by : Option Move) (x y : ℕ) → x ≡ more_if l.interrupts (is_interrupt by) → y ≡ more_if l.free (is_free by)
     → ◌≡◌ {A = Log} (record { lines = one_more l.lines; interrupts = x; free = y; last = p; refusal = 0; held = 0; part = 0 }) (going l p by)
 unfolding going
 going_is l p by x y e f = rw (e, f) refl

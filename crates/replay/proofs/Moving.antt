@@ -3,10 +3,11 @@
 -- Assumes nothing.
 use Prim.Native.Nat.{ℕ, ◌<◌, ◌≤◌, min}
 use native.Mathlib.Omega.{arith}
-use mathlib.Core.Path.{◌≡◌, refl, sym, ap, ◌∙◌}
+use mathlib.Core.Path.{◌≡◌, refl, ap, ◌∙◌}
 use mathlib.Core.Bool.{Bool, true, false, cond, ◌&&◌, ◌||◌}
 use mathlib.Core.List.{List, []}
 use mathlib.Core.Logic.{◌⊎◌, inl, inr}
+use Rattle.std.specs.Prelude.{Some, None}
 use lib.Dec.{eqb}
 use lib.ListN.{length, get_or}
 use borrow.Author.Tests.{eq-eqb, ne_eqb, le-ltb}
@@ -23,8 +24,7 @@ use Rattle.arrivals.specs.Arrivals.{held_at, arrives}
 use Rattle.replay.specs.Moves.{free_after, move_by}
 use Rattle.replay.specs.Take.{move_now}
 use Rattle.replay.specs.declared.log.Log.{Log}
-use Rattle.replay.specs.declared.moves.Move.{Move}
-use Rattle.replay.specs.declared.moves.Move.TheVariants.{Target, Interrupt, Free, Forbidden}
+use Rattle.replay.specs.declared.moves.Move.TheVariants.{Target, Interrupt, Free}
 
 ret_by_byte : (x : ℕ) → x < 256 → eqb (form_of x) (form_named "Ret") ≡ eqb x 0xA0
 unfolding same form_of form_named forms pattern pattern_bytes onto bits_given next_bracket
@@ -68,7 +68,7 @@ module _ (image m : List ℕ) (q : ℕ) where
 
 -- by the three tests
 pub moved_by : (mode : Mode) (image m : List ℕ) (isEntry : ℕ → Bool) (q p : ℕ) (a b c : Bool) → arrives mode image m p q ≡ a → isEntry p ≡ b
-    → free_after image m q ≡ c → cond a Target (cond b Interrupt (cond c Free Forbidden)) ≡ move_by mode image m isEntry q p
+    → free_after image m q ≡ c → cond a (Some Target) (cond b (Some Interrupt) (cond c (Some Free) None)) ≡ move_by mode image m isEntry q p
 unfolding move_by
 moved_by mode image m isEntry q p a b c e f g = rw (e, f, g) refl
 
@@ -92,7 +92,7 @@ same_last mode image m isEntry last q p h e = by (lt_or_le last 65536)
     by (inr l) = far mode image m isEntry q last p (omega arith) (omega arith)
 
 module _ (mode : Mode) (image m : List ℕ) (isEntry : ℕ → Bool) (l : Log) (p : ℕ) where
-  pub first_move : l.lines ≡ 0 → Target ≡ move_now mode image m isEntry l p
+  pub first_move : l.lines ≡ 0 → Some Target ≡ move_now mode image m isEntry l p
   unfolding move_now
   first_move e = rw (eq-eqb l.lines 0 e) refl
 

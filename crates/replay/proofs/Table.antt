@@ -1,19 +1,19 @@
 -- The table of entries tells which positions are entries.
 -- Assumes nothing.
-use Prim.Native.Nat.{ℕ, zero, suc, ◌+◌, ◌*◌, ◌/◌, ◌%◌, ◌<◌, ◌≤◌}
+use Prim.Native.Nat.{ℕ, zero, suc, ◌+◌, ◌*◌, ◌/◌, ◌%◌, ◌<◌}
 use native.Mathlib.Omega.{arith}
 use mathlib.Core.Path.{◌≡◌, refl, sym, ap, subst, ◌∙◌}
 use mathlib.Core.Bool.{Bool, true, false, cond, ◌&&◌, ◌||◌, or-false}
 use mathlib.Core.List.{List, [], ◌∷◌}
 use lib.Dec.{eqb, ltb}
-use lib.ListN.{length, get_or, replicate, length-replicate, get_or-replicate}
+use lib.ListN.{replicate, length-replicate, get_or-replicate}
 use lib.Seq.{ext_get_or}
-use borrow.Author.Tests.{lt-ltb, le-ltb, ltb-true, ltb-false, ne_eqb}
+use borrow.Author.Tests.{lt-ltb, ltb-true, ltb-false, ne_eqb}
 use Rattle.instruction.proofs.Ands.{not_second}
-use Rattle.views.specs.Positions.{some, bit}
+use Rattle.views.specs.Positions.{some}
 use Rattle.map.specs.Bits.{one, digits}
 use Rattle.map.specs.Packed.{with_code}
-use Rattle.map.specs.Words.{words_for, code_at}
+use Rattle.map.specs.Words.{code_at}
 use Rattle.map.proofs.Digits.{one_digits}
 use Rattle.map.proofs.Packing.{inside, map_by, map_length, map_at, map_same, one_more_lem}
 use Rattle.replay.specs.Entry.{with_entry, with_entries}

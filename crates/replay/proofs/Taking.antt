@@ -1,10 +1,11 @@
 -- A line taken or refused, test after test.
 -- Assumes nothing.
-use Prim.Native.Nat.{ℕ, ◌+◌, ◌*◌, ◌<◌, ◌≤◌}
+use Prim.Native.Nat.{ℕ, ◌+◌, ◌<◌, ◌≤◌}
 use native.Mathlib.Omega.{arith}
-use mathlib.Core.Path.{◌≡◌, refl, sym, ap, ◌∙◌}
+use mathlib.Core.Path.{◌≡◌, refl, ap, ◌∙◌}
 use mathlib.Core.Bool.{Bool, true, false, cond, not}
 use mathlib.Core.List.{List}
+use Rattle.std.specs.Prelude.{Option}
 use lib.Dec.{eqb}
 use lib.ListN.{length, get_or, set, length-set}
 use borrow.Author.Tests.{eq-eqb, ne_eqb}
@@ -15,7 +16,7 @@ use Rattle.views.specs.Positions.{traced_at}
 use Rattle.replay.specs.Line.{digits_in, is_line, position_of}
 use Rattle.replay.specs.Log.{top, refusing, going}
 use Rattle.replay.specs.Moves.{is_forbidden}
-use Rattle.replay.specs.Take.{State, state, move_now, fault_at, taken_by, taken_at}
+use Rattle.replay.specs.Take.{State, state, move_now, fault_at, taken_at}
 use Rattle.replay.specs.declared.log.Log.{Log}
 use Rattle.replay.specs.declared.moves.Move.{Move}
 
@@ -23,7 +24,7 @@ module _ (mode : Mode) (image m : List ℕ) (isEntry : ℕ → Bool) (l : Log) (
   abbrev s : State
   s = state l counts
 
-  abbrev by : Move
+  abbrev by : Option Move
   by = move_now mode image m isEntry l p
 
   fault_by : (a t f u : Bool) → eqb p 65536 ≡ a → traced_at image m p ≡ t → is_forbidden by ≡ f → eqb (get_or counts p 0) top ≡ u

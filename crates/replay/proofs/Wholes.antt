@@ -5,9 +5,9 @@ use mathlib.Core.Path.{◌≡◌, refl, sym, ap, subst, ◌∙◌}
 use mathlib.Core.Bool.{true, false}
 use mathlib.Core.List.{List}
 use lib.ListN.{length}
-use Rattle.instruction.specs.Answer.{Answer, accepted, refused, judge, after}
+use Rattle.instruction.specs.Answer.{accepted, refused, judge}
 use Rattle.instruction.specs.declared.mode.Mode.{Mode}
-use Rattle.replay.specs.Answers.{is_told, replayed_of, no_totals, lent_refusals, lent_answer, or_else, closed_of}
+use Rattle.replay.specs.Answers.{is_told, replayed_of, no_totals, lent_refusals, lent_answer, closed_of}
 use Rattle.replay.specs.Back.{taken_back, Counted}
 use Rattle.replay.specs.Block.{is_entry_of}
 use Rattle.replay.specs.Log.{begun}

@@ -1,9 +1,11 @@
 -- The record of a replay. Document 02, W11: the totals, the last position, any refusal, and no more text than one partial line.
 -- Assumes nothing.
-use Rattle.std.specs.Prelude.{ℕ, zero, suc, ◌+◌, ◌*◌, ◌/◌, ◌%◌, min, Bool, cond, List, [], ◌∷◌, eqb, leb, length}
+use Rattle.std.specs.Prelude.{ℕ, zero, suc, ◌+◌, ◌*◌, ◌/◌, ◌%◌, min, Bool, cond, Option, List, [], ◌∷◌, eqb, leb, length}
 use Rattle.views.specs.Positions.{some}
 use Rattle.replay.specs.Moves.{is_interrupt, is_free}
 use Rattle.replay.specs.declared.moves.Move.{Move}
+use Rattle.replay.specs.declared.fault.Fault.{Fault}
+use Rattle.replay.specs.declared.fault.Fault.TheVariants.{Malformed, Untraced, Forbidden, Full}
 use Rattle.replay.specs.declared.log.Log.{Log}
 
 -- the highest count
@@ -25,13 +27,20 @@ more_if n b = cond b (one_more n) n
 abbrev pub begun : Log
 begun = record { lines = 0; interrupts = 0; free = 0; last = 0; refusal = 0; held = 0; part = 0 }
 
+-- the number of a refusal
+abbrev pub fault_number : Fault → ℕ
+fault_number Malformed = 18
+fault_number Untraced = 19
+fault_number Forbidden = 20
+fault_number Full = 21
+
 -- the next line refused with this number
 unfoldable pub refusing : Log → ℕ → Log
 refusing l n =
     record { lines = l.lines; interrupts = l.interrupts; free = l.free; last = l.last; refusal = n; held = 0; part = 0 }
 
 -- the next line taken: it tells p, where control came so
-unfoldable pub going : Log → ℕ → Move → Log
+unfoldable pub going : Log → ℕ → Option Move → Log
 going l p by = record {
   lines = one_more l.lines;
   interrupts = more_if l.interrupts (is_interrupt by);

@@ -1,12 +1,13 @@
 -- The lines of a log taken one after another. Document 02, W10 and W11: 18, line malformed; 19, position not traced; 20, move not allowed;
 -- 21, a count would pass its range; in this order for a line, the first bad line deciding.
 -- Assumes nothing.
-use Rattle.std.specs.Prelude.{ℕ, zero, suc, ◌+◌, ◌/◌, Bool, cond, not, List, ◌++◌, eqb, length, get_or, set, take, drop}
+use Rattle.std.specs.Prelude.{ℕ, zero, suc, ◌+◌, ◌/◌, Bool, cond, not, Option, Some, Result, Ok, Err, List, ◌++◌, eqb, length, get_or, set, take, drop}
 use Rattle.instruction.specs.declared.mode.Mode.{Mode}
 use Rattle.views.specs.Positions.{traced_at}
 use Rattle.replay.specs.Line.{position_of}
 use Rattle.replay.specs.Moves.{move_by, is_forbidden}
-use Rattle.replay.specs.Log.{top, refusing, going, partial, keeping}
+use Rattle.replay.specs.Log.{top, fault_number, refusing, going, partial, keeping}
+use Rattle.replay.specs.declared.fault.Fault.{Fault}
 use Rattle.replay.specs.declared.log.Log.{Log}
 use Rattle.replay.specs.declared.moves.Move.{Move}
 use Rattle.replay.specs.declared.moves.Move.TheVariants.{Target}
@@ -19,11 +20,16 @@ pub record State : Type 0 where
 abbrev pub state : Log → List ℕ → State
 state l c = record { log = l; counts = c }
 
+-- the record after a line that is taken or refused
+abbrev pub after_line : Log → Result Log Fault → Log
+after_line l (Ok t) = t
+after_line l (Err f) = refusing l (fault_number f)
+
 -- over an image and marks, in a mode, where a test tells which positions are entries
 module _ (mode : Mode) (image m : List ℕ) (isEntry : ℕ → Bool) where
   -- how control comes to p; the first line is no move
-  unfoldable pub move_now : Log → ℕ → Move
-  move_now l p = cond (eqb l.lines 0) Target (move_by mode image m isEntry l.last p)
+  unfoldable pub move_now : Log → ℕ → Option Move
+  move_now l p = cond (eqb l.lines 0) (Some Target) (move_by mode image m isEntry l.last p)
 
   -- the number of the first refusal of a line that tells p, or 0; 65,536 is told by no line
   unfoldable pub fault_at : State → ℕ → ℕ

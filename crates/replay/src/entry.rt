@@ -20,10 +20,8 @@ pub fn enter(table: &mut [u64], entries: &[u32])
     requires { length table.old ≡ 1024 }
     ensures { table.new ≡ with_entries entries.now table.old }
 {
-    let mut i: usize = 0;
-    while i < entries.len() {
-        enter_one(table, entries[i]);
-        i += 1;
+    for q in entries {
+        enter_one(table, *q);
     }
 }
 

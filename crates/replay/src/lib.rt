@@ -4,6 +4,7 @@
 pub mod answer;
 pub mod block;
 mod entry;
+mod fault;
 mod feed;
 mod keep;
 mod line;

@@ -7,13 +7,10 @@ use text::{cut, four};
 
 pub const LENGTH: usize = 7;
 
-// The position that a line tells, its byte 10 with it; 65,536 where it is none.
-pub fn position_of(line: &[u8]) -> u32
+// The position that a line tells, its byte 10 with it; 65,536 where it is none, as `fault_at` (specs/Take.antt) takes it.
+pub fn position_of(line: &[u8; LENGTH]) -> u32
     ensures { result ≡ position_of line.now }
 {
-    if line.len() != LENGTH {
-        return Image::NOWHERE;
-    }
     if line[0] != b'P' {
         return Image::NOWHERE;
     }

@@ -2,13 +2,14 @@
 ghost use Rattle.std.specs.Prelude.{◌≡◌, ◌<◌, length};
 ghost use Rattle.map.specs.Words.{code_at};
 ghost use Rattle.arrivals.specs.Arrivals.{arrives};
-ghost use Rattle.replay.specs.Moves.{free_after, move_by, is_forbidden};
+ghost use Rattle.replay.specs.Moves.{free_after, move_by};
 
 use crate::entry;
 use instruction::Mode;
 use marks::Mark;
 
-#[derive(Clone, Copy)]
+// How control may come from one line to the next.
+#[derive(Clone, Copy, Debug, PartialEq, Eq)]
 pub enum Move {
     // To a target that the first position had.
     Target,
@@ -16,20 +17,6 @@ pub enum Move {
     Interrupt,
     // After Ret, Reti, or a Jmpf that was not followed.
     Free,
-    Forbidden,
-}
-
-impl Move {
-    pub fn is_forbidden(self) -> bool
-        ensures { result ≡ is_forbidden self }
-    {
-        match self {
-            Self::Target => false,
-            Self::Interrupt => false,
-            Self::Free => false,
-            Self::Forbidden => true,
-        }
-    }
 }
 
 // Whether any traced position may come after q.
@@ -71,19 +58,26 @@ fn is_target(mode: Mode, image: &[u8], marks: &[u8], q: u32, p: u32) -> bool
     arrivals::arrives(mode, image, marks, p, q)
 }
 
-// How control comes from q to p.
-pub fn move_to(mode: Mode, image: &[u8], marks: &[u8], table: &[u64], q: u32, p: u32) -> Move
+// How control comes from q to p, if it may.
+pub fn move_to(
+    mode: Mode,
+    image: &[u8],
+    marks: &[u8],
+    table: &[u64],
+    q: u32,
+    p: u32,
+) -> Option<Move>
     requires { (length table.now ≡ 1024) × (p < 65536) × (p < length image.now) }
     ensures { result ≡ move_by mode image.now marks.now (code_at table.now) q p }
 {
     if is_target(mode, image, marks, q, p) {
-        return Move::Target;
+        return Some(Move::Target);
     }
     if entry::is_entry(table, p) {
-        return Move::Interrupt;
+        return Some(Move::Interrupt);
     }
     if is_free_after(image, marks, q) {
-        return Move::Free;
+        return Some(Move::Free);
     }
-    Move::Forbidden
+    None
 }

@@ -1,7 +1,8 @@
 // The record after one more line, and its totals, which stop at the highest.
-ghost use Rattle.std.specs.Prelude.{◌≡◌, min};
-ghost use Rattle.replay.specs.Log.{highest, one_more, refusing, going};
+ghost use Rattle.std.specs.Prelude.{◌≡◌, min, Some};
+ghost use Rattle.replay.specs.Log.{highest, one_more, fault_number, refusing, going};
 
+use crate::fault::Fault;
 use crate::log::Log;
 use crate::moves::Move;
 
@@ -22,24 +23,18 @@ pub fn one_more(n: u64) -> u64
 pub fn at_most(n: u64) -> u64
     ensures { result ≡ min n highest }
 {
-    if HIGHEST <= n {
-        return HIGHEST;
-    }
-    n
+    n.min(HIGHEST)
 }
 
 // The next line is refused.
-pub fn refuse(log: Log, number: u64) -> Log
-    ensures { result ≡ refusing log number }
+pub fn refuse(log: Log, fault: Fault) -> Log
+    ensures { result ≡ refusing log (fault_number fault) }
 {
     Log {
-        lines: log.lines,
-        interrupts: log.interrupts,
-        free: log.free,
-        last: log.last,
-        refusal: number,
+        refusal: fault as u64,
         held: 0,
         part: 0,
+        ..log
     }
 }
 
@@ -61,12 +56,11 @@ fn taken(log: Log, p: u32, interrupts: u64, free: u64) -> Log
 
 // The next line is taken: it tells p, and control came there so. By cases, so that a move to a target, as most are, is at no other total.
 pub fn go_on(log: Log, p: u32, by: Move) -> Log
-    ensures { result ≡ going log p by }
+    ensures { result ≡ going log p (Some by) }
 {
     match by {
         Move::Target => taken(log, p, log.interrupts, log.free),
         Move::Interrupt => taken(log, p, one_more(log.interrupts), log.free),
         Move::Free => taken(log, p, log.interrupts, one_more(log.free)),
-        Move::Forbidden => taken(log, p, log.interrupts, log.free),
     }
 }

@@ -1,8 +1,10 @@
 // The lines of a log, one after another.
-ghost use Rattle.std.specs.Prelude.{◌≡◌, ◌≤◌, ◌<◌, min, length};
+ghost use Rattle.std.specs.Prelude.{◌≡◌, ◌≤◌, ◌<◌, min, length, IfOk};
 ghost use Rattle.map.specs.Words.{code_at};
-ghost use Rattle.replay.specs.Take.{move_now, taken_at, feed_of, State, state};
+ghost use Rattle.replay.specs.Line.{position_of};
+ghost use Rattle.replay.specs.Take.{move_now, taken_at, feed_of, State, state, after_line};
 
+use crate::fault::Fault;
 use crate::log::Log;
 use crate::moves::Move;
 use crate::{keep, line, moves, next};
@@ -13,24 +15,21 @@ use targets::Image;
 fn position(last: u64) -> u32
     ensures { result ≡ min last 65536 }
 {
-    if Image::NOWHERE as u64 <= last {
-        return Image::NOWHERE;
-    }
-    last as u32
+    last.min(Image::NOWHERE as u64) as u32
 }
 
-// How control comes to p: the first line is no move.
-fn move_now(log: Log, mode: Mode, image: &[u8], marks: &[u8], table: &[u64], p: u32) -> Move
+// How control comes to p, if it may: the first line is no move.
+fn move_now(log: Log, mode: Mode, image: &[u8], marks: &[u8], table: &[u64], p: u32) -> Option<Move>
     requires { (length table.now ≡ 1024) × (length image.now ≤ 65536) × (p < 65536) × (p < length image.now) }
     ensures { result ≡ move_now mode image.now marks.now (code_at table.now) log p }
 {
     if log.lines == 0 {
-        return Move::Target;
+        return Some(Move::Target);
     }
     moves::move_to(mode, image, marks, table, position(log.last), p)
 }
 
-// A line that tells p, or 65,536 where it is none, taken or refused.
+// A line taken: the record after it, or why it is refused.
 fn take_line(
     log: Log,
     mode: Mode,
@@ -38,29 +37,30 @@ fn take_line(
     marks: &[u8],
     table: &[u64],
     counts: &mut [u64],
-    p: u32,
-) -> Log
-    requires { (length table.now ≡ 1024) × (length image.now ≤ 65536) × (length image.now ≤ length counts.old) × (p ≤ 65536) }
-    ensures { state result counts.new
-        ≡ taken_at mode image.now marks.now (code_at table.now) (state log counts.old) p }
+    line: &[u8; line::LENGTH],
+) -> Result<Log, Fault>
+    requires { (length table.now ≡ 1024) × (length image.now ≤ 65536) × (length image.now ≤ length counts.old) }
+    ensures after { state (after_line log result) counts.new
+        ≡ taken_at mode image.now marks.now (code_at table.now) (state log counts.old) (position_of line.now) }
+    ensures goes_on { IfOk result (λ l. l.refusal ≡ 0) }
 {
+    let p = line::position_of(line);
     if p == Image::NOWHERE {
-        return next::refuse(log, 18);
+        return Err(Fault::Malformed);
     }
     let at = p as usize;
     if !views::is_traced_at(image, marks, at) {
-        return next::refuse(log, 19);
+        return Err(Fault::Untraced);
     }
-    let by = move_now(log, mode, image, marks, table, p);
-    if by.is_forbidden() {
-        return next::refuse(log, 20);
-    }
+    let Some(by) = move_now(log, mode, image, marks, table, p) else {
+        return Err(Fault::Forbidden);
+    };
     let count = counts[at];
-    if count == 0xFFFF_FFFF_FFFF_FFFF {
-        return next::refuse(log, 21);
+    if count == u64::MAX {
+        return Err(Fault::Full);
     }
     counts[at] = count + 1;
-    next::go_on(log, p, by)
+    Ok(next::go_on(log, p, by))
 }
 
 // A text that begins where a line does: its lines, up to the first that is refused, and what is left of it.
@@ -77,15 +77,13 @@ pub fn take_lines(
     ensures { state result counts.new
         ≡ feed_of mode image.now marks.now (code_at table.now) (state log counts.old) text.now }
 {
+    let (lines, rest) = text.as_chunks();
     let mut after = log;
-    let mut at: usize = 0;
-    while line::LENGTH <= text.len() - at {
-        let p = line::position_of(&text[at..at + line::LENGTH]);
-        after = take_line(after, mode, image, marks, table, counts, p);
-        if after.refusal != 0 {
-            return after;
+    for line in lines {
+        match take_line(after, mode, image, marks, table, counts, line) {
+            Ok(taken) => after = taken,
+            Err(fault) => return next::refuse(after, fault),
         }
-        at += line::LENGTH;
     }
-    keep::keep(after, &text[at..])
+    keep::keep(after, rest)
 }

@@ -14,12 +14,9 @@ fn take_back(text: &[u8], lines: usize, counts: &mut [u64])
     requires { (7 * lines ≤ length text.now) × Counted text.now lines counts.old }
     ensures { counts.new ≡ taken_back text.now lines counts.old }
 {
-    let mut k = lines;
-    while 0 < k {
-        k -= 1;
-        let at = k * line::LENGTH;
-        let p = line::position_of(&text[at..at + line::LENGTH]) as usize;
-        counts[p] -= 1;
+    let (all, _) = text.as_chunks();
+    for k in (0..lines).rev() {
+        counts[line::position_of(&all[k]) as usize] -= 1;
     }
 }
 

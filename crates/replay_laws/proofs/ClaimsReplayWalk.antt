@@ -26,6 +26,7 @@ use Rattle.replay.specs.Replay.{replayed, replay_answer}
 use Rattle.replay.specs.Take.{State, state, move_now, fault_at, taken_at, feed_of, block_of}
 use Rattle.replay.specs.declared.log.Log.{Log}
 use Rattle.replay.specs.declared.answer.Totals.{Totals}
+use Rattle.std.specs.Prelude.{Some}
 use Rattle.replay.specs.declared.moves.Move.{Move}
 use Rattle.replay.specs.declared.moves.Move.TheVariants.{Target}
 use Rattle.replay.proofs.Lent.{lent_sizes}
@@ -56,7 +57,7 @@ module _ (mode : Mode) (image m : List ℕ) (isEntry : ℕ → Bool) (text : Lis
   Outcome s = Came s ⊎ (s.log.refusal ≡ 21)
 
   -- a position that the one before had among its targets
-  arrived : (l : Log) (p : ℕ) → (l.lines ≡ 0 → ⊥) → arrives mode image m p l.last ≡ true → move_now mode image m isEntry l p ≡ Target
+  arrived : (l : Log) (p : ℕ) → (l.lines ≡ 0 → ⊥) → arrives mode image m p l.last ≡ true → move_now mode image m isEntry l p ≡ Some Target
   unfolding move_now move_by
   arrived l p z e = rw (ne_eqb l.lines 0 z, e) refl
 
@@ -74,10 +75,10 @@ module _ (mode : Mode) (image m : List ℕ) (isEntry : ℕ → Bool) (text : Lis
     traced = subst (λ (x : ℕ). traced_at image m x ≡ true) (sym q) (W.traced s.log.lines inside)
 
     -- each line is a move to a target, or none
-    by_target : move_now mode image m isEntry s.log p ≡ Target
+    by_target : move_now mode image m isEntry s.log p ≡ Some Target
     by_target = by (eq_or_ne s.log.lines 0)
       where
-        by : Decided (s.log.lines ≡ 0) → move_now mode image m isEntry s.log p ≡ Target
+        by : Decided (s.log.lines ≡ 0) → move_now mode image m isEntry s.log p ≡ Some Target
         by (inl z) = sym (first_move mode image m isEntry s.log p z)
         by (inr z) =
             let j : ℕ = s.log.lines - 1 in

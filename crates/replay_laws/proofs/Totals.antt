@@ -6,6 +6,7 @@ use mathlib.Core.Path.{◌≡◌, refl, sym, ap, subst, ◌∙◌}
 use mathlib.Core.Bool.{Bool, true, false, cond}
 use mathlib.Core.List.{List, [], ◌∷◌}
 use mathlib.Core.Logic.{◌⊎◌, inl, inr}
+use Rattle.std.specs.Prelude.{Option, Some, None}
 use lib.Dec.{eqb, leb}
 use lib.ListN.{length, get_or, set}
 use borrow.Author.Tests.{leb-true}
@@ -14,7 +15,7 @@ use Rattle.replay.specs.Line.{digits_in, is_line, position_of}
 use Rattle.replay.specs.Log.{highest, one_more, more_if}
 use Rattle.replay.specs.Moves.{is_interrupt, is_free}
 use Rattle.replay.specs.declared.moves.Move.{Move}
-use Rattle.replay.specs.declared.moves.Move.TheVariants.{Target, Interrupt, Free, Forbidden}
+use Rattle.replay.specs.declared.moves.Move.TheVariants.{Target, Interrupt, Free}
 use Rattle.text.specs.Four.{four_of}
 
 pub sum_more : (c : List ℕ) (p : ℕ) → p < length c → sum (set c p (get_or c p 0 + 1)) ≡ sum c + 1
@@ -31,13 +32,13 @@ more_le n = by (leb highest n) refl
     by true e = let h = leb-true highest n e in omega arith
     by false e = omega arith
 
-pub few_more : (i f : ℕ) (by : Move) → more_if i (is_interrupt by) + more_if f (is_free by) ≤ i + f + 1
-few_more i f Target = omega arith
-few_more i f Interrupt = omega (arith, more_le i)
-few_more i f Free = omega (arith, more_le f)
-few_more i f Forbidden = omega arith
+pub few_more : (i f : ℕ) (by : Option Move) → more_if i (is_interrupt by) + more_if f (is_free by) ≤ i + f + 1
+few_more i f (Some Target) = omega arith
+few_more i f (Some Interrupt) = omega (arith, more_le i)
+few_more i f (Some Free) = omega (arith, more_le f)
+few_more i f None = omega arith
 
-pub none_more : (i f : ℕ) (by : Move) → by ≡ Target → (more_if i (is_interrupt by) ≡ i) × (more_if f (is_free by) ≡ f)
+pub none_more : (i f : ℕ) (by : Option Move) → by ≡ Some Target → (more_if i (is_interrupt by) ≡ i) × (more_if f (is_free by) ≡ f)
 none_more i f by e = rw e (refl, refl)
 
 -- a position in memory is told by a line
