@@ -4,7 +4,7 @@
 use mathlib.Core.Path.{◌≡◌, refl, sym, ap, ◌∙◌}
 use mathlib.Core.Bool.{Bool, true, false, cond, ◌&&◌}
 use mathlib.Core.List.{List, [], ◌∷◌, ◌++◌}
-use Prim.Native.Nat.{ℕ, ◌+◌, ◌<◌, ◌≤◌}
+use Prim.Native.Nat.{ℕ, ◌<◌, ◌≤◌}
 use native.Mathlib.Omega.{arith}
 use borrow.Author.Tests.{ltb-true, ltb-false}
 use lib.Dec.{T, ltb}
@@ -37,7 +37,7 @@ use Rattle.targets.proofs.LastOperand.{third, second, first}
 use Rattle.listing.specs.Alone.{field_alone, operands_alone}
 use Rattle.listing.specs.Line.{fields_text}
 use Rattle.listing.specs.Operand.{target, shown, shown_field, first_of, operands_by}
-use Rattle.listing.proofs.Showing.{three, is_operands}
+use Rattle.listing.proofs.Showing.{is_operands}
 
 -- an operand of this kind names an address
 abbrev is_address : Kind → Bool

@@ -2,9 +2,9 @@
 -- which control goes on is the next arrival.
 -- Assumes nothing.
 use mathlib.Core.Path.{◌≡◌, refl, sym, ap, subst, ◌∙◌}
-use mathlib.Core.Bool.{Bool, true, false, cond, not, ◌&&◌, ◌||◌}
+use mathlib.Core.Bool.{Bool, true, false, cond, not, ◌||◌}
 use mathlib.Core.List.{List}
-use Prim.Native.Nat.{ℕ, ◌+◌, ◌-◌, ◌<◌, ◌≤◌}
+use Prim.Native.Nat.{ℕ, ◌+◌, ◌-◌, ◌<◌, ◌≤◌, min}
 use native.Mathlib.Nat.{zero-add}
 use native.Mathlib.Omega.{arith}
 use lib.Dec.{eqb, ltb}
@@ -26,6 +26,13 @@ use Rattle.arrivals.specs.ClaimsIndex.{OfBytes}
 use Rattle.arrivals.proofs.ClaimsIndexed.{arrives_two_ways, first_indexed, next_indexed}
 use Rattle.arrivals.proofs.Lowest.{Lowest, low_past, low_here, low_later, low_is, low_some, low_after, low_fewer, low_either}
 use Rattle.arrivals.proofs.Namers.{by_name, untraced_name, traced_name, namer_traced}
+
+lesser : (x y : ℕ) → min x y ≡ cond (ltb x y) x y
+lesser x y = by (ltb x y) refl
+  where
+    by : (t : Bool) → ltb x y ≡ t → min x y ≡ cond t x y
+    by true e = let h = ltb-true x y e in omega arith
+    by false e = let h = ltb-false x y e in omega arith
 
 module _ (mode : Mode) (image m : List ℕ) (b : OfBytes image) (p : ℕ) where
   abbrev n : ℕ
@@ -178,9 +185,9 @@ module _ (mode : Mode) (image m : List ℕ) (b : OfBytes image) (p : ℕ) where
   neither false c e = (refl, e)
 
   module _ (h : p < n) where
-    pub lower_arrival : (k c f : ℕ) → c ≡ next_held mode image m p k → f ≡ next_fall mode image m p k → cond (ltb c f) c f ≡ next_arrival mode image m p k
+    pub lower_arrival : (k c f : ℕ) → c ≡ next_held mode image m p k → f ≡ next_fall mode image m p k → min c f ≡ next_arrival mode image m p k
     lower_arrival k c f e d =
-        low_either n b.1 H (falls_from mode image m p) (arrives mode image m p) (λ r i. arrives_two_ways mode image m p r b h) k c f e d ∙ sym (arrival_is k)
+        lesser c f ∙ low_either n b.1 H (falls_from mode image m p) (arrives mode image m p) (λ r i. arrives_two_ways mode image m p r b h) k c f e d ∙ sym (arrival_is k)
 
     none_of : (r : ℕ) → arrives mode image m p r ≡ false → (H r ≡ false) × (falls_from mode image m p r ≡ false)
     none_of r e = neither (H r) (falls_from mode image m p r) (sym (arrives_two_ways mode image m p r b h) ∙ e)

@@ -143,18 +143,6 @@ code_here mode p bytes i e h = ap (λ (b : Bool). cond b [] (instr_text mode p i
 
 -- ---- `D`
 
-zeros_cons : (bs : List ℕ) (i : ℕ) → i < length bs → all_zero (drop i bs) ≡ (eqb (get_or bs i 0) 0 && all_zero (drop (i + 1) bs))
-zeros_cons bs i h = rw (add-one, drop-cons bs i 0)
-
-pub zeros_on : (bs : List ℕ) (i : ℕ) → i < length bs → get_or bs i 0 ≡ 0 → all_zero (drop (i + 1) bs) ≡ all_zero (drop i bs)
-zeros_on bs i h e = sym (zeros_cons bs i h ∙ rw (eq-eqb (get_or bs i 0) 0 e))
-
-pub zeros_off : (bs : List ℕ) (i : ℕ) → i < length bs → (get_or bs i 0 ≡ 0 → ⊥) → false ≡ all_zero (drop i bs)
-zeros_off bs i h e = sym (zeros_cons bs i h ∙ rw (ne_eqb (get_or bs i 0) 0 e))
-
-pub zeros_end : (bs : List ℕ) (i : ℕ) → length bs ≤ i → true ≡ all_zero (drop i bs)
-zeros_end bs i h = rw (drop_of_length-le bs h)
-
 module _ (p : ℕ) (bytes : List ℕ) (z : Bool) (e : z ≡ all_zero bytes) where
   pub no_data : z ≡ true → [] ≡ data_line p bytes
   unfolding data_line

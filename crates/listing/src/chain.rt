@@ -1,5 +1,5 @@
 // Those that name a position, one after another by the index, beside those from which control goes on to it.
-ghost use Rattle.std.specs.Prelude.{◌≡◌, cond, ◌+◌, ◌≤◌, ◌<◌, ltb, length};
+ghost use Rattle.std.specs.Prelude.{◌≡◌, ◌+◌, ◌≤◌, ◌<◌, length};
 ghost use Rattle.views.specs.Labels.{labelled};
 ghost use Rattle.arrivals.specs.Index.{index_of, next_namer, next_held, next_fall};
 
@@ -14,6 +14,7 @@ pub fn is_labelled(mode: Mode, image: &[u8], marks: &[u8], index: &[u16], p: u32
 {
     let n = image.len() as u32;
     let mut q = arrivals::first(index, p);
+    // The index says which is the next, so there is no range to go through.
     while q < n {
         if !marks::is_exempt(image, marks, q) {
             return true;
@@ -31,6 +32,7 @@ pub fn held_from(mode: Mode, image: &[u8], marks: &[u8], index: &[u16], p: u32, 
 {
     let n = image.len() as u32;
     let mut q = c;
+    // The index says which is the next, so there is no range to go through.
     while q < n {
         if marks[q as usize] != Mark::FLASH {
             return q;
@@ -69,13 +71,4 @@ pub fn fall_past(mode: Mode, image: &[u8], marks: &[u8], p: u32, f: u32, q: u32)
         return f;
     }
     arrivals::next_fall(mode, image, marks, p, q + 1)
-}
-
-pub fn lower(c: u32, f: u32) -> u32
-    ensures { result ≡ cond (ltb c f) c f }
-{
-    if c < f {
-        return c;
-    }
-    f
 }

@@ -32,28 +32,15 @@ pub fn put_label(out: &mut [u8], at: usize, p: u32, mark: u8) -> usize
 }
 
 // Positions as fields, and the end of the line.
-fn put_one(out: &mut [u8], at: usize, p: u32) -> usize
-    requires { at < 2 ^ 57 }
-    ensures { Puts (fields_text (hex4 p ∷ [])) at out.old out.new result }
+fn put_places(out: &mut [u8], at: usize, places: &[u32]) -> usize
+    requires { (at < 2 ^ 55) × (length places.now ≤ 3) }
+    ensures { Puts (fields_text (map hex4 places.now)) at out.old out.new result }
 {
-    let a = put::put_place(out, at, p);
+    let mut a = at;
+    for p in places {
+        a = put::put_place(out, a, *p);
+    }
     put::put_byte(out, a, b'\n')
-}
-
-fn put_two(out: &mut [u8], at: usize, p: u32, q: u32) -> usize
-    requires { at < 2 ^ 56 }
-    ensures { Puts (fields_text (hex4 p ∷ hex4 q ∷ [])) at out.old out.new result }
-{
-    let a = put::put_place(out, at, p);
-    put_one(out, a, q)
-}
-
-fn put_three(out: &mut [u8], at: usize, o: u32, p: u32, q: u32) -> usize
-    requires { at < 2 ^ 55 }
-    ensures { Puts (fields_text (hex4 o ∷ hex4 p ∷ hex4 q ∷ [])) at out.old out.new result }
-{
-    let a = put::put_place(out, at, o);
-    put_two(out, a, p, q)
 }
 
 fn put_found(out: &mut [u8], at: usize, o: Overlaps) -> usize
@@ -61,10 +48,10 @@ fn put_found(out: &mut [u8], at: usize, o: Overlaps) -> usize
     ensures { Puts (fields_text (map hex4 (overlaps_in o))) at out.old out.new result }
 {
     match o {
-        Overlaps::Nothing => put::put_byte(out, at, b'\n'),
-        Overlaps::One(a) => put_one(out, at, a),
-        Overlaps::Two(a, b) => put_two(out, at, a, b),
-        Overlaps::Three(a, b, c) => put_three(out, at, a, b, c),
+        Overlaps::Nothing => put_places(out, at, &[]),
+        Overlaps::One(a) => put_places(out, at, &[a]),
+        Overlaps::Two(a, b) => put_places(out, at, &[a, b]),
+        Overlaps::Three(a, b, c) => put_places(out, at, &[a, b, c]),
     }
 }
 
@@ -105,12 +92,13 @@ fn put_arrived(
     let mut a = at;
     let mut c = named;
     let mut f = falls;
-    let mut q = chain::lower(c, f);
+    let mut q = c.min(f);
+    // The next arrival is the lower of two that are looked up, so there is no range to go through.
     while q < n {
         a = put::put_place(out, a, q);
         c = chain::held_past(mode, image, marks, index, p, c, q);
         f = chain::fall_past(mode, image, marks, p, f, q);
-        q = chain::lower(c, f);
+        q = c.min(f);
     }
     put::put_byte(out, a, b'\n')
 }
@@ -137,7 +125,7 @@ pub fn put_arrivals(
     let first = arrivals::first(index, p);
     let named = chain::held_from(mode, image, marks, index, p, first);
     let falls = arrivals::next_fall(mode, image, marks, p, 0);
-    if image.len() <= chain::lower(named, falls) as usize {
+    if image.len() <= named.min(falls) as usize {
         return at;
     }
     let a = put::put_start(out, at, b'A', p);
@@ -195,14 +183,7 @@ pub fn put_here(mode: Mode, image: &[u8], out: &mut [u8], at: usize, p: u32) -> 
 fn all_zero(bytes: &[u8]) -> bool
     ensures { result ≡ all_zero bytes.now }
 {
-    let mut i: usize = 0;
-    while i < bytes.len() {
-        if bytes[i] != 0 {
-            return false;
-        }
-        i += 1;
-    }
-    true
+    bytes.iter().all(|b| *b == 0)
 }
 
 // `D`, where the bytes are not all zero.

@@ -43,10 +43,7 @@ fn put_register(out: &mut [u8], at: usize, n: u32) -> usize
 fn number(z: i32) -> u32
     ensures { result ≡ nat_abs z }
 {
-    if z < 0 {
-        return (-1 - z) as u32 + 1;
-    }
-    z as u32
+    z.unsigned_abs()
 }
 
 // An operand of a kind with the number z, of an instruction that ends at next.
@@ -61,10 +58,9 @@ fn put_operand(out: &mut [u8], at: usize, mode: Mode, next: u64, kind: Kind, z: 
         Kind::Direct => put::put_hex3(out, at, n),
         Kind::Register => put_register(out, at, n),
         Kind::BitNumber => put::put_digit(out, at, n),
-        Kind::Page => put_target(out, at, mode, next, kind, z),
-        Kind::Far => put_target(out, at, mode, next, kind, z),
-        Kind::Short => put_target(out, at, mode, next, kind, z),
-        Kind::Long => put_target(out, at, mode, next, kind, z),
+        Kind::Page | Kind::Far | Kind::Short | Kind::Long => {
+            put_target(out, at, mode, next, kind, z)
+        }
     }
 }
 

@@ -72,10 +72,8 @@ pub fn put_bytes(out: &mut [u8], at: usize, bytes: &[u8]) -> usize
     ensures { Puts (9 ∷ hexes bytes.now) at out.old out.new result }
 {
     let mut a = put_byte(out, at, b'\t');
-    let mut i: usize = 0;
-    while i < bytes.len() {
-        a = put_hex2(out, a, bytes[i] as u32);
-        i += 1;
+    for b in bytes {
+        a = put_hex2(out, a, u32::from(*b));
     }
     a
 }
@@ -87,14 +85,12 @@ pub fn put_word(out: &mut [u8], at: usize, word: u64) -> usize
 {
     let mut a = put_byte(out, at, b'\t');
     let mut w = word;
-    let mut left: usize = 8;
-    while left > 0 {
+    for _ in 0..8_usize {
         if w == 0 {
             return a;
         }
         a = put_byte(out, a, (w % 256) as u8);
         w /= 256;
-        left -= 1;
     }
     a
 }

@@ -4,7 +4,7 @@ ghost use Rattle.text.specs.Puts.{Puts, Needed};
 ghost use Rattle.views.specs.View.{Sound, viewed_of};
 ghost use Rattle.listing.specs.Lent.{text_of, text_answer, text_room};
 ghost use Rattle.listing.specs.Walk.{unchosen, listing_answer, listing_room};
-ghost use Rattle.listing.specs.declared.tabbed.Arrivals.TheVariants.{Chosen, Declined};
+ghost use Rattle.listing.specs.declared.tabbed.Arrivals.TheVariants.{Declined};
 
 use crate::{rooms, walk};
 use instruction::Mode;
@@ -52,81 +52,64 @@ fn put_chosen(mode: Mode, image: &[u8], marks: &[u8], room: &mut [u8]) -> usize
     walk::put_walk(mode, image, marks, &none[0..0], &index[..n], room)
 }
 
-// How many bytes each puts. Where the room holds every text of so many positions, that many: then nothing is to be measured.
-fn needed_declined(mode: Mode, image: &[u8], marks: &[u8], room: usize) -> usize
+// The text, with arrivals or without. Either has a function of its own for its table.
+fn put_text<const CHOSEN: bool>(mode: Mode, image: &[u8], marks: &[u8], room: &mut [u8]) -> usize
     requires { Sound image.now marks.now }
-    ensures { Needed (text_of mode image.now marks.now false) room result }
+    ensures { Puts (text_of mode image.now marks.now CHOSEN) 0 room.old room.new result }
 {
-    let most = MOST * image.len();
+    if CHOSEN {
+        return put_chosen(mode, image, marks, room);
+    }
+    put_declined(mode, image, marks, room)
+}
+
+// How many bytes it has. Where the room holds every text of so many positions, that many: then nothing is to be measured.
+fn needed<const CHOSEN: bool>(mode: Mode, image: &[u8], marks: &[u8], room: usize) -> usize
+    requires { Sound image.now marks.now }
+    ensures { Needed (text_of mode image.now marks.now CHOSEN) room result }
+{
+    let each = if CHOSEN { MOST_WITH } else { MOST };
+    let most = each * image.len();
     if most <= room {
         return most;
     }
     let mut none = [0u8; 1];
-    put_declined(mode, image, marks, &mut none)
+    put_text::<CHOSEN>(mode, image, marks, &mut none)
 }
 
-fn needed_chosen(mode: Mode, image: &[u8], marks: &[u8], room: usize) -> usize
+// The listing of marks that are not damaged.
+fn list<const CHOSEN: bool>(mode: Mode, image: &[u8], marks: &[u8], room: &mut [u8]) -> Viewed
     requires { Sound image.now marks.now }
-    ensures { Needed (text_of mode image.now marks.now true) room result }
+    ensures result_value { viewed_of result ≡ text_answer mode image.now marks.now CHOSEN room.old }
+    ensures room_after { room.new ≡ text_room mode image.now marks.now CHOSEN room.old }
 {
-    let most = MOST_WITH * image.len();
-    if most <= room {
-        return most;
-    }
-    let mut none = [0u8; 1];
-    put_chosen(mode, image, marks, &mut none)
-}
-
-// The listing of marks that are not damaged, without arrivals and with them. The two share no function that holds a table, so that either takes
-// the stack of its own table alone.
-fn list_declined(mode: Mode, image: &[u8], marks: &[u8], room: &mut [u8]) -> Viewed
-    requires { Sound image.now marks.now }
-    ensures result_value { viewed_of result ≡ text_answer mode image.now marks.now false room.old }
-    ensures room_after { room.new ≡ text_room mode image.now marks.now false room.old }
-{
-    let need = needed_declined(mode, image, marks, room.len());
+    let need = needed::<CHOSEN>(mode, image, marks, room.len());
     if room.len() < need {
         return Viewed::NoRoom(need);
     }
-    Viewed::Written(put_declined(mode, image, marks, room))
+    Viewed::Written(put_text::<CHOSEN>(mode, image, marks, room))
 }
 
-fn list_chosen(mode: Mode, image: &[u8], marks: &[u8], room: &mut [u8]) -> Viewed
-    requires { Sound image.now marks.now }
-    ensures result_value { viewed_of result ≡ text_answer mode image.now marks.now true room.old }
-    ensures room_after { room.new ≡ text_room mode image.now marks.now true room.old }
-{
-    let need = needed_chosen(mode, image, marks, room.len());
-    if room.len() < need {
-        return Viewed::NoRoom(need);
-    }
-    Viewed::Written(put_chosen(mode, image, marks, room))
-}
-
-// The listing of the traced image without arrivals: how many bytes were written.
+// The listing of the traced image, with arrivals or without: how many bytes were written. Either is never compiled into its caller, so that
+// it takes the stack of its own table alone.
 #[inline(never)]
+fn listing_by<const CHOSEN: bool>(mode: Mode, image: &[u8], marks: &[u8], room: &mut [u8]) -> Viewed
+    ensures result_value { viewed_of result ≡ text_answer mode image.now marks.now CHOSEN room.old }
+    ensures room_after { room.new ≡ text_room mode image.now marks.now CHOSEN room.old }
+{
+    let v = views::check(image, marks);
+    if !v.is_written() {
+        return v;
+    }
+    list::<CHOSEN>(mode, image, marks, room)
+}
+
+// Without arrivals.
 pub fn listing_declined(mode: Mode, image: &[u8], marks: &[u8], room: &mut [u8]) -> Viewed
     ensures result_value { viewed_of result ≡ listing_answer mode image.now marks.now Declined room.old }
     ensures room_after { room.new ≡ listing_room mode image.now marks.now Declined room.old }
 {
-    let v = views::check(image, marks);
-    if !v.is_written() {
-        return v;
-    }
-    list_declined(mode, image, marks, room)
-}
-
-// With them.
-#[inline(never)]
-fn listing_chosen(mode: Mode, image: &[u8], marks: &[u8], room: &mut [u8]) -> Viewed
-    ensures result_value { viewed_of result ≡ listing_answer mode image.now marks.now Chosen room.old }
-    ensures room_after { room.new ≡ listing_room mode image.now marks.now Chosen room.old }
-{
-    let v = views::check(image, marks);
-    if !v.is_written() {
-        return v;
-    }
-    list_chosen(mode, image, marks, room)
+    listing_by::<false>(mode, image, marks, room)
 }
 
 // The listing of the traced image, with arrivals where they are chosen: how many bytes were written.
@@ -141,8 +124,8 @@ pub fn listing_with(
     ensures room_after { room.new ≡ listing_room mode image.now marks.now arrivals room.old }
 {
     match arrivals {
-        Arrivals::Chosen => listing_chosen(mode, image, marks, room),
-        Arrivals::Declined => listing_declined(mode, image, marks, room),
+        Arrivals::Chosen => listing_by::<true>(mode, image, marks, room),
+        Arrivals::Declined => listing_by::<false>(mode, image, marks, room),
     }
 }
 

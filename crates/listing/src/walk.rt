@@ -78,10 +78,7 @@ fn put_at(
 fn step_by(run: &[u8]) -> usize
     ensures { result ≡ 1 + (length run.now - 1) }
 {
-    if run.len() == 0 {
-        return 1;
-    }
-    run.len()
+    run.len().max(1)
 }
 
 // No mask is lent: where the code so far ends says which bytes are code, since every instruction that begins up to p was passed.
@@ -103,6 +100,7 @@ pub fn put_walk(
     let mut at: usize = 0;
     let mut end: usize = 0;
     let mut p: usize = 0;
+    // The run at a position says how far the next one is, so a `for` over positions would have to pass over those in between.
     while p < n {
         end = views::end_with(image, marks, p as u32, end);
         let run = views::unmasked_run(image, marks, p as u32, end);

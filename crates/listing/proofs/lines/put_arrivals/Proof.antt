@@ -65,30 +65,30 @@ named f =
 held : (h : tie.After-held_from-named) → let e = h.before.before in h.held_from-named.result ≡ next_held (mode e) (image e) (marks e) (p e) 0
 held h = h.held_from-named.ensures ∙ (named h.before).1
 
-abbrev else : tie.After-lower → tie.Else-index-eq0
+abbrev else : tie.After-min → tie.Else-index-eq0
 else n = n.before.before.before.before
 
 -- the lower of both is the lowest arrival
-lowest : (n : tie.After-lower) → let e = else n in n.lower.result ≡ next_arrival (mode e) (image e) (marks e) (p e) 0
+lowest : (n : tie.After-min) → let e = else n in n.min.result ≡ next_arrival (mode e) (image e) (marks e) (p e) 0
 lowest n =
     let e = else n in
     let f = n.before in
     let h = f.before in
-    n.lower.ensures ∙ lower_arrival (mode e) (image e) (marks e) (bytes e) (p e) (start e).requires.2 0 h.held_from-named.result f.next_fall-falls.result (held h)
+    n.min.ensures ∙ lower_arrival (mode e) (image e) (marks e) (bytes e) (p e) (start e).requires.2 0 h.held_from-named.result f.next_fall-falls.result (held h)
     f.next_fall-falls.ensures
 
-first : (n : tie.After-lower) → let e = else n in Next (mode e) (image e) (marks e) (p e) 0 n.lower.result
-first n = let e = else n in next_is (mode e) (image e) (marks e) (p e) (start e).requires.1 0 n.lower.result (lowest n)
+first : (n : tie.After-min) → let e = else n in Next (mode e) (image e) (marks e) (p e) 0 n.min.result
+first n = let e = else n in next_is (mode e) (image e) (marks e) (p e) (start e).requires.1 0 n.min.result (lowest n)
 
-all : (n : tie.After-lower) → let e = else n in arrivals_of (mode e) (image e) (marks e) (p e) ≡ left_from (mode e) (image e) (marks e) (p e) n.lower.result
+all : (n : tie.After-min) → let e = else n in arrivals_of (mode e) (image e) (marks e) (p e) ≡ left_from (mode e) (image e) (marks e) (p e) n.min.result
 all n = let e = else n in sym ((first n).same ∙ all_left (mode e) (image e) (marks e) (p e))
 
-returns-2 : tie.Need-returns-then-image-lower
+returns-2 : tie.Need-returns-then-image-min
 returns-2 c =
     let n = c.before in
     let e = else n in (
       puts_as (no_arrivals (p e) (is_lent (index e)) (arrivals_of (mode e) (image e) (marks e) (p e)) (lent e)
-          (all n ∙ none_left (mode e) (image e) (marks e) (p e) n.lower.result c.if-image-lower.true)) (puts_none _ _),
+          (all n ∙ none_left (mode e) (image e) (marks e) (p e) n.min.result c.if-image-min.true)) (puts_none _ _),
       omega arith,
     )
 
@@ -108,8 +108,8 @@ returns-3 c =
     let d = j.before.before in
     let n = d.before in
     let e = else n in
-    let q : ℕ = n.lower.result in
-    let t : q < length (image e) = d.if-image-lower.false in
+    let q : ℕ = n.min.result in
+    let t : q < length (image e) = d.if-image-min.false in
     let h : j.put_start-a.result ≤ (start e).args.at + 6 = puts_begin (p e) j.put_start-a.ensures in
     let g : k.put_arrived.result ≤ j.put_start-a.result + 327681 = k.put_arrived.ensures.1 in (
       puts_as (arrivals (p e) (is_lent (index e)) (arrivals_of (mode e) (image e) (marks e) (p e)) (lent e) q

@@ -1,12 +1,10 @@
 -- `lines::put_arrived` meets its contract: the fields of the arrivals that are left, put from here, are those of all, put from the start.
 -- Assumes nothing.
 use mathlib.Core.Path.{◌≡◌, refl, ap, ◌∙◌}
-use mathlib.Core.Bool.{cond}
 use mathlib.Core.List.{List, [], ◌∷◌, map}
-use Prim.Native.Nat.{ℕ, ◌+◌, ◌*◌, ◌^◌, ◌<◌, ◌≤◌}
+use Prim.Native.Nat.{ℕ, min, ◌+◌, ◌*◌, ◌^◌, ◌<◌, ◌≤◌}
 use native.Mathlib.Omega.{arith}
 use borrow.Author.Rules.{rules}
-use lib.Dec.{ltb}
 use lib.ListN.{length}
 use Rattle.instruction.specs.declared.mode.Mode.{Mode}
 use Rattle.arrivals.specs.Arrivals.{arrivals_of, next_arrival}
@@ -57,7 +55,7 @@ bytes s = (λ i. (s.shared_slice_known-1.given i).fits, (start s).requires.1)
 
 -- the lower of both is the next arrival
 lowest : (s : tie.After-slice_known-1 invariant_loop decreases_loop) (k c f q : ℕ) → c ≡ next_held (mode s) (image s) (marks s) (p s) k
-    → f ≡ next_fall (mode s) (image s) (marks s) (p s) k → q ≡ cond (ltb c f) c f → q ≡ next_arrival (mode s) (image s) (marks s) (p s) k
+    → f ≡ next_fall (mode s) (image s) (marks s) (p s) k → q ≡ min c f → q ≡ next_arrival (mode s) (image s) (marks s) (p s) k
 lowest s k c f q e d g = g ∙ lower_arrival (mode s) (image s) (marks s) (bytes s) (p s) (start s).requires.3 k c f e d
 
 loop-holds : tie.Need-loop-q-init invariant_loop decreases_loop
@@ -65,8 +63,8 @@ loop-holds c =
     let s = c.before in
     let a = (start s).args in
     let v = (start s).requires in
-    let q : ℕ = c.lower-q.result in
-    let l = lowest s 0 a.named a.falls q v.4 v.5 c.lower-q.ensures in
+    let q : ℕ = c.min-q.result in
+    let l = lowest s 0 a.named a.falls q v.4 v.5 c.min-q.ensures in
     let n = next_is (mode s) (image s) (marks s) (p s) v.1 0 q l in
     let e : left_from (mode s) (image s) (marks s) (p s) q ≡ arrivals_of (mode s) (image s) (marks s) (p s) =
     n.same ∙ all_left (mode s) (image s) (marks s) (p s) in (
@@ -79,36 +77,36 @@ loop-holds c =
     )
 
 -- one turn
-abbrev held : tie.After-lower-q-in-loop-q invariant_loop decreases_loop → tie.After-held_past-c invariant_loop decreases_loop
+abbrev held : tie.After-min-q-in-loop-q invariant_loop decreases_loop → tie.After-held_past-c invariant_loop decreases_loop
 held c = c.before.before
 
-abbrev put : tie.After-lower-q-in-loop-q invariant_loop decreases_loop → tie.After-put_place-a invariant_loop decreases_loop
+abbrev put : tie.After-min-q-in-loop-q invariant_loop decreases_loop → tie.After-put_place-a invariant_loop decreases_loop
 put c = (held c).before.before.before
 
-abbrev turning : tie.After-lower-q-in-loop-q invariant_loop decreases_loop → tie.In-loop-q invariant_loop decreases_loop
+abbrev turning : tie.After-min-q-in-loop-q invariant_loop decreases_loop → tie.In-loop-q invariant_loop decreases_loop
 turning c = (put c).before.before
 
-abbrev known : tie.After-lower-q-in-loop-q invariant_loop decreases_loop → tie.After-slice_known-1 invariant_loop decreases_loop
+abbrev known : tie.After-min-q-in-loop-q invariant_loop decreases_loop → tie.After-slice_known-1 invariant_loop decreases_loop
 known c = (turning c).before.before.before
 
 -- the arrival after q
-arrives_next : (c : tie.After-lower-q-in-loop-q invariant_loop decreases_loop) → let s = known c in
-    c.lower-q-in-loop-q.result ≡ next_arrival (mode s) (image s) (marks s) (p s) ((turning c).loop-q.q + 1)
+arrives_next : (c : tie.After-min-q-in-loop-q invariant_loop decreases_loop) → let s = known c in
+    c.min-q-in-loop-q.result ≡ next_arrival (mode s) (image s) (marks s) (p s) ((turning c).loop-q.q + 1)
 arrives_next c =
-    lowest (known c) ((turning c).loop-q.q + 1) (held c).held_past-c.result c.fall_past-f.result c.lower-q-in-loop-q.result
-    (held c).held_past-c.ensures c.fall_past-f.ensures c.lower-q-in-loop-q.ensures
+    lowest (known c) ((turning c).loop-q.q + 1) (held c).held_past-c.result c.fall_past-f.result c.min-q-in-loop-q.result
+    (held c).held_past-c.ensures c.fall_past-f.ensures c.min-q-in-loop-q.ensures
 
-next : (c : tie.After-lower-q-in-loop-q invariant_loop decreases_loop) → let s = known c in Next (mode s) (image s) (marks s) (p s) ((turning c).loop-q.q + 1) c.lower-q-in-loop-q.result
-next c = let s = known c in next_is (mode s) (image s) (marks s) (p s) (start s).requires.1 ((turning c).loop-q.q + 1) c.lower-q-in-loop-q.result (arrives_next c)
+next : (c : tie.After-min-q-in-loop-q invariant_loop decreases_loop) → let s = known c in Next (mode s) (image s) (marks s) (p s) ((turning c).loop-q.q + 1) c.min-q-in-loop-q.result
+next c = let s = known c in next_is (mode s) (image s) (marks s) (p s) (start s).requires.1 ((turning c).loop-q.q + 1) c.min-q-in-loop-q.result (arrives_next c)
 
 -- one less is left
-turn : (c : tie.After-lower-q-in-loop-q invariant_loop decreases_loop) → let s = known c in let l = (turning c).before in
-    left_from (mode s) (image s) (marks s) (p s) l.loop-q.q ≡ l.loop-q.q ∷ left_from (mode s) (image s) (marks s) (p s) c.lower-q-in-loop-q.result
+turn : (c : tie.After-min-q-in-loop-q invariant_loop decreases_loop) → let s = known c in let l = (turning c).before in
+    left_from (mode s) (image s) (marks s) (p s) l.loop-q.q ≡ l.loop-q.q ∷ left_from (mode s) (image s) (marks s) (p s) c.min-q-in-loop-q.result
 turn c =
     let t = turning c in
     let l = t.before in
     let s = known c in
-    passed (mode s) (image s) (marks s) (p s) (start s).requires.1 l.loop-q.q c.lower-q-in-loop-q.result t.loop-q-test.true l.loop-q.invariant.3 (next c)
+    passed (mode s) (image s) (marks s) (p s) (start s).requires.1 l.loop-q.q c.min-q-in-loop-q.result t.loop-q-test.true l.loop-q.invariant.3 (next c)
 
 loop-again : tie.Need-loop-q-preserved invariant_loop decreases_loop
 unfolding fields_text
@@ -117,7 +115,7 @@ loop-again c =
     let l = (turning c).before in
     let s = known c in
     let v = l.loop-q.invariant in
-    let q : ℕ = c.lower-q-in-loop-q.result in
+    let q : ℕ = c.min-q-in-loop-q.result in
     let j : ℕ = l.loop-q.q + 1 in
     let h : k.put_place-a.result ≤ l.loop-q.a + 5 = puts_place l.loop-q.q k.put_place-a.ensures in (
       puts_length k.put_place-a.ensures ∙ v.0,

@@ -5,14 +5,12 @@ use mathlib.Core.Bool.{Bool, true, false}
 use mathlib.Core.List.{List}
 use Prim.Native.Nat.{ℕ, ◌<◌}
 use native.Mathlib.Omega.{arith}
-use borrow.Author.Rules.{rules}
 use borrow.Author.Tests.{lt-ltb, le-ltb}
 use lib.ListN.{length, get_or}
 use mir.Val.{bool_byte}
 use Rattle.views.specs.Positions.{bit}
 use Rattle.views.specs.Labels.{labels_of}
 use Rattle.views.proofs.Labelling.{labels_length}
-use Rattle.listing.specs.Lent.{is_lent}
 use Rattle.listing.proofs.Chaining.{label_bit}
 use Rattle.listing.proofs.walk.label_at.Statement.{statement}
 use Rattle.listing.proofs.walk.label_at.Tie as tie
