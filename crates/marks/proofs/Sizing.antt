@@ -1,12 +1,12 @@
 -- The refusals 1 and 2 stepped through, whatever follows them.
 -- Assumes nothing.
-use mathlib.Core.Path.{◌≡◌, sym, ◌∙◌}
+use mathlib.Core.Path.{◌≡◌, refl, sym, ◌∙◌}
 use mathlib.Core.List.{List, [], ◌∷◌, ◌++◌}
 use Prim.Native.Nat.{ℕ, ◌<◌, ◌≤◌}
 use lib.IntN.{pos}
 use lib.ListN.{length}
 use borrow.Author.Tests.{lt-ltb, le-ltb}
-use Rattle.instruction.specs.Answer.{refused, Refusal, judge}
+use Rattle.instruction.specs.Answer.{refused, Refusal, judge, after}
 use Rattle.instruction.proofs.Judging.{pass, stop, first_of}
 use Rattle.marks.specs.Refusals.{size_refusals, size_refused}
 use Rattle.marks.specs.declared.sizes.SizeError.{SizeError}
@@ -30,3 +30,8 @@ module _ {A : Type 0} (image m : List ℕ) (rs : List Refusal) (a : A) where
   pub sizes_refused : (e : SizeError) → size_refused {A = Unit {0}} e ≡ judge (size_refusals image m) tt → size_refused e ≡ judge (size_refusals image m ++ rs) a
   sizes_refused (LongImage k) e = sym (first_of rs tt a (size_refusals image m) 1 (pos k ∷ []) (sym e))
   sizes_refused (ShortMarks k) e = sym (first_of rs tt a (size_refusals image m) 2 (pos k ∷ []) (sym e))
+
+-- a call that either refuses leaves what it was lent
+pub refused_after : (A : Type 0) {B : Type 0} (e : SizeError) (written before : B) → after {A = A} (size_refused e) written before ≡ before
+refused_after A (LongImage k) written before = refl
+refused_after A (ShortMarks k) written before = refl

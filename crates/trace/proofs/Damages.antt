@@ -10,7 +10,7 @@ use lib.IntN.{pos}
 use lib.ListN.{length, get_or}
 use borrow.Author.Tests.{lt-ltb, le-ltb}
 use Rattle.instruction.specs.Answer.{Answer, accepted, refused, judge}
-use Rattle.instruction.proofs.Judging.{pass, stop, done}
+use Rattle.instruction.proofs.Judging.{pass, stop, done, first_of, past_all}
 use Rattle.reach.specs.Mark.{traced_mark}
 use Rattle.reach.specs.Tracer.{targets}
 use Rattle.reach.proofs.Exempt.{targets_plain, targets_exempt}
@@ -42,6 +42,16 @@ module _ (n : ℕ) (m : List ℕ) (t : ℕ) where
   pub sound_first : (ts : List ℕ) → damaged_inside n m t ≡ false → judged n m ts ≡ judged n m (t ∷ ts)
   unfolding damages
   sound_first ts e = sym (pass _ _ _ e)
+
+-- what is refused of a position alone is refused of it and more, and what is not is left to those that follow
+module _ (n : ℕ) (m : List ℕ) (t : ℕ) (ts : List ℕ) where
+  pub refused_first : (q : ℕ) → refused 6 (pos q ∷ []) ≡ judged n m (t ∷ []) → refused 6 (pos q ∷ []) ≡ judged n m (t ∷ ts)
+  unfolding damages
+  refused_first q e = sym (first_of (damages n m ts) tt tt (damages n m (t ∷ [])) 6 (pos q ∷ []) (sym e))
+
+  pub sound_then : accepted tt ≡ judged n m (t ∷ []) → judged n m ts ≡ judged n m (t ∷ ts)
+  unfolding damages
+  sound_then e = sym (past_all (damages n m ts) tt tt (damages n m (t ∷ [])) (sym e))
 
 pub sound_end : (n : ℕ) (m : List ℕ) → accepted tt ≡ judged n m []
 unfolding damages

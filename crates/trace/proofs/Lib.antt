@@ -6,3 +6,4 @@ pub mod Queueing
 pub mod Turns
 pub mod Running
 pub mod RunAnswers
+pub mod Mapped

@@ -1,17 +1,22 @@
 -- The refusals of run in their order, and what follows them.
 -- Assumes nothing.
-use mathlib.Core.Path.{◌≡◌, refl, ◌∙◌}
+use mathlib.Core.Path.{◌≡◌, refl, sym, ◌∙◌}
 use mathlib.Core.List.{List, [], ◌∷◌}
 use Prim.Native.Nat.{ℕ, ◌<◌, ◌≤◌}
+use Rattle.std.specs.Prelude.{Result}
 use lib.Dec.{ltb}
 use lib.IntN.{ℤ, pos}
 use lib.ListN.{length}
 use borrow.Author.Tests.{lt-ltb, le-ltb}
-use Rattle.instruction.specs.Answer.{Answer, accepted, refused, Refusal, refuse}
+use Rattle.instruction.specs.Answer.{Answer, accepted, refused, Refusal, refuse, judge}
 use Rattle.instruction.proofs.Judging.{pass, stop, done}
 use Rattle.instruction.specs.declared.mode.Mode.{Mode}
 use Rattle.trace.specs.Run.{RunResult, ran_of, run_judged, run_answer, run_marks, run_order, RanTo, StepsTied}
 use Rattle.trace.specs.declared.run.Ran.{Ran}
+use Rattle.trace.specs.declared.run.RunError.{RunError}
+use Rattle.marks.specs.Refusals.{size_refusals, size_refused}
+use Rattle.marks.specs.declared.sizes.SizeError.{SizeError}
+use Rattle.marks.specs.declared.sizes.SizeError.TheVariants.{LongImage, ShortMarks}
 use Rattle.marks.proofs.Sizing as sizing
 
 module _ (mode : Mode) (image marks order entries pins : List ℕ) (limit : ℕ) where
@@ -31,19 +36,17 @@ module _ (mode : Mode) (image marks order entries pins : List ℕ) (limit : ℕ)
   unfolding run_answer run_marks run_order
   refused_is k vs e = rw e (refl, refl, refl)
 
-  pub long : 65536 < n → Is (refused 1 (pos n ∷ [])) marks order
-  long h = refused_is 1 (pos n ∷ []) (sizing.long_image image marks later tt h)
+  pub sizes : (e : SizeError) → size_refused {A = Unit {0}} e ≡ judge (size_refusals image marks) tt → Is (size_refused e) marks order
+  sizes (LongImage k) f = refused_is 1 (pos k ∷ []) (sym (sizing.sizes_refused image marks later tt (LongImage k) f))
+  sizes (ShortMarks k) f = refused_is 2 (pos k ∷ []) (sym (sizing.sizes_refused image marks later tt (ShortMarks k) f))
 
   module _ (fits : n ≤ 65536) where
-    pub short_marks : length marks < n → Is (refused 2 (pos (length marks) ∷ [])) marks order
-    short_marks h = refused_is 2 (pos (length marks) ∷ []) (sizing.short_marks image marks later tt fits h)
-
     module _ (room : n ≤ length marks) where
       pub short_order : length order < n → Is (refused 3 (pos (length order) ∷ [])) marks order
       short_order h =
           refused_is 3 (pos (length order) ∷ []) (sizing.right_sizes image marks later tt fits room ∙ stop _ _ _ (lt-ltb (length order) n h))
 
-      pub ran : n ≤ length order → (r : Ran) (m o : List ℕ) → RanTo mode image marks order entries pins limit r m o
+      pub ran : n ≤ length order → (r : Result Ran RunError) (m o : List ℕ) → RanTo mode image marks order entries pins limit r m o
           → (ran_of r ≡ run_answer mode image marks order entries pins limit) × (m ≡ run_marks mode image marks order entries pins limit)
           × (o ≡ run_order mode image marks order entries pins limit) × StepsTied image r m
       unfolding run_answer run_marks run_order

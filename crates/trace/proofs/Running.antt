@@ -1,8 +1,9 @@
 -- What a run begins with, and what it answers and leaves where its loop ends.
 -- Assumes nothing.
-use mathlib.Core.Path.{◌≡◌, sym, ap, subst, ◌∙◌}
+use mathlib.Core.Path.{◌≡◌, refl, sym, ap, subst, ◌∙◌}
 use mathlib.Core.List.{List}
 use Prim.Native.Nat.{ℕ, ◌≤◌}
+use Rattle.std.specs.Prelude.{Result, Ok, Err}
 use native.Mathlib.Omega.{arith}
 use lib.ListN.{length, take}
 use Rattle.instruction.specs.Answer.{refused}
@@ -12,7 +13,7 @@ use Rattle.instruction.specs.Decode.{cut_at}
 use Rattle.instruction.specs.declared.mode.Mode.{Mode}
 use Rattle.reach.specs.Mark.{traced_mark, count}
 use Rattle.reach.specs.Queue.{Noted}
-use Rattle.reach.specs.Run.{Outcome, End, finished, stopped, cut_off, steps, run_of}
+use Rattle.reach.specs.Run.{Outcome, End, finished, stopped, cut_off, run_of}
 use Rattle.reach.specs.Takes.{Base}
 use Rattle.reach.proofs.Came.{Came}
 use Rattle.reach.proofs.Noted.{noted_long}
@@ -24,7 +25,9 @@ use Rattle.trace.specs.Run.{outcome_of, end_of, ran_of, ran_answer, RanTo, Steps
 use Rattle.marks.specs.Tracer.{tracer_of}
 use Rattle.trace.specs.declared.run.Counts.{Counts}
 use Rattle.trace.specs.declared.run.Ran.{Ran}
-use Rattle.trace.specs.declared.run.Ran.TheVariants.{Finished, Stopped, Cut}
+use Rattle.trace.specs.declared.run.Ran.TheVariants.{Finished, Stopped}
+use Rattle.trace.specs.declared.run.RunError.{RunError}
+use Rattle.trace.specs.declared.run.RunError.TheVariants.{Cut}
 
 -- what stands where the entries are noted: m₀ and o₀ with the list's end t₀
 pub record Begun (mode : Mode) (image marks order entries pins m₀ o₀ : List ℕ) (t₀ : ℕ) : Type 0 where
@@ -60,7 +63,7 @@ module _ (mode : Mode) (image marks order entries pins : List ℕ) (limit : ℕ)
   abbrev out : Outcome
   out = run_of limit (tracer_of mode image) entries (table (length image) pins marks)
 
-  ended : (e : End) (r : Ran) (m o : List ℕ) (tail head : ℕ) → Came order out e m o tail head → ran_of r ≡ end_of image e head tail → StepsTied image r m
+  ended : (e : End) (r : Result Ran RunError) (m o : List ℕ) (tail head : ℕ) → Came order out e m o tail head → ran_of r ≡ end_of image e head tail → StepsTied image r m
       → RanTo mode image marks order entries pins limit r m o
   unfolding outcome_of
   ended e r m o tail head C a t =
@@ -76,15 +79,15 @@ module _ (mode : Mode) (image marks order entries pins : List ℕ) (limit : ℕ)
       ∙ ap (λ (x : List ℕ). count traced_mark (take (length image) x)) (sym C.marks_are)
 
   module _ (m o : List ℕ) (tail head : ℕ) where
-    pub ran_finished : (c : Counts) → (c.steps ≡ head) × (c.noted ≡ tail) → Came order out finished m o tail head
-        → RanTo mode image marks order entries pins limit (Finished c) m o
-    ran_finished c h C =
-        let x = h.0 in let y = h.1 in ended finished (Finished c) m o tail head C (rw (x, y)) (x ∙ tied finished m o tail head C)
+    abbrev counts : Counts
+    counts = record { steps = head; noted = tail }
 
-    pub ran_stopped : (c : Counts) → (c.steps ≡ head) × (c.noted ≡ tail) → Came order out stopped m o tail head
-        → RanTo mode image marks order entries pins limit (Stopped c) m o
-    ran_stopped c h C = let x = h.0 in let y = h.1 in ended stopped (Stopped c) m o tail head C (rw (x, y)) (x ∙ tied stopped m o tail head C)
+    pub ran_finished : Came order out finished m o tail head → RanTo mode image marks order entries pins limit (Ok (Finished counts)) m o
+    ran_finished C = ended finished (Ok (Finished counts)) m o tail head C refl (tied finished m o tail head C)
+
+    pub ran_stopped : Came order out stopped m o tail head → RanTo mode image marks order entries pins limit (Ok (Stopped counts)) m o
+    ran_stopped C = ended stopped (Ok (Stopped counts)) m o tail head C refl (tied stopped m o tail head C)
 
     pub ran_cut : (p : ℕ) (c : CutOff) → cut_values c ≡ cut_values (cut_at image p) → Came order out (cut_off p) m o tail head → (m' o' : List ℕ) → m' ≡ m → o' ≡ o
-        → RanTo mode image marks order entries pins limit (Cut c) m' o'
-    ran_cut p c h C m' o' e f = rw (e, f) (ended (cut_off p) (Cut c) m o tail head C (ap (refused 5) h) tt)
+        → RanTo mode image marks order entries pins limit (Err (Cut c)) m' o'
+    ran_cut p c h C m' o' e f = rw (e, f) (ended (cut_off p) (Err (Cut c)) m o tail head C (ap (refused 5) h) tt)

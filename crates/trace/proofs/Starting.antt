@@ -1,17 +1,17 @@
 -- The one answer of start and the one content of its marks, from the tests of the code.
 -- Assumes nothing.
-use mathlib.Core.Path.{◌≡◌, refl, sym, ap, ◌∙◌}
-use mathlib.Core.List.{List, [], ◌∷◌}
-use Prim.Native.Nat.{ℕ, ◌<◌, ◌≤◌}
-use lib.IntN.{pos}
+use mathlib.Core.Path.{◌≡◌, sym, ap, ◌∙◌}
+use mathlib.Core.List.{List, []}
+use Prim.Native.Nat.{ℕ, ◌≤◌}
 use lib.ListN.{length}
-use Rattle.instruction.specs.Answer.{Answer, accepted, refused, after}
+use Rattle.instruction.specs.Answer.{Answer, accepted, judge, after}
 use Rattle.instruction.proofs.Judging.{done}
 use Rattle.reach.specs.Note.{note, fresh}
 use Rattle.reach.specs.Pins.{table}
 use Rattle.trace.specs.Start.{start_answer, start_marks}
-use Rattle.marks.proofs.Sizing.{long_image, right_sizes}
-use Rattle.marks.proofs.Sizing as sizing
+use Rattle.marks.specs.Refusals.{size_refusals, size_refused}
+use Rattle.marks.specs.declared.sizes.SizeError.{SizeError}
+use Rattle.marks.proofs.Sizing.{sizes_refused, refused_after, right_sizes}
 
 module _ (image marks entries pins : List ℕ) where
   abbrev n : ℕ
@@ -23,15 +23,12 @@ module _ (image marks entries pins : List ℕ) where
   unfolding start_marks
   held r e t f = (sym e, rw e (sym f))
 
-  pub long : 65536 < n → (refused 1 (pos n ∷ []) ≡ start_answer image marks entries pins) × (marks ≡ start_marks image marks entries pins)
+  pub sizes : (e : SizeError) → size_refused {A = Unit {0}} e ≡ judge (size_refusals image marks) tt
+      → (size_refused e ≡ start_answer image marks entries pins) × (marks ≡ start_marks image marks entries pins)
   unfolding start_answer
-  long h = held (refused 1 (pos n ∷ [])) (long_image image marks [] (length (fresh n entries (table n pins marks))) h) marks refl
+  sizes e f = held (size_refused e) (sym (sizes_refused image marks [] _ e f)) marks (refused_after ℕ e _ marks)
 
   module _ (fits : n ≤ 65536) where
-    pub short : length marks < n → (refused 2 (pos (length marks) ∷ []) ≡ start_answer image marks entries pins) × (marks ≡ start_marks image marks entries pins)
-    unfolding start_answer
-    short h = held (refused 2 (pos (length marks) ∷ [])) (sizing.short_marks image marks [] (length (fresh n entries (table n pins marks))) fits h) marks refl
-
     pub set : n ≤ length marks → (m : List ℕ) → m ≡ table n pins marks → (k : ℕ) (t : List ℕ) → (k ≡ length (fresh n entries m)) × (t ≡ note n entries m)
         → (accepted k ≡ start_answer image marks entries pins) × (t ≡ start_marks image marks entries pins)
     unfolding start_answer

@@ -16,7 +16,8 @@ use Rattle.instruction.proofs.Judging.{pass, stop}
 use Rattle.instruction.specs.Decode.{cut_at}
 use Rattle.instruction.specs.declared.mode.Mode.{Mode}
 use Rattle.reach.specs.Tracer.{targets, took}
-use Rattle.marks.specs.Refusals.{damaged}
+use Rattle.marks.specs.Refusals.{size_refusals, size_refused, damaged}
+use Rattle.marks.specs.declared.sizes.SizeError.{SizeError}
 use Rattle.trace.specs.Step.{idle, damage_refusals, step_refusals, StepResult, step_result, step_answer, step_marks}
 use Rattle.marks.specs.Tracer.{tracer_of}
 use Rattle.targets.specs.At.{fits_here}
@@ -67,15 +68,11 @@ module _ (mode : Mode) (image m : List ℕ) (p : ℕ) where
   unfolding step_marks
   held r e t f = (sym e, rw e (sym f))
 
-  pub long : 65536 < n → Is (refused 1 (pos n ∷ [])) m
+  pub sizes : (e : SizeError) → size_refused {A = Unit {0}} e ≡ judge (size_refusals image m) tt → Is (size_refused e) m
   unfolding step_answer step_refusals
-  long h = held (refused 1 (pos n ∷ [])) (sizing.long_image image m later (step_result (tracer_of mode image) m p) h) m refl
+  sizes e f = held (size_refused e) (sym (sizing.sizes_refused image m later _ e f)) m (sizing.refused_after StepResult e _ m)
 
   module _ (fits : n ≤ 65536) where
-    pub short : length m < n → Is (refused 2 (pos (length m) ∷ [])) m
-    unfolding step_answer step_refusals
-    short h = held (refused 2 (pos (length m) ∷ [])) (sizing.short_marks image m later (step_result (tracer_of mode image) m p) fits h) m refl
-
     module _ (room : n ≤ length m) where
       pub outside : n ≤ p → Is (refused 4 (pos 0 ∷ [])) m
       unfolding step_answer step_refusals

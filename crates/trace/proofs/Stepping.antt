@@ -3,6 +3,7 @@
 use mathlib.Core.Path.{◌≡◌, refl, sym, ap, ap₂, subst, ◌∙◌}
 use mathlib.Core.List.{List, [], ◌∷◌}
 use Prim.Native.Nat.{ℕ}
+use Rattle.std.specs.Prelude.{Ok}
 use lib.IntN.{pos}
 use lib.ListN.{length}
 use Rattle.instruction.specs.Answer.{Answer, accepted, refused, Refusal, judge, after}
@@ -14,8 +15,6 @@ use Rattle.marks.specs.Taken.{going_to, TakenUp}
 use Rattle.targets.specs.At.{ways_here}
 use Rattle.targets.specs.Ways.{places_in}
 use Rattle.marks.specs.Tracer.{tracer_of}
-use Rattle.trace.specs.declared.step.Advance.{Advance}
-use Rattle.trace.specs.declared.step.Stepped.TheVariants.{Traced}
 use Rattle.marks.specs.declared.take.Taken.{Taken}
 
 -- of a tracer
@@ -43,10 +42,10 @@ module _ (G : Tracer) (image m : List ℕ) (p : ℕ) where
   said a b = record { mark = a; waiting = b }
 
   pub took_said : accepted tt ≡ judge {A = Unit {0}} refusals tt → (r : Taken) (m' : List ℕ) → TakenUp G m p r m' → (k : ℕ) → k ≡ length (places_in r.noted)
-      → (s : Advance) → (s.mark ≡ r.mark) × (s.waiting ≡ k) → Inner (stepped_of (Traced s)) m'
-  took_said e r m' t k f s g =
-      let v : step_result G m p ≡ said s.mark s.waiting = ap₂ said (sym (g.0 ∙ t.mark_is)) (sym (g.1 ∙ f ∙ ap length t.noted_are)) in
-      inner_held (stepped_of (Traced s)) (accepts_too refusals tt (step_result G m p) (sym e) ∙ ap accepted v) m' (sym t.marks_are)
+      → Inner (stepped_of (Ok (record { mark = r.mark; waiting = k }))) m'
+  took_said e r m' t k f =
+      let v : step_result G m p ≡ said r.mark k = ap₂ said (sym t.mark_is) (sym (f ∙ ap length t.noted_are)) in
+      inner_held (stepped_of (Ok (record { mark = r.mark; waiting = k }))) (accepts_too refusals tt (step_result G m p) (sym e) ∙ ap accepted v) m' (sym t.marks_are)
 
 -- where these are the targets of the instruction at p, it is the image's own tracer
 pub inner_ways : (mode : Mode) (image ts m : List ℕ) (p : ℕ) (r : Answer StepResult) (t : List ℕ) → ts ≡ ways_here mode image p

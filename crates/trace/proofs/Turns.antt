@@ -13,18 +13,18 @@ use Rattle.reach.specs.Queue.{TakenInOrder}
 use Rattle.trace.specs.Run.{NextTaken}
 use Rattle.marks.specs.Tracer.{tracer_of}
 use Rattle.targets.specs.At.{fits_here}
-use Rattle.trace.specs.declared.run.TookNext.TheVariants.{On, Off}
+use Rattle.std.specs.Prelude.{Ok, Err}
 
 module _ (mode : Mode) (image m o : List ℕ) (p tail : ℕ) where
   pub turned_on : (t : ℕ) (m' o' : List ℕ) → fits_here image p ≡ true → TakenInOrder (tracer_of mode image) p m o tail m' o' t
-      → NextTaken mode image m o p tail (On t) m' o'
+      → NextTaken mode image m o p tail (Ok t) m' o'
   turned_on t m' o' f T =
       record {
         on = λ u e. (f, (let g : t ≡ u = cc in subst (λ (k : ℕ). TakenInOrder (tracer_of mode image) p m o tail m' o' k) g T));
         off = λ c e. absurd (let z : ◌≡◌ {A = ℕ} 0 1 = cc in omega arith);
       }
 
-  pub turned_off : (c : CutOff) → (fits_here image p ≡ false) × (cut_values c ≡ cut_values (cut_at image p)) → NextTaken mode image m o p tail (Off c) m o
+  pub turned_off : (c : CutOff) → (fits_here image p ≡ false) × (cut_values c ≡ cut_values (cut_at image p)) → NextTaken mode image m o p tail (Err c) m o
   turned_off c h =
       record {
         on = λ u e. absurd (let z : ◌≡◌ {A = ℕ} 0 1 = cc in omega arith);

@@ -1,6 +1,6 @@
 -- What a run answers and leaves. Document 01, 'Marks and steps', and refusals 1, 2, 3, then 5, which keeps what the run wrote.
 -- Assumes nothing.
-use Rattle.std.specs.Prelude.{ℕ, Bool, true, false, List, [], ◌∷◌, ◌++◌, ◌≡◌, ltb, pos, length, take}
+use Rattle.std.specs.Prelude.{ℕ, Bool, true, false, List, [], ◌∷◌, ◌++◌, ◌≡◌, ltb, pos, length, take, Result, Ok, Err}
 use Rattle.instruction.specs.Answer.{Answer, accepted, refused, Refusal, refuse, judge, after}
 use Rattle.instruction.specs.CutOff.{cut_values}
 use Rattle.instruction.specs.declared.answer.CutOff.{CutOff}
@@ -10,13 +10,13 @@ use Rattle.reach.specs.Mark.{traced_mark, count}
 use Rattle.reach.specs.Queue.{TakenInOrder}
 use Rattle.reach.specs.Run.{End, finished, stopped, cut_off, Outcome, steps, noted, ordered, run_of}
 use Rattle.reach.specs.Pins.{table}
-use Rattle.marks.specs.Refusals.{size_refusals}
+use Rattle.marks.specs.Refusals.{size_refusals, size_refused}
 use Rattle.marks.specs.Tracer.{tracer_of}
 use Rattle.targets.specs.At.{fits_here}
-use Rattle.trace.specs.declared.run.TookNext.{TookNext}
-use Rattle.trace.specs.declared.run.TookNext.TheVariants.{On, Off}
 use Rattle.trace.specs.declared.run.Ran.{Ran}
-use Rattle.trace.specs.declared.run.Ran.TheVariants.{Finished, Stopped, LongImage, ShortMarks, ShortOrder, Cut}
+use Rattle.trace.specs.declared.run.Ran.TheVariants.{Finished, Stopped}
+use Rattle.trace.specs.declared.run.RunError.{RunError}
+use Rattle.trace.specs.declared.run.RunError.TheVariants.{Size, ShortOrder, Cut}
 
 -- 3: order list shorter than image
 abbrev pub run_refusals : List ℕ → List ℕ → List ℕ → List Refusal
@@ -39,13 +39,12 @@ pub record RunResult : Type 0 where
 abbrev pub run_accepted : Bool → ℕ → ℕ → Answer RunResult
 run_accepted b s n = accepted (record { finished = b; steps = s; noted = n })
 
-abbrev pub ran_of : Ran → Answer RunResult
-ran_of (Finished c) = run_accepted true c.steps c.noted
-ran_of (Stopped c) = run_accepted false c.steps c.noted
-ran_of (LongImage n) = refused 1 (pos n ∷ [])
-ran_of (ShortMarks n) = refused 2 (pos n ∷ [])
-ran_of (ShortOrder n) = refused 3 (pos n ∷ [])
-ran_of (Cut c) = refused 5 (cut_values c)
+abbrev pub ran_of : Result Ran RunError → Answer RunResult
+ran_of (Ok (Finished c)) = run_accepted true c.steps c.noted
+ran_of (Ok (Stopped c)) = run_accepted false c.steps c.noted
+ran_of (Err (Size e)) = size_refused e
+ran_of (Err (ShortOrder n)) = refused 3 (pos n ∷ [])
+ran_of (Err (Cut c)) = refused 5 (cut_values c)
 
 -- how it ended: an instruction cut off is 5, with position, first byte and how many bytes are missing
 abbrev pub end_of : List ℕ → End → ℕ → ℕ → Answer RunResult
@@ -77,21 +76,18 @@ run_order mode image marks order entries pins limit =
 
 -- of the inner function that takes the next position up: it is taken up and what it found is written at the list's end, or its
 -- instruction is cut off and nothing changes
-pub record NextTaken (mode : Mode) (image m o : List ℕ) (p tail : ℕ) (r : TookNext) (m' o' : List ℕ) : Type 0 where
-  pub on : (t : ℕ) → r ≡ On t → (fits_here image p ≡ true) × TakenInOrder (tracer_of mode image) p m o tail m' o' t
-  pub off : (c : CutOff) → r ≡ Off c → (fits_here image p ≡ false) × (cut_values c ≡ cut_values (cut_at image p)) × (m' ≡ m) × (o' ≡ o)
+pub record NextTaken (mode : Mode) (image m o : List ℕ) (p tail : ℕ) (r : Result ℕ CutOff) (m' o' : List ℕ) : Type 0 where
+  pub on : (t : ℕ) → r ≡ Ok t → (fits_here image p ≡ true) × TakenInOrder (tracer_of mode image) p m o tail m' o' t
+  pub off : (c : CutOff) → r ≡ Err c → (fits_here image p ≡ false) × (cut_values c ≡ cut_values (cut_at image p)) × (m' ≡ m) × (o' ≡ o)
 
 -- the steps are the marks 2 and 3 afterwards
-abbrev pub StepsTied : List ℕ → Ran → List ℕ → Type 0
-StepsTied image (Finished c) m = c.steps ≡ count traced_mark (take (length image) m)
-StepsTied image (Stopped c) m = c.steps ≡ count traced_mark (take (length image) m)
-StepsTied image (LongImage n) m = Unit {0}
-StepsTied image (ShortMarks n) m = Unit {0}
-StepsTied image (ShortOrder n) m = Unit {0}
-StepsTied image (Cut c) m = Unit {0}
+abbrev pub StepsTied : List ℕ → Result Ran RunError → List ℕ → Type 0
+StepsTied image (Ok (Finished c)) m = c.steps ≡ count traced_mark (take (length image) m)
+StepsTied image (Ok (Stopped c)) m = c.steps ≡ count traced_mark (take (length image) m)
+StepsTied image (Err e) m = Unit {0}
 
 -- of the inner function that runs once the sizes are judged
-pub record RanTo (mode : Mode) (image marks order entries pins : List ℕ) (limit : ℕ) (r : Ran) (m' o' : List ℕ) : Type 0 where
+pub record RanTo (mode : Mode) (image marks order entries pins : List ℕ) (limit : ℕ) (r : Result Ran RunError) (m' o' : List ℕ) : Type 0 where
   pub answer_is : ran_of r ≡ ran_answer image (outcome_of mode image marks entries pins limit)
   pub marks_are : m' ≡ (outcome_of mode image marks entries pins limit).marks
   pub order_is : o' ≡ ordered (outcome_of mode image marks entries pins limit) order

@@ -1,17 +1,15 @@
 -- What start answers and leaves. Document 01, 'Marks and steps', and refusals 1 and 2 in this order.
 -- Assumes nothing.
-use Rattle.std.specs.Prelude.{ℕ, List, [], ◌∷◌, pos, length}
-use Rattle.instruction.specs.Answer.{Answer, accepted, refused, judge, after}
+use Rattle.std.specs.Prelude.{ℕ, List, length, Result, Ok, Err}
+use Rattle.instruction.specs.Answer.{Answer, accepted, judge, after}
 use Rattle.reach.specs.Note.{note, fresh}
 use Rattle.reach.specs.Pins.{table}
-use Rattle.marks.specs.Refusals.{size_refusals}
-use Rattle.trace.specs.declared.start.Started.{Started}
-use Rattle.trace.specs.declared.start.Started.TheVariants.{Set, LongImage, ShortMarks}
+use Rattle.marks.specs.Refusals.{size_refusals, size_refused}
+use Rattle.marks.specs.declared.sizes.SizeError.{SizeError}
 
-abbrev pub started_of : Started → Answer ℕ
-started_of (Set n) = accepted n
-started_of (LongImage n) = refused 1 (pos n ∷ [])
-started_of (ShortMarks n) = refused 2 (pos n ∷ [])
+abbrev pub started_of : Result ℕ SizeError → Answer ℕ
+started_of (Ok n) = accepted n
+started_of (Err e) = size_refused e
 
 -- the number of positions set
 unfoldable pub start_answer : List ℕ → List ℕ → List ℕ → List ℕ → Answer ℕ

@@ -1,20 +1,19 @@
 -- What a step answers and leaves. Document 01, 'Marks and steps' and the order of refusals: 1, 2, 4, 6 at p, 5, 6 at p - 2 (read only for
 -- a Jmpf with B8 0D before it), 6 at the targets in their order. In a step, damage is a byte over 4 (document 02, W8) that it reads.
 -- Assumes nothing.
-use Rattle.std.specs.Prelude.{ℕ, ◌-◌, Bool, not, ◌&&◌, ◌||◌, List, [], ◌∷◌, ◌++◌, ltb, leb, eqb, pos, length, get_or}
+use Rattle.std.specs.Prelude.{ℕ, ◌-◌, Bool, not, ◌&&◌, ◌||◌, List, [], ◌∷◌, ◌++◌, ltb, leb, eqb, pos, length, get_or, Result, Ok, Err}
 use Rattle.instruction.specs.Answer.{Answer, accepted, refused, Refusal, refuse, judge, after}
 use Rattle.instruction.specs.CutOff.{cut_values}
 use Rattle.instruction.specs.Decode.{cut_at}
 use Rattle.instruction.specs.declared.mode.Mode.{Mode}
 use Rattle.reach.specs.Pins.{pinned}
 use Rattle.reach.specs.Tracer.{Tracer, targets, mark, took, found}
-use Rattle.marks.specs.Refusals.{size_refusals, damaged}
+use Rattle.marks.specs.Refusals.{size_refusals, size_refused, damaged}
 use Rattle.marks.specs.Tracer.{tracer_of}
 use Rattle.targets.specs.At.{fits_here, flash_here}
-use Rattle.trace.specs.declared.damage.Damage.{Damage}
-use Rattle.trace.specs.declared.damage.Damage.TheVariants.{Nowhere, At}
-use Rattle.trace.specs.declared.step.Stepped.{Stepped}
-use Rattle.trace.specs.declared.step.Stepped.TheVariants.{Traced, LongImage, ShortMarks, NotWaiting, Cut, Damaged}
+use Rattle.trace.specs.declared.step.Advance.{Advance}
+use Rattle.trace.specs.declared.step.StepError.{StepError}
+use Rattle.trace.specs.declared.step.StepError.TheVariants.{Size, NotWaiting, Cut, Damaged}
 
 -- 4: position not inside, with 0, or mark 0, 2, 3, with it; document 02, W8: or pinned
 abbrev pub idle : ℕ → Bool
@@ -45,17 +44,16 @@ pub record StepResult : Type 0 where
   pub waiting : ℕ
 
 -- of the inner search for damage
-abbrev pub damage_of : Damage → Answer (Unit {0})
-damage_of Nowhere = accepted tt
-damage_of (At q) = refused 6 (pos q ∷ [])
+abbrev pub damage_of : Result (Unit {0}) ℕ → Answer (Unit {0})
+damage_of (Ok u) = accepted u
+damage_of (Err q) = refused 6 (pos q ∷ [])
 
-abbrev pub stepped_of : Stepped → Answer StepResult
-stepped_of (Traced s) = accepted (record { mark = s.mark; waiting = s.waiting })
-stepped_of (LongImage n) = refused 1 (pos n ∷ [])
-stepped_of (ShortMarks n) = refused 2 (pos n ∷ [])
-stepped_of (NotWaiting v) = refused 4 (pos v ∷ [])
-stepped_of (Cut c) = refused 5 (cut_values c)
-stepped_of (Damaged q) = refused 6 (pos q ∷ [])
+abbrev pub stepped_of : Result Advance StepError → Answer StepResult
+stepped_of (Ok s) = accepted (record { mark = s.mark; waiting = s.waiting })
+stepped_of (Err (Size e)) = size_refused e
+stepped_of (Err (NotWaiting v)) = refused 4 (pos v ∷ [])
+stepped_of (Err (Cut c)) = refused 5 (cut_values c)
+stepped_of (Err (Damaged q)) = refused 6 (pos q ∷ [])
 
 -- by a tracer
 abbrev pub step_result : Tracer → List ℕ → ℕ → StepResult

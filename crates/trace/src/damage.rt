@@ -10,54 +10,42 @@ ghost use Rattle.marks.specs.Taken.{going_to};
 use marks::Mark;
 use targets::Places;
 
-#[derive(Clone, Copy)]
-pub enum Damage {
-    Nowhere,
-    // 6: the position.
-    At(u32),
-}
-
 // Whether a position is inside and its mark is damaged.
 fn is_damaged_mark(marks: &[u8], n: usize, t: u32) -> bool
     requires { n ≤ length marks.now }
     ensures { result ≡ (ltb t n && damaged (get_or marks.now t 0)) }
 {
     let at = t as usize;
-    if at < n {
-        return Mark::HIGHEST < marks[at];
-    }
-    false
+    at < n && Mark::HIGHEST < marks[at]
 }
 
-fn damage_one(marks: &[u8], n: usize, t: u32) -> Damage
+fn check_one(marks: &[u8], n: usize, t: u32) -> Result<(), u32>
     requires { n ≤ length marks.now }
     ensures { damage_of result ≡ judge (damages n marks.now (t ∷ [])) tt }
 {
     if is_damaged_mark(marks, n, t) {
-        return Damage::At(t);
+        return Err(t);
     }
-    Damage::Nowhere
+    Ok(())
 }
 
-// The first of these positions that is damaged.
-fn damage_all(marks: &[u8], n: usize, ps: Places) -> Damage
+// The first of these positions that is damaged is refused.
+fn check_all(marks: &[u8], n: usize, ps: Places) -> Result<(), u32>
     requires { n ≤ length marks.now }
     ensures { damage_of result ≡ judge (damages n marks.now (places_in ps)) tt }
 {
     match ps {
-        Places::Nothing => Damage::Nowhere,
-        Places::First(s) => damage_one(marks, n, s),
+        Places::Nothing => Ok(()),
+        Places::First(s) => check_one(marks, n, s),
         Places::Both(s, t) => {
-            if is_damaged_mark(marks, n, s) {
-                return Damage::At(s);
-            }
-            damage_one(marks, n, t)
+            check_one(marks, n, s)?;
+            check_one(marks, n, t)
         }
     }
 }
 
-// The first damaged mark that a step at p would read besides p's own, where these are the targets.
-pub fn find_damage(image: &[u8], marks: &[u8], p: u32, to: Places) -> Damage
+// Refuses the first damaged mark, by its position, that a step at p would read besides p's own, where these are the targets.
+pub fn check(image: &[u8], marks: &[u8], p: u32, to: Places) -> Result<(), u32>
     requires { (p < length image.now) × (length image.now ≤ length marks.now) }
     ensures { damage_of result
         ≡ judge
@@ -67,12 +55,12 @@ pub fn find_damage(image: &[u8], marks: &[u8], p: u32, to: Places) -> Damage
     if marks::is_flash(image, p) {
         let before = marks[p as usize - 2];
         if Mark::HIGHEST < before {
-            return Damage::At(p - 2);
+            return Err(p - 2);
         }
         // Under the exception the targets are not read.
         if Mark::is_traced(before) {
-            return Damage::Nowhere;
+            return Ok(());
         }
     }
-    damage_all(marks, image.len(), to)
+    check_all(marks, image.len(), to)
 }

@@ -8,6 +8,5 @@ pub mod run;
 pub mod start;
 pub mod step;
 
-pub use run::{Counts, Ran};
-pub use start::Started;
-pub use step::{Advance, Stepped};
+pub use run::{Counts, Ran, RunError};
+pub use step::{Advance, StepError};

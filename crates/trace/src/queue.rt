@@ -33,11 +33,9 @@ pub fn put_entries(marks: &mut [u8], order: &mut [u32], n: usize, entries: &[u32
     ensures { Noted n entries.now marks.old order.old 0 marks.new order.new result }
 {
     let mut tail: usize = 0;
-    let mut i = 0;
-    while i < entries.len() {
-        let noted = marks::note_place(marks, n, entries[i]);
+    for t in entries {
+        let noted = marks::note_place(marks, n, *t);
         tail = put(order, tail, noted);
-        i += 1;
     }
     tail
 }

@@ -5,10 +5,12 @@ ghost use Rattle.std.specs.Prelude.{◌≡◌, ◌+◌, ◌≤◌, ◌<◌, leng
 ghost use Rattle.reach.specs.Tracer.{found};
 ghost use Rattle.trace.specs.Run.{ran_of, run_answer, run_marks, run_order, RanTo, StepsTied, NextTaken};
 ghost use Rattle.marks.specs.Tracer.{tracer_of};
+ghost use Rattle.trace.specs.declared.run.RunError.TheVariants.{Size, Cut};
 
 use crate::{begin, queue};
 use instruction::{CutOff, Mode};
-use targets::{Image, Ways};
+use marks::SizeError;
+use targets::Ways;
 
 // The steps, and the positions noted.
 #[derive(Clone, Copy)]
@@ -17,38 +19,41 @@ pub struct Counts {
     pub noted: u32,
 }
 
-impl Counts {
-    pub fn new(steps: u32, noted: u32) -> Self
-        ensures { (result.steps ≡ steps) × (result.noted ≡ noted) }
-    {
-        Self { steps, noted }
-    }
-}
-
 #[derive(Clone, Copy)]
 pub enum Ran {
     // Nothing waiting.
     Finished(Counts),
     // The limit used up.
     Stopped(Counts),
-    // 1: the image's length.
-    LongImage(usize),
-    // 2: the marks' length.
-    ShortMarks(usize),
+}
+
+#[derive(Clone, Copy)]
+pub enum RunError {
+    // 1 and 2.
+    Size(SizeError),
     // 3: the order list's length.
     ShortOrder(usize),
     // 5
     Cut(CutOff),
 }
 
-// The list's new end, or the instruction cut off.
-#[derive(Clone, Copy)]
-enum TookNext {
-    On(usize),
-    Off(CutOff),
+impl From<SizeError> for RunError {
+    ghost from_gives = { λ e r. r ≡ Size e };
+
+    fn from(e: SizeError) -> RunError {
+        RunError::Size(e)
+    }
 }
 
-// Takes up p, the next of the queue, and writes what it found at the list's end.
+impl From<CutOff> for RunError {
+    ghost from_gives = { λ c r. r ≡ Cut c };
+
+    fn from(c: CutOff) -> RunError {
+        RunError::Cut(c)
+    }
+}
+
+// Takes up p, the next of the queue, and writes what it found at the list's end: its new end, or the instruction cut off.
 fn take_next(
     mode: Mode,
     image: &[u8],
@@ -56,7 +61,7 @@ fn take_next(
     order: &mut [u32],
     p: u32,
     tail: usize,
-) -> TookNext
+) -> Result<usize, CutOff>
     requires p_in_bounds { (p < length image.now) × (length image.now ≤ 65536) × (length image.now ≤ length marks.old) }
     requires p_in_bounds_2 { tail + length (found (tracer_of mode image.now) marks.old p) ≤ length order.old }
     ensures { NextTaken mode image.now marks.old order.old p tail result marks.new order.new }
@@ -65,10 +70,10 @@ fn take_next(
         Ways::Goes(to) => {
             let taken = marks::take_up(image, marks, p, to);
             let noted = taken.noted;
-            TookNext::On(queue::put(order, tail, noted))
+            Ok(queue::put(order, tail, noted))
         }
-        Ways::Cut(c) => TookNext::Off(c),
-        Ways::Outside => TookNext::On(tail),
+        Ways::Cut(c) => Err(c),
+        Ways::Outside => Ok(tail),
     }
 }
 
@@ -81,7 +86,7 @@ fn run_on(
     entries: &[u32],
     pins: &[u32],
     limit: u32,
-) -> Ran
+) -> Result<Ran, RunError>
     requires { (length image.now ≤ 65536) × (length image.now ≤ length marks.old) × (length image.now ≤ length order.old) }
     ensures { RanTo mode image.now marks.old order.old entries.now pins.now limit result
         marks.new order.new }
@@ -91,18 +96,20 @@ fn run_on(
     let most = limit as usize;
     let mut tail = queue::put_entries(marks, order, n, entries);
     let mut head: usize = 0;
-    while head < tail {
-        if most <= head {
-            return Ran::Stopped(Counts::new(head as u32, tail as u32));
-        }
+    // The list grows while it is gone through, so no range stands for the loop.
+    while head < tail && head < most {
         let p = order[head];
-        match take_next(mode, image, marks, order, p, tail) {
-            TookNext::On(t) => tail = t,
-            TookNext::Off(c) => return Ran::Cut(c),
-        }
+        tail = take_next(mode, image, marks, order, p, tail)?;
         head += 1;
     }
-    Ran::Finished(Counts::new(head as u32, tail as u32))
+    let counts = Counts {
+        steps: head as u32,
+        noted: tail as u32,
+    };
+    if head < tail {
+        return Ok(Ran::Stopped(counts));
+    }
+    Ok(Ran::Finished(counts))
 }
 
 // A run from the entries, for at most limit steps.
@@ -114,21 +121,15 @@ pub fn run(
     entries: &[u32],
     pins: &[u32],
     limit: u32,
-) -> Ran
+) -> Result<Ran, RunError>
     ensures result_value { ran_of result ≡ run_answer mode image.now marks.old order.old entries.now pins.now limit }
     ensures marks_after { marks.new ≡ run_marks mode image.now marks.old order.old entries.now pins.now limit }
     ensures order_after { order.new ≡ run_order mode image.now marks.old order.old entries.now pins.now limit }
     ensures steps_tied { StepsTied image.now result marks.new }
 {
-    let n = image.len();
-    if Image::LIMIT < n {
-        return Ran::LongImage(n);
-    }
-    if marks.len() < n {
-        return Ran::ShortMarks(marks.len());
-    }
-    if order.len() < n {
-        return Ran::ShortOrder(order.len());
+    marks::check_sizes(image, marks)?;
+    if order.len() < image.len() {
+        return Err(RunError::ShortOrder(order.len()));
     }
     run_on(mode, image, marks, order, entries, pins, limit)
 }

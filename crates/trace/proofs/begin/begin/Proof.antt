@@ -1,6 +1,6 @@
 -- `begin::begin` meets its contract.
 -- Assumes nothing.
-use mathlib.Core.Path.{◌≡◌, ap, ◌∙◌}
+use mathlib.Core.Path.{ap, ◌∙◌}
 use borrow.Author.Rules.{rules}
 use Rattle.reach.specs.Pins.{pin}
 use Rattle.marks.proofs.Clearing.{wiped_is}
