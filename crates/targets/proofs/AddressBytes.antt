@@ -1,14 +1,13 @@
 -- The address that a jump, branch or call names, from its bytes: the first byte tells of what kind it is, and the kind where it stands.
 -- Assumes nothing.
-use Rattle.std.proofs.Common.{◌≡◌, ℕ, zero, suc, ◌+◌, ◌-◌, ◌*◌, ◌/◌, ◌%◌, ◌<◌, ◌≤◌, Bool, true, cond, T, eqb, ltb, leb, List, length, get_or, drop, ℤ, pos, ◌+ℤ◌, sym, refl, ap, ◌∙◌, add-zero, arith, eqb→eq, get_or-drop, le-ltb, lt-ltb, ne_eqb, le-leb}
+use Rattle.std.proofs.Common.{◌≡◌, ℕ, zero, suc, ◌+◌, ◌-◌, ◌*◌, ◌/◌, ◌%◌, ◌<◌, ◌≤◌, true, cond, T, eqb, ltb, leb, List, length, get_or, drop, ℤ, pos, ◌+ℤ◌, sym, refl, ap, ◌∙◌, add-zero, arith, eqb→eq, get_or-drop, le-ltb, lt-ltb, ne_eqb, le-leb}
 use borrow.Author.Tests.{lt-leb}
 use Rattle.instruction.specs.Code.{short_of}
 use Rattle.instruction.specs.Decode.{fields_in}
 use Rattle.instruction.specs.Flow.{flow_of, stops, jumps, branches}
-use Rattle.instruction.specs.Forms.{forms, form_at, form_of, size_of}
+use Rattle.instruction.specs.Forms.{forms, form_at, form_of}
 use Rattle.instruction.specs.Kinds.{kinds_of, kind_at}
 use Rattle.instruction.specs.Layout.{blank}
-use Rattle.instruction.specs.Parts.{parts_of, made_of}
 use Rattle.instruction.specs.Pattern.{pattern, pattern_bytes, onto, bits_given, next_bracket}
 use Rattle.instruction.specs.declared.instr.Parts.{Parts}
 use Rattle.instruction.specs.declared.kind.Kind.{Kind}

@@ -14,8 +14,9 @@ use Rattle.targets.specs.Opening.{opening_of}
 use Rattle.targets.specs.Targets.{in_mode, by_flow, address_in, targets_in}
 use Rattle.targets.specs.Ways.{is_whole, ways_of, is_naming, goes_on}
 use Rattle.targets.specs.declared.opening.Opening.{Opening}
-use Rattle.targets.specs.declared.opening.Opening.TheVariants.{Whole, Cut, Outside}
-use Rattle.targets.specs.declared.place.Ways.TheVariants as way
+use Rattle.targets.specs.declared.not_whole.NotWhole.{NotWhole}
+use Rattle.targets.specs.declared.not_whole.NotWhole.TheVariants.{Cut, Outside}
+use Rattle.std.specs.Prelude.{Result, Ok, Err}
 use Rattle.instruction.proofs.Ands.{both, first_part, second_part, not_first, not_second}
 use Rattle.instruction.specs.declared.mode.Mode.{Mode}
 use Rattle.targets.proofs.Within.{Small, form_is}
@@ -44,11 +45,11 @@ in_memory image p = ltb p (length image) && leb (length image) 65536
 module _ (image : List ℕ) (p : ℕ) where
   -- ---- where each answer is the answer
 
-  pub past_limit : 65536 < length image → Outside ≡ opening_of image p
+  pub past_limit : 65536 < length image → Err Outside ≡ opening_of image p
   unfolding opening_of
   past_limit h = rw (not_second (ltb p (length image)) (leb (length image) 65536) (lt-leb (length image) 65536 h))
 
-  pub past_end : length image ≤ p → Outside ≡ opening_of image p
+  pub past_end : length image ≤ p → Err Outside ≡ opening_of image p
   unfolding opening_of
   past_end h = rw (le-ltb p (length image) h)
 
@@ -57,67 +58,62 @@ module _ (image : List ℕ) (p : ℕ) where
     there = both _ _ (lt-ltb p (length image) inside) (le-leb (length image) 65536 small)
 
     pub is_cut : (n : ℕ) → n ≡ p + size_here image p → length image < n → (c : CutOff)
-        → (c.position ≡ p) × (c.first ≡ get_or image p 0) × (c.missing ≡ n - length image) → Cut c ≡ opening_of image p
+        → (c.position ≡ p) × (c.first ≡ get_or image p 0) × (c.missing ≡ n - length image) → Err (Cut c) ≡ opening_of image p
     unfolding opening_of fits_here
     is_cut n e h c q = rw (there, lt-leb (p + size_here image p) (length image) (rw (← e) h))
-        (ap Cut (cut_at_lem image p c q.0 q.1 (q.2 ∙ (let g : n - length image ≡ size_here image p - (length image - p) = omega arith in g))))
+        (ap (λ (x : CutOff). Err (Cut x)) (cut_at_lem image p c q.0 q.1 (q.2 ∙ (let g : n - length image ≡ size_here image p - (length image - p) = omega arith in g))))
 
-    pub is_whole_lem : (n : ℕ) → n ≡ p + size_here image p → n ≤ length image → (f : Flow) → f ≡ flow_of (form_here image p) → Whole n f ≡ opening_of image p
+    pub is_whole_lem : (n : ℕ) → n ≡ p + size_here image p → n ≤ length image → (f : Flow) → f ≡ flow_of (form_here image p)
+        → Ok (record { next = n; flow = f }) ≡ opening_of image p
     unfolding opening_of fits_here
     is_whole_lem n e h f g = rw (there, le-leb (p + size_here image p) (length image) (rw (← e) h), e, g)
 
   -- ---- what each says
 
-  pub record IsWhole (n : ℕ) (f : Flow) : Type 0 where
+  pub record IsWhole (o : Opening) : Type 0 where
     pub inside : p < length image
     pub small : length image ≤ 65536
     pub fits : fits_here image p ≡ true
-    pub next : n ≡ p + size_here image p
-    pub flow : f ≡ flow_of (form_here image p)
+    pub next : o.next ≡ p + size_here image p
+    pub flow : o.flow ≡ flow_of (form_here image p)
 
-  opens : (o : Opening) → o ≡ opening_of image p → (b t : Bool) → in_memory image p ≡ b → fits_here image p ≡ t
-      → o ≡ cond b (cond t (Whole (p + size_here image p) (flow_of (form_here image p))) (Cut (cut_at image p))) Outside
+  opens : (o : Result Opening NotWhole) → o ≡ opening_of image p → (b t : Bool) → in_memory image p ≡ b → fits_here image p ≡ t
+      → o ≡ cond b (cond t (Ok (record { next = p + size_here image p; flow = flow_of (form_here image p) })) (Err (Cut (cut_at image p)))) (Err Outside)
   unfolding opening_of
   opens o e b t f g = e ∙ rw (f, g)
 
-  pub whole_says : (n : ℕ) (f : Flow) → Whole n f ≡ opening_of image p → IsWhole n f
-  whole_says n f e = by (in_memory image p) (fits_here image p) refl refl
+  pub whole_says : (o : Opening) → Ok o ≡ opening_of image p → IsWhole o
+  whole_says o e = by (in_memory image p) (fits_here image p) refl refl
     where
-      by : (b t : Bool) → in_memory image p ≡ b → fits_here image p ≡ t → IsWhole n f
+      by : (b t : Bool) → in_memory image p ≡ b → fits_here image p ≡ t → IsWhole o
       by true true g h =
-          let o = opens (Whole n f) e true true g h in
+          let w = opens (Ok o) e true true g h in
           record {
             inside = ltb-true p (length image) (first_part (ltb p (length image)) _ g);
             small = leb-true (length image) 65536 (second_part (ltb p (length image)) _ g);
             fits = h;
-            next = cc;
-            flow = cc;
+            next = let q : o ≡ record { next = p + size_here image p; flow = flow_of (form_here image p) } = cc in ap (λ (x : Opening). x.next) q;
+            flow = let q : o ≡ record { next = p + size_here image p; flow = flow_of (form_here image p) } = cc in ap (λ (x : Opening). x.flow) q;
           }
-      by true false g h = let o = opens (Whole n f) e true false g h in absurd (let z : ◌≡◌ {A = ℕ} 0 1 = cc in omega arith)
-      by false t g h = let o = opens (Whole n f) e false t g h in absurd (let z : ◌≡◌ {A = ℕ} 0 1 = cc in omega arith)
+      by true false g h = let w = opens (Ok o) e true false g h in absurd (let z : ◌≡◌ {A = ℕ} 0 1 = cc in omega arith)
+      by false t g h = let w = opens (Ok o) e false t g h in absurd (let z : ◌≡◌ {A = ℕ} 0 1 = cc in omega arith)
 
 -- what each says of where control goes
 module _ (mode : Mode) (image : List ℕ) (p : ℕ) where
-  pub cut_says : (c : CutOff) → Cut c ≡ opening_of image p → (way.Cut c ≡ ways_of mode image p) × (is_whole image p ≡ false)
+  pub not_whole_says : (e : NotWhole) → Err e ≡ opening_of image p → (Err e ≡ ways_of mode image p) × (is_whole image p ≡ false)
   unfolding ways_of
-  cut_says c e = by (in_memory image p) (fits_here image p) refl refl
+  not_whole_says e q = by (in_memory image p) (fits_here image p) refl refl
     where
-      by : (b t : Bool) → in_memory image p ≡ b → fits_here image p ≡ t → (way.Cut c ≡ ways_of mode image p) × (is_whole image p ≡ false)
+      by : (b t : Bool) → in_memory image p ≡ b → fits_here image p ≡ t → (Err e ≡ ways_of mode image p) × (is_whole image p ≡ false)
+      by true true g h = let o = opens image p (Err e) q true true g h in absurd (let z : ◌≡◌ {A = ℕ} 0 1 = cc in omega arith)
       by true false g h =
-          let o = opens image p (Cut c) e true false g h in
-          let d : c ≡ cut_at image p = cc in
-          (rw (g, h) (ap way.Cut d), not_second (in_memory image p) _ h)
-      by true true g h = let o = opens image p (Cut c) e true true g h in absurd (let z : ◌≡◌ {A = ℕ} 0 1 = cc in omega arith)
-      by false t g h = let o = opens image p (Cut c) e false t g h in absurd (let z : ◌≡◌ {A = ℕ} 0 1 = cc in omega arith)
-
-  pub outside_says : Outside ≡ opening_of image p → (way.Outside ≡ ways_of mode image p) × (is_whole image p ≡ false)
-  unfolding ways_of
-  outside_says e = by (in_memory image p) (fits_here image p) refl refl
-    where
-      by : (b t : Bool) → in_memory image p ≡ b → fits_here image p ≡ t → (way.Outside ≡ ways_of mode image p) × (is_whole image p ≡ false)
-      by false t g h = (rw g, not_first (in_memory image p) _ g)
-      by true true g h = let o = opens image p Outside e true true g h in absurd (let z : ◌≡◌ {A = ℕ} 0 1 = cc in omega arith)
-      by true false g h = let o = opens image p Outside e true false g h in absurd (let z : ◌≡◌ {A = ℕ} 0 1 = cc in omega arith)
+          let o = opens image p (Err e) q true false g h in
+          let d : e ≡ Cut (cut_at image p) = cc in
+          (rw (g, h, d), not_second (in_memory image p) _ h)
+      by false t g h =
+          let o = opens image p (Err e) q false t g h in
+          let d : e ≡ Outside = cc in
+          (rw (g, d), not_first (in_memory image p) _ g)
 
   -- ---- where control goes
 

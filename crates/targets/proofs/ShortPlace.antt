@@ -1,6 +1,6 @@
 -- Next plus the offset that a byte is, as a position: the sum is taken with 128 more, so that it is not below 0.
 -- Assumes nothing.
-use Rattle.std.proofs.Common.{◌≡◌, ℕ, suc, ◌+◌, ◌-◌, ◌%◌, ◌<◌, ◌≤◌, Bool, true, false, cond, ltb, ℤ, pos, negsuc, ◌+ℤ◌, refl, ap, arith, ltb-false, ltb-true, le-ltb, lt-ltb}
+use Rattle.std.proofs.Common.{◌≡◌, ℕ, suc, ◌+◌, ◌-◌, ◌%◌, ◌<◌, ◌≤◌, Bool, true, false, cond, ltb, pos, negsuc, ◌+ℤ◌, refl, ap, arith, ltb-false, ltb-true, le-ltb, lt-ltb}
 use Rattle.instruction.specs.Code.{short_of}
 use Rattle.instruction.specs.declared.mode.Mode.TheVariants.{Unwrapped, Wrapping}
 use Rattle.targets.specs.At.{place_of}

@@ -14,12 +14,11 @@ use Rattle.targets.specs.At.{size_here, fits_here, instr_here, ways_here, place_
 use Rattle.targets.specs.Here.{here_of}
 use Rattle.targets.specs.Targets.{in_mode, by_flow, address_in, targets_in}
 use Rattle.targets.specs.Ways.{places_in, places_named, ways_of}
-use Rattle.targets.specs.declared.here.Here.{Here}
-use Rattle.targets.specs.declared.here.Here.TheVariants.{Whole, Cut, Outside}
+use Rattle.targets.specs.declared.not_whole.NotWhole.{NotWhole}
+use Rattle.targets.specs.declared.not_whole.NotWhole.TheVariants.{Cut, Outside}
+use Rattle.std.specs.Prelude.{Result, Ok, Err}
 use Rattle.targets.specs.declared.place.Places.{Places}
 use Rattle.targets.specs.declared.place.Places.TheVariants.{Nothing, First, Both}
-use Rattle.targets.specs.declared.place.Ways.{Ways}
-use Rattle.targets.specs.declared.place.Ways.TheVariants as way
 
 -- these positions named are these
 pub named_back : (ps : Places) → ps ≡ places_named (places_in ps)
@@ -49,33 +48,33 @@ ways_few mode image q = omega (arith, ap length (two_at_most mode image q), plac
 
 module _ (image : List ℕ) (p : ℕ) where
   module _ (inside : p < length image) where
-    here_is : (h : Here) → h ≡ here_of image p → (t : Bool) → fits_here image p ≡ t → h ≡ cond t (Whole (instr_here image p)) (Cut (cut_at image p))
+    here_is : (h : Result Instr NotWhole) → h ≡ here_of image p → (t : Bool) → fits_here image p ≡ t → h ≡ cond t (Ok (instr_here image p)) (Err (Cut (cut_at image p)))
     unfolding here_of
     here_is h e t f = e ∙ rw (lt-ltb p (length image) inside, f)
 
-    pub here_whole : (i : Instr) → Whole i ≡ here_of image p → (fits_here image p ≡ true) × (i ≡ instr_here image p)
+    pub here_whole : (i : Instr) → Ok i ≡ here_of image p → (fits_here image p ≡ true) × (i ≡ instr_here image p)
     here_whole i e = by (fits_here image p) refl
       where
         by : (t : Bool) → fits_here image p ≡ t → (fits_here image p ≡ true) × (i ≡ instr_here image p)
-        by true f = let g = here_is (Whole i) e true f in (f, cc)
-        by false f = let g = here_is (Whole i) e false f in absurd (let z : ◌≡◌ {A = ℕ} 0 1 = cc in omega arith)
+        by true f = let g = here_is (Ok i) e true f in (f, cc)
+        by false f = let g = here_is (Ok i) e false f in absurd (let z : ◌≡◌ {A = ℕ} 0 1 = cc in omega arith)
 
-    pub here_cut : (c : CutOff) → Cut c ≡ here_of image p → (fits_here image p ≡ false) × (c ≡ cut_at image p)
+    pub here_cut : (c : CutOff) → Err (Cut c) ≡ here_of image p → (fits_here image p ≡ false) × (c ≡ cut_at image p)
     here_cut c e = by (fits_here image p) refl
       where
         by : (t : Bool) → fits_here image p ≡ t → (fits_here image p ≡ false) × (c ≡ cut_at image p)
-        by true f = let g = here_is (Cut c) e true f in absurd (let z : ◌≡◌ {A = ℕ} 0 1 = cc in omega arith)
-        by false f = let g = here_is (Cut c) e false f in (f, cc)
+        by true f = let g = here_is (Err (Cut c)) e true f in absurd (let z : ◌≡◌ {A = ℕ} 0 1 = cc in omega arith)
+        by false f = let g = here_is (Err (Cut c)) e false f in (f, cc)
 
-    here_inside : Outside ≡ here_of image p → ⊥
+    here_inside : Err Outside ≡ here_of image p → ⊥
     here_inside e = by (fits_here image p) refl
       where
         by : (t : Bool) → fits_here image p ≡ t → ⊥
-        by true f = let g = here_is Outside e true f in let z : ◌≡◌ {A = ℕ} 0 1 = cc in omega arith
-        by false f = let g = here_is Outside e false f in let z : ◌≡◌ {A = ℕ} 0 1 = cc in omega arith
+        by true f = let g = here_is (Err Outside) e true f in let z : ◌≡◌ {A = ℕ} 0 1 = cc in omega arith
+        by false f = let g = here_is (Err Outside) e false f in let z : ◌≡◌ {A = ℕ} 0 1 = cc in omega arith
 
   -- an instruction, whole or cut off, stands inside
-  stands_inside : (h : Here) → h ≡ here_of image p → (h ≡ Outside → ⊥) → p < length image
+  stands_inside : (h : Result Instr NotWhole) → h ≡ here_of image p → (h ≡ Err Outside → ⊥) → p < length image
   unfolding here_of
   stands_inside h e k = by (ltb p (length image)) refl
     where
@@ -83,10 +82,10 @@ module _ (image : List ℕ) (p : ℕ) where
       by true f = ltb-true p (length image) f
       by false f = absurd (k (e ∙ rw f))
 
-  pub whole_inside : (i : Instr) → Whole i ≡ here_of image p → p < length image
-  whole_inside i e = stands_inside (Whole i) e (λ f. let z : ◌≡◌ {A = ℕ} 0 1 = cc in omega arith)
+  pub whole_inside : (i : Instr) → Ok i ≡ here_of image p → p < length image
+  whole_inside i e = stands_inside (Ok i) e (λ f. let z : ◌≡◌ {A = ℕ} 0 1 = cc in omega arith)
 
-  pub here_outside : Outside ≡ here_of image p → ltb p (length image) ≡ false
+  pub here_outside : Err Outside ≡ here_of image p → ltb p (length image) ≡ false
   here_outside e = by (ltb p (length image)) refl
     where
       by : (b : Bool) → ltb p (length image) ≡ b → ltb p (length image) ≡ false
@@ -94,35 +93,35 @@ module _ (image : List ℕ) (p : ℕ) where
       by false f = f
 
 module _ (mode : Mode) (image : List ℕ) (p : ℕ) (inside : p < length image) (small : length image ≤ 65536) where
-  ways_is : (w : Ways) → w ≡ ways_of mode image p → (t : Bool) → fits_here image p ≡ t
-      → w ≡ cond t (way.Goes (places_named (ways_here mode image p))) (way.Cut (cut_at image p))
+  ways_is : (w : Result Places NotWhole) → w ≡ ways_of mode image p → (t : Bool) → fits_here image p ≡ t
+      → w ≡ cond t (Ok (places_named (ways_here mode image p))) (Err (Cut (cut_at image p)))
   unfolding ways_of
   ways_is w e t f = e ∙ rw (lt-ltb p (length image) inside, le-leb (length image) 65536 small, f)
 
-  pub whole_goes : fits_here image p ≡ true → (ps : Places) → places_in ps ≡ ways_here mode image p → way.Goes ps ≡ ways_of mode image p
-  whole_goes f ps e = ap way.Goes (named_back ps ∙ ap places_named e) ∙ sym (ways_is (ways_of mode image p) refl true f)
+  pub whole_goes : fits_here image p ≡ true → (ps : Places) → places_in ps ≡ ways_here mode image p → Ok ps ≡ ways_of mode image p
+  whole_goes f ps e = ap Ok (named_back ps ∙ ap places_named e) ∙ sym (ways_is (ways_of mode image p) refl true f)
 
-  pub goes_whole : (ps : Places) → way.Goes ps ≡ ways_of mode image p → (fits_here image p ≡ true) × (places_in ps ≡ ways_here mode image p)
+  pub goes_whole : (ps : Places) → Ok ps ≡ ways_of mode image p → (fits_here image p ≡ true) × (places_in ps ≡ ways_here mode image p)
   goes_whole ps e = by (fits_here image p) refl
     where
       by : (t : Bool) → fits_here image p ≡ t → (fits_here image p ≡ true) × (places_in ps ≡ ways_here mode image p)
       by true f =
-          let g = ways_is (way.Goes ps) e true f in
+          let g = ways_is (Ok ps) e true f in
           let h : ps ≡ places_named (ways_here mode image p) = cc in (f, ap places_in h ∙ two_at_most mode image p)
-      by false f = let g = ways_is (way.Goes ps) e false f in absurd (let z : ◌≡◌ {A = ℕ} 0 1 = cc in omega arith)
+      by false f = let g = ways_is (Ok ps) e false f in absurd (let z : ◌≡◌ {A = ℕ} 0 1 = cc in omega arith)
 
-  pub goes_cut : (c : CutOff) → way.Cut c ≡ ways_of mode image p → (fits_here image p ≡ false) × (cut_values c ≡ cut_values (cut_at image p))
+  pub goes_cut : (c : CutOff) → Err (Cut c) ≡ ways_of mode image p → (fits_here image p ≡ false) × (cut_values c ≡ cut_values (cut_at image p))
   goes_cut c e = by (fits_here image p) refl
     where
       by : (t : Bool) → fits_here image p ≡ t → (fits_here image p ≡ false) × (cut_values c ≡ cut_values (cut_at image p))
-      by true f = let g = ways_is (way.Cut c) e true f in absurd (let z : ◌≡◌ {A = ℕ} 0 1 = cc in omega arith)
+      by true f = let g = ways_is (Err (Cut c)) e true f in absurd (let z : ◌≡◌ {A = ℕ} 0 1 = cc in omega arith)
       by false f =
-          let g = ways_is (way.Cut c) e false f in
+          let g = ways_is (Err (Cut c)) e false f in
           let h : c ≡ cut_at image p = cc in (f, ap cut_values h)
 
-  pub never_outside : way.Outside ≡ ways_of mode image p → ⊥
+  pub never_outside : Err Outside ≡ ways_of mode image p → ⊥
   never_outside e = by (fits_here image p) refl
     where
       by : (t : Bool) → fits_here image p ≡ t → ⊥
-      by true f = let g = ways_is way.Outside e true f in let z : ◌≡◌ {A = ℕ} 0 1 = cc in omega arith
-      by false f = let g = ways_is way.Outside e false f in let z : ◌≡◌ {A = ℕ} 0 1 = cc in omega arith
+      by true f = let g = ways_is (Err Outside) e true f in let z : ◌≡◌ {A = ℕ} 0 1 = cc in omega arith
+      by false f = let g = ways_is (Err Outside) e false f in let z : ◌≡◌ {A = ℕ} 0 1 = cc in omega arith

@@ -1,7 +1,7 @@
 -- The targets of an instruction. Document 01, 'Targets', and refusals 14 and 7 of 'Numbers given when a call says no'; document 02, W7: in
 -- wrapping mode a short target and next, as a target, are taken modulo 65,536.
 -- Assumes nothing.
-use Rattle.std.specs.Prelude.{ℕ, ◌+◌, ◌-◌, ◌*◌, ◌/◌, ◌%◌, Bool, true, false, cond, List, [], ◌∷◌, ℤ, pos, ◌+ℤ◌, nat_lt, unsigned_abs}
+use Rattle.std.specs.Prelude.{Result, Ok, Err, ℕ, ◌+◌, ◌-◌, ◌*◌, ◌/◌, ◌%◌, cond, List, [], ◌∷◌, ℤ, pos, ◌+ℤ◌, nat_lt, unsigned_abs}
 use Rattle.instruction.specs.Answer.{Answer, accepted, refused, refuse, judge}
 use Rattle.instruction.specs.Kinds.{kind_at, is_given}
 use Rattle.instruction.specs.declared.kind.Kind.{Kind}
@@ -18,7 +18,9 @@ use Rattle.instruction.specs.declared.instr.Instr.{Instr}
 use Rattle.instruction.specs.declared.mode.Mode.{Mode}
 use Rattle.instruction.specs.declared.mode.Mode.TheVariants.{Unwrapped, Wrapping}
 use Rattle.targets.specs.declared.target.Targets.{Targets}
-use Rattle.targets.specs.declared.target.Targets.TheVariants.{Nowhere, One, Two, PastEnd, Unfit}
+use Rattle.targets.specs.declared.target.Targets.TheVariants.{Nowhere, One, Two}
+use Rattle.targets.specs.declared.target.TargetsError.{TargetsError}
+use Rattle.targets.specs.declared.target.TargetsError.TheVariants.{PastEnd, Unfit}
 
 -- next = position + size
 abbrev pub next_of : ℕ → Instr → ℕ
@@ -64,12 +66,15 @@ unfoldable pub targets_in : Mode → ℕ → Instr → List ℤ
 targets_in mode next i = by_flow (flow_of (parts_of i).form) (address_in mode next i) (in_mode mode (pos next))
 
 -- the number and values of each answer
-abbrev pub targets_of : Targets → Answer (List ℤ)
-targets_of Nowhere = accepted []
-targets_of (One a) = accepted (a ∷ [])
-targets_of (Two a b) = accepted (a ∷ b ∷ [])
-targets_of (PastEnd n) = refused 14 (pos n ∷ [])
-targets_of (Unfit m) = refused 7 (misfit_values m)
+abbrev pub targets_named : Targets → List ℤ
+targets_named Nowhere = []
+targets_named (One a) = a ∷ []
+targets_named (Two a b) = a ∷ b ∷ []
+
+abbrev pub targets_of : Result Targets TargetsError → Answer (List ℤ)
+targets_of (Ok t) = accepted (targets_named t)
+targets_of (Err (PastEnd n)) = refused 14 (pos n ∷ [])
+targets_of (Err (Unfit m)) = refused 7 (misfit_values m)
 
 -- next over 65,536: 14; then a field out of encode's range: 7
 unfoldable pub targets_answer : Mode → ℕ → Instr → Answer (List ℤ)

@@ -1,6 +1,6 @@
 -- Where control goes from a position: at most two positions. Document 01, 'Targets' and 'Marks and steps'.
 -- Assumes nothing.
-use Rattle.std.specs.Prelude.{ℕ, ◌+◌, Bool, true, false, cond, ◌&&◌, List, [], ◌∷◌, length, pos, ◌==◌, nat_le, nat_lt}
+use Rattle.std.specs.Prelude.{Result, Ok, Err, ℕ, ◌+◌, Bool, true, false, cond, ◌&&◌, List, [], ◌∷◌, length, pos, ◌==◌, nat_le, nat_lt}
 use Rattle.instruction.specs.Decode.{cut_at}
 use Rattle.instruction.specs.declared.mode.Mode.{Mode}
 use Rattle.targets.specs.At.{form_here, size_here, fits_here, place_of, ways_here, name_here}
@@ -10,8 +10,8 @@ use Rattle.instruction.specs.declared.flow.Flow.{Flow}
 use Rattle.instruction.specs.declared.flow.Flow.TheVariants.{Stop, Next, Jump, Branch}
 use Rattle.targets.specs.declared.place.Places.{Places}
 use Rattle.targets.specs.declared.place.Places.TheVariants.{Nothing, First, Both}
-use Rattle.targets.specs.declared.place.Ways.{Ways}
-use Rattle.targets.specs.declared.place.Ways.TheVariants.{Goes, Cut, Outside}
+use Rattle.targets.specs.declared.not_whole.NotWhole.{NotWhole}
+use Rattle.targets.specs.declared.not_whole.NotWhole.TheVariants.{Cut, Outside}
 
 -- these positions, in their order
 abbrev pub places_in : Places → List ℕ
@@ -34,10 +34,10 @@ unfoldable pub name_of : Mode → List ℕ → ℕ → ℕ
 name_of mode image p = cond (is_whole image p) (name_here mode image p) 65536
 
 -- the positions that the targets at p name, where the instruction there is whole; a position is inside an image of at most 65,536 bytes
-unfoldable pub ways_of : Mode → List ℕ → ℕ → Ways
+unfoldable pub ways_of : Mode → List ℕ → ℕ → Result Places NotWhole
 ways_of mode image p =
     cond (nat_lt p (length image) && nat_le (length image) 65536)
-    (cond (fits_here image p) (Goes (places_named (ways_here mode image p))) (Cut (cut_at image p))) Outside
+    (cond (fits_here image p) (Ok (places_named (ways_here mode image p))) (Err (Cut (cut_at image p)))) (Err Outside)
 
 -- an instruction of this flow names an address: a jump, a branch or a call
 abbrev pub is_naming : Flow → Bool

@@ -7,7 +7,7 @@ ghost use Rattle.instruction.specs.Range.{outside, unfit};
 ghost use Rattle.instruction.specs.ResolveOperand.{wrapped};
 ghost use Rattle.instruction.specs.declared.kind.Kind.TheVariants.{Page, Short, Long};
 ghost use Rattle.instruction.specs.Encode.{fit_answer};
-ghost use Rattle.targets.specs.Targets.{in_mode, address_of, address_in, targets_in, targets_of};
+ghost use Rattle.targets.specs.Targets.{in_mode, address_of, address_in, targets_in, targets_named};
 
 use crate::target::Targets;
 use instruction::{Flow, Instr, Kind, Mode};
@@ -126,7 +126,7 @@ pub fn address_in(mode: Mode, next: u32, instr: Instr) -> i32
 // The targets of an instruction whose fields are in range and that ends within memory.
 pub fn ways(mode: Mode, next: u32, instr: Instr) -> Targets
     requires { (1 ≤ next) × (next ≤ 65536) × (fit_answer instr ≡ accepted tt) }
-    ensures { targets_of result ≡ accepted (targets_in mode next instr) }
+    ensures { targets_named result ≡ targets_in mode next instr }
 {
     match instr.flow() {
         Flow::Stop => Targets::Nowhere,

@@ -5,19 +5,17 @@ ghost use Rattle.std.specs.Prelude.{◌≡◌};
 ghost use Rattle.targets.specs.Targets.{targets_of, targets_answer};
 
 use crate::address;
-use crate::target::Targets;
-use instruction::{Fit, Instr, Mode};
+use crate::target::{Targets, TargetsError};
+use instruction::{Instr, Mode};
 
 // The targets of an instruction at a position, in document 01's order.
-pub fn targets(mode: Mode, position: u32, instr: Instr) -> Targets
+pub fn targets(mode: Mode, position: u32, instr: Instr) -> Result<Targets, TargetsError>
     ensures { targets_of result ≡ targets_answer mode position instr }
 {
     let next = position as u64 + instr.size() as u64;
     if (Instr::HIGHEST_BASE as u64) < next {
-        return Targets::PastEnd(next);
+        return Err(TargetsError::PastEnd(next));
     }
-    if let Fit::Outside(m) = instr.fit() {
-        return Targets::Unfit(m);
-    }
-    address::ways(mode, next as u32, instr)
+    instr.fit()?;
+    Ok(address::ways(mode, next as u32, instr))
 }

@@ -14,22 +14,17 @@ use instruction::{Flow, Mode};
 pub fn is_naming(flow: Flow) -> bool
     ensures { result ≡ is_naming flow }
 {
-    match flow {
-        Flow::Stop => false,
-        Flow::Next => false,
-        Flow::Jump => true,
-        Flow::Branch => true,
-    }
+    matches!(flow, Flow::Jump | Flow::Branch)
 }
 
-// By where the instruction at p ends and where control goes.
-fn name_by(mode: Mode, image: &[u8], p: u32, next: u32, flow: Flow) -> u32
+// By what the first byte of the instruction at p says.
+fn name_by(mode: Mode, image: &[u8], p: u32, opening: Opening) -> u32
     requires p_in_bounds { (p < length image.now) × (length image.now ≤ 65536) }
-    requires p_value { (fits_here image.now p ≡ true) × (next ≡ p + size_here image.now p) × (flow ≡ flow_of (form_here image.now p)) }
+    requires p_value { (fits_here image.now p ≡ true) × (opening.next ≡ p + size_here image.now p) × (opening.flow ≡ flow_of (form_here image.now p)) }
     ensures { result ≡ name_here mode image.now p }
 {
-    if is_naming(flow) {
-        return operand::place_at(mode, image, p, next);
+    if is_naming(opening.flow) {
+        return operand::place_at(mode, image, p, opening.next);
     }
     Image::NOWHERE
 }
@@ -39,8 +34,7 @@ pub fn name_at(mode: Mode, image: &[u8], p: u32) -> u32
     ensures { result ≡ name_of mode image.now p }
 {
     match opening::opening_at(image, p) {
-        Opening::Whole(next, flow) => name_by(mode, image, p, next, flow),
-        Opening::Cut(_) => Image::NOWHERE,
-        Opening::Outside => Image::NOWHERE,
+        Ok(o) => name_by(mode, image, p, o),
+        Err(_) => Image::NOWHERE,
     }
 }

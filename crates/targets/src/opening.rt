@@ -3,35 +3,38 @@ ghost use Rattle.std.specs.Prelude.{◌≡◌};
 ghost use Rattle.targets.specs.Opening.{opening_of};
 
 use crate::image::Image;
+use crate::not_whole::NotWhole;
 use instruction::{CutOff, FirstByte, Flow};
 
 #[derive(Clone, Copy)]
-pub enum Opening {
-    // Where it ends.
-    Whole(u32, Flow),
-    Cut(CutOff),
-    // The position is not inside, or the image is past its limit.
-    Outside,
+pub struct Opening {
+    // Where the instruction ends.
+    pub next: u32,
+    pub flow: Flow,
 }
 
-pub fn opening_at(image: &[u8], p: u32) -> Opening
+pub fn opening_at(image: &[u8], p: u32) -> Result<Opening, NotWhole>
     ensures { result ≡ opening_of image.now p }
 {
     let n = image.len();
     let at = p as usize;
-    if Image::LIMIT < n {
-        return Opening::Outside;
-    }
-    if n <= at {
-        return Opening::Outside;
+    if Image::LIMIT < n || n <= at {
+        return Err(NotWhole::Outside);
     }
     let first = image[at];
     let says = FirstByte::read(first);
     let next = p + says.size;
     let end = next as usize;
     if n < end {
-        return Opening::Cut(CutOff::new(p, first, (end - n) as u8));
+        let missing = (end - n) as u8;
+        return Err(NotWhole::Cut(CutOff {
+            position: p,
+            first,
+            missing,
+        }));
     }
-    let flow = says.flow;
-    Opening::Whole(next, flow)
+    Ok(Opening {
+        next,
+        flow: says.flow,
+    })
 }

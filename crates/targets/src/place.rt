@@ -6,9 +6,10 @@ ghost use Rattle.targets.specs.Targets.{in_mode};
 ghost use Rattle.targets.specs.Ways.{places_in, ways_of, goes_on, falls_to};
 
 use crate::image::Image;
+use crate::not_whole::NotWhole;
 use crate::opening::Opening;
 use crate::{name, opening, operand};
-use instruction::{CutOff, Flow, Mode};
+use instruction::{Flow, Mode};
 
 // At most two positions, in their order.
 #[derive(Clone, Copy)]
@@ -16,16 +17,6 @@ pub enum Places {
     Nothing,
     First(u32),
     Both(u32, u32),
-}
-
-#[derive(Clone, Copy)]
-pub enum Ways {
-    // The positions that the targets name.
-    Goes(Places),
-    // The instruction is cut off by the end.
-    Cut(CutOff),
-    // The position is not inside, or the image is past its limit.
-    Outside,
 }
 
 // The position that a target names; one below 0 lies outside every image.
@@ -52,20 +43,17 @@ fn next_place(mode: Mode, next: u32) -> u32
 fn goes_on(flow: Flow) -> bool
     ensures { result ≡ goes_on flow }
 {
-    match flow {
-        Flow::Stop => false,
-        Flow::Next => true,
-        Flow::Jump => false,
-        Flow::Branch => true,
-    }
+    matches!(flow, Flow::Next | Flow::Branch)
 }
 
-// The positions that the targets of the instruction at p name, by where it ends and where control goes.
-fn places_by(mode: Mode, image: &[u8], p: u32, next: u32, flow: Flow) -> Places
+// The positions that the targets of the instruction at p name, by what its first byte says.
+fn places_by(mode: Mode, image: &[u8], p: u32, opening: Opening) -> Places
     requires p_in_bounds { (p < length image.now) × (length image.now ≤ 65536) }
-    requires p_value { (fits_here image.now p ≡ true) × (next ≡ p + size_here image.now p) × (flow ≡ flow_of (form_here image.now p)) }
+    requires p_value { (fits_here image.now p ≡ true) × (opening.next ≡ p + size_here image.now p) × (opening.flow ≡ flow_of (form_here image.now p)) }
     ensures { places_in result ≡ ways_here mode image.now p }
 {
+    let next = opening.next;
+    let flow = opening.flow;
     if name::is_naming(flow) {
         let to = operand::place_at(mode, image, p, next);
         if goes_on(flow) {
@@ -79,14 +67,12 @@ fn places_by(mode: Mode, image: &[u8], p: u32, next: u32, flow: Flow) -> Places
     Places::Nothing
 }
 
-pub fn ways_at(mode: Mode, image: &[u8], p: u32) -> Ways
+// The positions that the targets at p name.
+pub fn ways_at(mode: Mode, image: &[u8], p: u32) -> Result<Places, NotWhole>
     ensures { result ≡ ways_of mode image.now p }
 {
-    match opening::opening_at(image, p) {
-        Opening::Whole(next, flow) => Ways::Goes(places_by(mode, image, p, next, flow)),
-        Opening::Cut(c) => Ways::Cut(c),
-        Opening::Outside => Ways::Outside,
-    }
+    let opening = opening::opening_at(image, p)?;
+    Ok(places_by(mode, image, p, opening))
 }
 
 // Whether p stands right behind the instruction at q and control goes on to it. No operand is looked at.
@@ -94,13 +80,7 @@ pub fn falls_to(mode: Mode, image: &[u8], q: u32, p: u32) -> bool
     ensures { result ≡ falls_to mode image.now q p }
 {
     match opening::opening_at(image, q) {
-        Opening::Whole(next, flow) => {
-            if !goes_on(flow) {
-                return false;
-            }
-            p == next_place(mode, next)
-        }
-        Opening::Cut(_) => false,
-        Opening::Outside => false,
+        Ok(o) => goes_on(o.flow) && p == next_place(mode, o.next),
+        Err(_) => false,
     }
 }

@@ -1,6 +1,6 @@
 -- `address::in_mode` meets its contract, by the mode.
 -- Assumes nothing.
-use Rattle.std.proofs.Common.{◌≡◌, ℤ, sym, ap, ◌∙◌, rules}
+use Rattle.std.proofs.Common.{◌≡◌, sym, ap, ◌∙◌, rules}
 use Rattle.instruction.specs.declared.mode.Mode.{Mode}
 use Rattle.instruction.proofs.Sign.{back}
 use Rattle.targets.specs.Targets.{in_mode}

@@ -1,6 +1,6 @@
 -- `asked::operand_place` meets its contract.
 -- Assumes nothing.
-use Rattle.std.proofs.Common.{◌≡◌, ℕ, false, sym, ap, ◌∙◌, arith, rules}
+use Rattle.std.proofs.Common.{◌≡◌, sym, ap, ◌∙◌, arith, rules}
 use Rattle.instruction.specs.Range.{unfit}
 use Rattle.instruction.proofs.Sign.{back}
 use Rattle.targets.specs.At.{place_of}
