@@ -1,15 +1,10 @@
 // The version of the C face, raised whenever the signature of a call changes or calls are added: `PW_VERSION` of include/pottagewing.h.
 ghost use Rattle.std.specs.Prelude.{◌≡◌};
 
-#[derive(Clone, Copy)]
-pub struct Version;
-
-impl Version {
-    pub const NUMBER: u32 = 6;
-}
+const VERSION: u32 = 6;
 
 pub fn pw_version() -> u32
     ensures { result ≡ 6 }
 {
-    Version::NUMBER
+    VERSION
 }
