@@ -9,7 +9,9 @@ use lib.IntN.{pos}
 use lib.ListN.{length}
 use Rattle.instruction.specs.Answer.{Answer, accepted, refused, judge}
 use Rattle.instruction.proofs.Judging.{pass, stop, done}
-use Rattle.marks.proofs.Sizing.{long_image, short_marks, right_sizes}
+use Rattle.marks.specs.Refusals.{size_refusals, size_refused}
+use Rattle.marks.specs.declared.sizes.SizeError.{SizeError}
+use Rattle.marks.proofs.Sizing.{right_sizes, sizes_refused}
 use Rattle.views.specs.Positions.{up_from, positions}
 use Rattle.views.specs.View.{damaged_here, damage_in, view_refusals}
 use Rattle.views.proofs.Ups.{up_next, up_end, up_start}
@@ -18,16 +20,16 @@ module _ (image m : List ℕ) where
   abbrev n : ℕ
   n = length image
 
-  abbrev Is : Answer ℕ → Type 0
-  Is r = r ≡ judge (view_refusals image m) 0
+  abbrev Is : Answer (Unit {0}) → Type 0
+  Is r = r ≡ judge (view_refusals image m) tt
 
   -- what is said of these positions
-  abbrev said : List ℕ → Answer ℕ
-  said ps = judge (damage_in image m ps) 0
+  abbrev said : List ℕ → Answer (Unit {0})
+  said ps = judge (damage_in image m ps) tt
 
-  pub long : 65536 < n → Is (refused 1 (pos n ∷ []))
+  pub sizes : (e : SizeError) → ◌≡◌ {A = Answer (Unit {0})} (size_refused e) (judge (size_refusals image m) tt) → Is (size_refused e)
   unfolding view_refusals
-  long h = sym (long_image image m (damage_in image m (positions image)) 0 h)
+  sizes e f = sizes_refused image m (damage_in image m (positions image)) tt e f
 
   -- from p on there is the same damage as from the start
   pub Left : ℕ → Type 0
@@ -48,21 +50,16 @@ module _ (image m : List ℕ) where
       let e : p + 1 ≡ suc p = omega arith in
       subst Left e (left_next p (omega arith) (f p (omega arith)) (left_from_lem p (omega arith) (λ q g. f q (omega arith))))
 
-  module _ (fits : n ≤ 65536) where
-    pub short : length m < n → Is (refused 2 (pos (length m) ∷ []))
+  module _ (fits : n ≤ 65536) (room : n ≤ length m) where
+    sized : ◌≡◌ {A = Answer (Unit {0})} (judge (view_refusals image m) tt) (said (positions image))
     unfolding view_refusals
-    short h = sym (short_marks image m (damage_in image m (positions image)) 0 fits h)
+    sized = right_sizes image m (damage_in image m (positions image)) tt fits room
 
-    module _ (room : n ≤ length m) where
-      sized : ◌≡◌ {A = Answer ℕ} (judge (view_refusals image m) 0) (said (positions image))
-      unfolding view_refusals
-      sized = right_sizes image m (damage_in image m (positions image)) 0 fits room
+    pub damaged_mark : (p : ℕ) → p < n → damaged_here image m p ≡ true → Left p → Is (refused 6 (pos p ∷ []))
+    unfolding Left
+    damaged_mark p h d l =
+        sym (sized ∙ sym l ∙ ap said (up_next n p h) ∙ stop _ _ _ d)
 
-      pub damaged_mark : (p : ℕ) → p < n → damaged_here image m p ≡ true → Left p → Is (refused 6 (pos p ∷ []))
-      unfolding Left
-      damaged_mark p h d l =
-          sym (sized ∙ sym l ∙ ap said (up_next n p h) ∙ stop _ _ _ d)
-
-      pub sound : (p : ℕ) → n ≤ p → Left p → Is (accepted 0)
-      unfolding Left
-      sound p h l = sym (sized ∙ sym l ∙ ap said (up_end n p h) ∙ done 0)
+    pub sound : (p : ℕ) → n ≤ p → Left p → Is (accepted tt)
+    unfolding Left
+    sound p h l = sym (sized ∙ sym l ∙ ap said (up_end n p h) ∙ done tt)

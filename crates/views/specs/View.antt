@@ -1,15 +1,14 @@
 -- What every view over marks answers and leaves. Document 01, 'Views', and refusals 1, 2, 6, 11 in this order.
 -- Assumes nothing.
-use Rattle.std.specs.Prelude.{ℕ, Bool, true, false, not, ◌&&◌, ◌||◌, List, [], ◌∷◌, ◌++◌, map, ◌≡◌, ltb, eqb, pos, length, get_or, drop}
+use Rattle.std.specs.Prelude.{ℕ, Bool, not, ◌&&◌, ◌||◌, List, [], ◌∷◌, ◌++◌, map, ◌≡◌, ltb, eqb, pos, length, get_or, drop, Result, Ok, Err}
 use Rattle.instruction.specs.Answer.{Answer, accepted, refused, Refusal, refuse, judge, after}
 use Rattle.instruction.specs.Forms.{form_named}
 use Rattle.targets.specs.At.{form_here, fits_here}
 use Rattle.reach.specs.Mark.{flash, traced_mark}
-use Rattle.marks.specs.Refusals.{size_refusals}
-use Rattle.marks.specs.Refusals.{damaged}
+use Rattle.marks.specs.Refusals.{size_refusals, size_refused, damaged}
 use Rattle.views.specs.Positions.{positions}
-use Rattle.views.specs.declared.view.Viewed.{Viewed}
-use Rattle.views.specs.declared.view.Viewed.TheVariants.{Written, LongImage, ShortMarks, Damaged, NoRoom}
+use Rattle.views.specs.declared.view.ViewError.{ViewError}
+use Rattle.views.specs.declared.view.ViewError.TheVariants.{Size, Damaged, NoRoom}
 
 -- of a mark v at p: a 3 off a Jmpf
 unfoldable pub off_jmpf : List ℕ → ℕ → ℕ → Bool
@@ -42,20 +41,24 @@ view_refusals image m = size_refusals image m ++ damage_in image m (positions im
 abbrev pub Sound : List ℕ → List ℕ → Type 0
 Sound image m = ◌≡◌ {A = Answer ℕ} (judge (view_refusals image m) 0) (accepted 0)
 
-abbrev pub viewed_of : Viewed → Answer ℕ
-viewed_of (Written n) = accepted n
-viewed_of (LongImage n) = refused 1 (pos n ∷ [])
-viewed_of (ShortMarks n) = refused 2 (pos n ∷ [])
-viewed_of (Damaged p) = refused 6 (pos p ∷ [])
-viewed_of (NoRoom n) = refused 11 (pos n ∷ [])
+-- one of them, or that the room is too short, as an answer of any call that refuses by these
+abbrev pub view_refused : {A : Type 0} → ViewError → Answer A
+view_refused (Size e) = size_refused e
+view_refused (Damaged p) = refused 6 (pos p ∷ [])
+view_refused (NoRoom n) = refused 11 (pos n ∷ [])
 
--- nothing was refused
-abbrev pub is_written : Viewed → Bool
-is_written (Written n) = true
-is_written (LongImage n) = false
-is_written (ShortMarks n) = false
-is_written (Damaged p) = false
-is_written (NoRoom n) = false
+-- how much was written, or what refuses
+abbrev pub viewed_of : Result ℕ ViewError → Answer ℕ
+viewed_of (Ok n) = accepted n
+viewed_of (Err e) = view_refused e
+
+abbrev pub checked_of : Result (Unit {0}) ViewError → Answer (Unit {0})
+checked_of (Ok u) = accepted u
+checked_of (Err e) = view_refused e
+
+-- 1, 2 and 6, then 11 where the room is shorter than what is needed
+abbrev pub room_refusals : List ℕ → List ℕ → ℕ → ℕ → List Refusal
+room_refusals image m room need = view_refusals image m ++ refuse (ltb room need) 11 (pos need ∷ []) ∷ []
 
 -- after these refusals: how much was written; 11 with what is needed where the room is shorter. out is what is shown
 unfoldable pub room_answer : List Refusal → List ℕ → List ℕ → Answer ℕ

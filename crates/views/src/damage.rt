@@ -68,10 +68,8 @@ fn any_wrong(image: &[u8], marks: &[u8], n: usize) -> bool
     ensures { result ≡ some (wrong_at image.now marks.now) (up_from n 0) }
 {
     let mut any = false;
-    let mut p: usize = 0;
-    while p < n {
-        any = any | is_wrong(marks[p], image[p]);
-        p += 1;
+    for p in 0..n {
+        any |= is_wrong(marks[p], image[p]);
     }
     any
 }

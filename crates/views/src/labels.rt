@@ -6,7 +6,7 @@ ghost use Rattle.views.specs.View.{viewed_of};
 ghost use Rattle.views.specs.Labels.{labels_of, named_from, label_at, labels_answer, labels_room};
 
 use crate::view;
-use crate::view::Viewed;
+use crate::view::ViewError;
 use instruction::Mode;
 use marks::Mark;
 
@@ -47,26 +47,23 @@ fn write_labels(mode: Mode, image: &[u8], marks: &[u8], room: &mut [u8])
 {
     let n = image.len();
     marks::clear(room, n);
-    let mut p: usize = 0;
-    while p < n {
+    for p in 0..n {
         label_from(mode, image, marks, room, p);
-        p += 1;
     }
 }
 
 // 1 at each position inside the image that a traced jump, branch or call names, else 0.
-pub fn target_marks(mode: Mode, image: &[u8], marks: &[u8], room: &mut [u8]) -> Viewed
+pub fn target_marks(
+    mode: Mode,
+    image: &[u8],
+    marks: &[u8],
+    room: &mut [u8],
+) -> Result<usize, ViewError>
     ensures result_value { viewed_of result ≡ labels_answer mode image.now marks.now room.old }
     ensures room_after { room.new ≡ labels_room mode image.now marks.now room.old }
 {
-    let v = view::check(image, marks);
-    if !v.is_written() {
-        return v;
-    }
     let n = image.len();
-    if room.len() < n {
-        return Viewed::NoRoom(n);
-    }
+    view::check_room(image, marks, room.len(), n)?;
     write_labels(mode, image, marks, room);
-    Viewed::Written(n)
+    Ok(n)
 }

@@ -16,4 +16,4 @@ pub use mask::{build_byte_mask, end_with};
 pub use overlaps::{Overlaps, find_overlaps, overlaps_at};
 pub use traced::is_traced_at;
 pub use unmasked::unmasked_run;
-pub use view::{Viewed, check};
+pub use view::{ViewError, check, check_room};

@@ -4,7 +4,7 @@ ghost use Rattle.std.specs.Prelude.{◌≡◌, ◌++◌, ◌≤◌, length, drop
 ghost use Rattle.views.specs.View.{viewed_of};
 ghost use Rattle.views.specs.Mask.{mask_of, end_with, mask_answer, mask_room};
 
-use crate::view::Viewed;
+use crate::view::ViewError;
 use crate::{traced, view};
 
 // Where the code that begins up to p ends, if that before p ends there.
@@ -24,29 +24,20 @@ fn write_mask(image: &[u8], marks: &[u8], mask: &mut [u8])
     requires { (length image.now ≤ length marks.now) × (length image.now ≤ 65536) × (length image.now ≤ length mask.old) }
     ensures { mask.new ≡ mask_of image.now marks.now ++ drop (length image.now) mask.old }
 {
-    let n = image.len();
-    let mut end: usize = 0;
-    let mut p: usize = 0;
-    while p < n {
+    let mut end = 0;
+    for p in 0..image.len() {
         end = end_with(image, marks, p as u32, end);
         mask[p] = (p < end) as u8;
-        p += 1;
     }
 }
 
 // 1 on each byte of a traced instruction, else 0.
-pub fn build_byte_mask(image: &[u8], marks: &[u8], mask: &mut [u8]) -> Viewed
+pub fn build_byte_mask(image: &[u8], marks: &[u8], mask: &mut [u8]) -> Result<usize, ViewError>
     ensures result_value { viewed_of result ≡ mask_answer image.now marks.now mask.old }
     ensures mask_after { mask.new ≡ mask_room image.now marks.now mask.old }
 {
-    let v = view::check(image, marks);
-    if !v.is_written() {
-        return v;
-    }
     let n = image.len();
-    if mask.len() < n {
-        return Viewed::NoRoom(n);
-    }
+    view::check_room(image, marks, mask.len(), n)?;
     write_mask(image, marks, mask);
-    Viewed::Written(n)
+    Ok(n)
 }

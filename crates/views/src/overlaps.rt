@@ -4,12 +4,12 @@ ghost use Rattle.std.specs.Prelude.{◌≡◌, cond, [], ◌∷◌, ◌++◌, �
 ghost use Rattle.views.specs.View.{viewed_of};
 ghost use Rattle.views.specs.Overlaps.{overlaps_of, overlaps_in, from_before, overlaps_answer, overlaps_room};
 
-use crate::view::Viewed;
+use crate::view::ViewError;
 use crate::{traced, view};
 use targets::Image;
 
 // At most three positions, in their order.
-#[derive(Clone, Copy)]
+#[derive(Clone, Copy, Debug, PartialEq, Eq)]
 pub enum Overlaps {
     Nothing,
     One(u32),
@@ -86,45 +86,32 @@ pub fn overlaps_at(image: &[u8], marks: &[u8], p: u32) -> Overlaps
     with(ahead, traced::is_traced_at(image, marks, at + 2), p + 2)
 }
 
-// Writes these positions at the beginning of the room: how many they are.
-fn put(o: Overlaps, room: &mut [u32]) -> usize
+// Writes these positions at the beginning of the room.
+fn put(o: Overlaps, room: &mut [u32])
     requires { length (overlaps_in o) ≤ length room.old }
-    ensures value { result ≡ length (overlaps_in o) }
-    ensures room_after { room.new ≡ overlaps_in o ++ drop (length (overlaps_in o)) room.old }
+    ensures { room.new ≡ overlaps_in o ++ drop (length (overlaps_in o)) room.old }
 {
     match o {
-        Overlaps::Nothing => 0,
-        Overlaps::One(a) => {
-            room[0] = a;
-            1
-        }
-        Overlaps::Two(a, b) => {
-            room[0] = a;
-            room[1] = b;
-            2
-        }
-        Overlaps::Three(a, b, c) => {
-            room[0] = a;
-            room[1] = b;
-            room[2] = c;
-            3
-        }
+        Overlaps::Nothing => {}
+        Overlaps::One(a) => room[0] = a,
+        Overlaps::Two(a, b) => room[..2].copy_from_slice(&[a, b]),
+        Overlaps::Three(a, b, c) => room[..3].copy_from_slice(&[a, b, c]),
     }
 }
 
 // The overlaps at p, in their order.
-pub fn find_overlaps(image: &[u8], marks: &[u8], p: u32, room: &mut [u32]) -> Viewed
+pub fn find_overlaps(
+    image: &[u8],
+    marks: &[u8],
+    p: u32,
+    room: &mut [u32],
+) -> Result<usize, ViewError>
     ensures result_value { viewed_of result ≡ overlaps_answer image.now marks.now p room.old }
     ensures room_after { room.new ≡ overlaps_room image.now marks.now p room.old }
 {
-    let v = view::check(image, marks);
-    if !v.is_written() {
-        return v;
-    }
     let o = overlaps_at(image, marks, p);
     let n = o.count();
-    if room.len() < n {
-        return Viewed::NoRoom(n);
-    }
-    Viewed::Written(put(o, room))
+    view::check_room(image, marks, room.len(), n)?;
+    put(o, room);
+    Ok(n)
 }

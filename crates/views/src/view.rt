@@ -1,56 +1,50 @@
 // What every view over marks answers, and the refusals that all of them share.
 ghost use Rattle.std.specs.Prelude.{◌≡◌};
 ghost use Rattle.instruction.specs.Answer.{judge};
-ghost use Rattle.views.specs.View.{is_written, viewed_of, view_refusals};
+ghost use Rattle.views.specs.View.{checked_of, view_refusals, room_refusals};
+ghost use Rattle.views.specs.declared.view.ViewError.TheVariants.{Size};
 
 use crate::damage;
-use targets::Image;
+use marks::SizeError;
 
-#[derive(Clone, Copy)]
-pub enum Viewed {
-    // How much was written.
-    Written(usize),
-    // 1: the image's length.
-    LongImage(usize),
-    // 2: the marks' length.
-    ShortMarks(usize),
+#[derive(Clone, Copy, Debug, PartialEq, Eq)]
+pub enum ViewError {
+    // 1 and 2.
+    Size(SizeError),
     // 6: the lowest damaged position.
     Damaged(u32),
     // 11: how much is needed.
     NoRoom(usize),
 }
 
-impl Viewed {
-    pub fn is_written(self) -> bool
-        ensures { result ≡ is_written self }
-    {
-        match self {
-            Self::Written(_) => true,
-            Self::LongImage(_) => false,
-            Self::ShortMarks(_) => false,
-            Self::Damaged(_) => false,
-            Self::NoRoom(_) => false,
-        }
+impl From<SizeError> for ViewError {
+    ghost from_gives = { λ e r. r ≡ Size e };
+
+    fn from(e: SizeError) -> ViewError {
+        ViewError::Size(e)
     }
 }
 
-// The refusals 1, 2 and 6; where there is none, nothing is written.
-pub fn check(image: &[u8], marks: &[u8]) -> Viewed
-    ensures { viewed_of result ≡ judge (view_refusals image.now marks.now) 0 }
+// The refusals 1, 2 and 6.
+pub fn check(image: &[u8], marks: &[u8]) -> Result<(), ViewError>
+    ensures { checked_of result ≡ judge (view_refusals image.now marks.now) tt }
 {
-    let n = image.len();
-    if Image::LIMIT < n {
-        return Viewed::LongImage(n);
-    }
-    if marks.len() < n {
-        return Viewed::ShortMarks(marks.len());
-    }
-    let mut p = damage::sound_to(image, marks);
-    while p < n {
+    marks::check_sizes(image, marks)?;
+    for p in damage::sound_to(image, marks)..image.len() {
         if damage::is_damaged(image, marks, p as u32) {
-            return Viewed::Damaged(p as u32);
+            return Err(ViewError::Damaged(p as u32));
         }
-        p += 1;
     }
-    Viewed::Written(0)
+    Ok(())
+}
+
+// These and 11, of a view that needs so much of a room.
+pub fn check_room(image: &[u8], marks: &[u8], room: usize, need: usize) -> Result<(), ViewError>
+    ensures { checked_of result ≡ judge (room_refusals image.now marks.now room need) tt }
+{
+    check(image, marks)?;
+    if room < need {
+        return Err(ViewError::NoRoom(need));
+    }
+    Ok(())
 }

@@ -1,10 +1,9 @@
 -- `mask::end_with` meets its contract.
 -- Assumes nothing.
 use mathlib.Core.Path.{sym, ◌∙◌}
-use Prim.Native.Nat.{◌<◌, ◌≤◌}
+use Prim.Native.Nat.{◌<◌}
 use native.Mathlib.Omega.{arith}
 use borrow.Author.Rules.{rules}
-use lib.ListN.{length}
 use Rattle.targets.proofs.Within.{size_short}
 use Rattle.views.proofs.Masking.{ends_further, ends_nearer, ends_untraced}
 use Rattle.views.proofs.mask.end_with.Statement.{statement}
