@@ -11,6 +11,7 @@ use borrow.Author.Tests.{le-ltb, lt-ltb, ltb-true}
 use lib.Dec.{eqb, ltb}
 use lib.ListN.{length, get_or, take, drop, drop_of_length-le, get_or-eq_default}
 use lib.Seq.{take-nil}
+use Rattle.std.specs.List.{prefix_len, range_with_len}
 use Rattle.views.specs.Positions.{up_from}
 use Rattle.views.specs.DataRun.{leading, is_data, run_length, data_run}
 
@@ -53,6 +54,17 @@ module _ (f : ℕ → Bool) where
   unfolding leading up_from
   leading_on zero at p h = absurd (not-suc-le-zero p)
   leading_on (suc k) at p h = rw (h, sub-one, add-one)
+
+-- the library counts them alike
+pub leading_prefix : (f : ℕ → Bool) (k at : ℕ) → prefix_len f (range_with_len at k) ≡ leading f (up_from k at)
+unfolding leading up_from
+leading_prefix f zero at = refl
+leading_prefix f (suc k) at = by (f at) (leading_prefix f k (suc at))
+  where
+    by : (t : Bool) → prefix_len f (range_with_len (suc at) k) ≡ leading f (up_from k (suc at))
+        → cond t (1 + prefix_len f (range_with_len (at + 1) k)) 0 ≡ cond t (suc (leading f (up_from k (suc at)))) 0
+    by true g = rw (add-one, g) (omega arith)
+    by false g = refl
 
 -- positions that pass a test one after another, all below n, are at most those from p to n
 pub leading_in : (f : ℕ → Bool) (n : ℕ) → ((b : ℕ) → f b ≡ true → b < n) → (k p : ℕ) → p ≤ n → p + leading f (up_from k p) ≤ n

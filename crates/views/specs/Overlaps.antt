@@ -1,7 +1,7 @@
 -- Overlaps. Document 01, 'Views': at a traced p, p - 1 if traced with size at least 2, then traced p + 1 up to its last byte. Nothing
 -- further back. Elsewhere: none.
 -- Assumes nothing.
-use Rattle.std.specs.Prelude.{ℕ, ◌+◌, ◌-◌, Bool, cond, ◌&&◌, List, [], ◌∷◌, ◌++◌, leb, length}
+use Rattle.std.specs.Prelude.{ℕ, ◌+◌, ◌-◌, Bool, cond, ◌&&◌, List, [], ◌∷◌, ◌++◌, leb, length, Option, Some, None}
 use Rattle.instruction.specs.Answer.{Answer}
 use Rattle.views.specs.View.{view_answer, view_room}
 use Rattle.targets.specs.At.{size_here}
@@ -25,6 +25,11 @@ overlaps_answer image m p room = view_answer image m (overlaps_of image m p) roo
 
 abbrev pub overlaps_room : List ℕ → List ℕ → ℕ → List ℕ → List ℕ
 overlaps_room image m p room = view_room image m (overlaps_of image m p) room
+
+-- of an inner function: a position, or none
+abbrev pub position_in : Option ℕ → List ℕ
+position_in None = []
+position_in (Some q) = q ∷ []
 
 -- at most three positions, in their order
 abbrev pub overlaps_in : Overlaps → List ℕ

@@ -1,6 +1,6 @@
 // The data run: a part of the image with no code.
 // Ported from `byte_range` and `read_chunk` of src/disasm.rs of wtetzner/waterbear, and changed: the run is a part of the image, handed back.
-ghost use Rattle.std.specs.Prelude.{◌≡◌, ◌+◌, ◌≤◌, length};
+ghost use Rattle.std.specs.Prelude.{◌≡◌, ◌+◌, ◌<◌, ◌≤◌, length};
 ghost use Rattle.views.specs.DataRun.{data_run, is_data, run_length};
 
 #[derive(Clone, Copy)]
@@ -15,30 +15,17 @@ impl DataRun {
 fn is_data(image: &[u8], mask: &[u8], b: usize) -> bool
     ensures { result ≡ is_data image.now mask.now b }
 {
-    if image.len() <= b {
-        return false;
-    }
-    if b < mask.len() {
-        return mask[b] == 0;
-    }
-    false
+    b < image.len() && b < mask.len() && mask[b] == 0
 }
 
 // How many bytes the run at this position has.
 fn run_length(image: &[u8], mask: &[u8], at: usize) -> usize
-    requires { at ≤ length image.now }
+    requires { at < length image.now }
     ensures { (result ≡ run_length image.now mask.now at) × (at + result ≤ length image.now) }
 {
-    let mut e = at;
-    let mut left = DataRun::LENGTH;
-    while left > 0 {
-        if !is_data(image, mask, e) {
-            return e - at;
-        }
-        e += 1;
-        left -= 1;
-    }
-    e - at
+    (at..at + DataRun::LENGTH)
+        .take_while(|b| is_data(image, mask, *b))
+        .count()
 }
 
 // Up to 16 bytes from p on, which end before a masked byte; a part of the image.

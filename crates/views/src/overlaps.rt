@@ -2,7 +2,8 @@
 // Ported from `find_overlaps` of src/disasm.rs of wtetzner/waterbear, and changed: the positions go to lent room.
 ghost use Rattle.std.specs.Prelude.{◌≡◌, cond, [], ◌∷◌, ◌++◌, ◌-◌, ◌≤◌, ◌<◌, length, drop};
 ghost use Rattle.views.specs.View.{viewed_of};
-ghost use Rattle.views.specs.Overlaps.{overlaps_of, overlaps_in, from_before, overlaps_answer, overlaps_room};
+ghost use Rattle.views.specs.Positions.{traced_at};
+ghost use Rattle.views.specs.Overlaps.{overlaps_of, overlaps_in, position_in, from_before, overlaps_answer, overlaps_room};
 
 use crate::view::ViewError;
 use crate::{traced, view};
@@ -30,37 +31,41 @@ impl Overlaps {
     }
 }
 
-// These positions and, where it is taken, one more.
-fn with(o: Overlaps, taken: bool, q: u32) -> Overlaps
+// These positions and, where there is one, one more.
+fn with(o: Overlaps, next: Option<u32>) -> Overlaps
     requires { length (overlaps_in o) < 3 }
-    ensures { overlaps_in result ≡ overlaps_in o ++ cond taken (q ∷ []) [] }
+    ensures { overlaps_in result ≡ overlaps_in o ++ position_in next }
 {
-    if !taken {
+    let Some(q) = next else {
         return o;
-    }
+    };
     match o {
         Overlaps::Nothing => Overlaps::One(q),
         Overlaps::One(a) => Overlaps::Two(a, q),
         Overlaps::Two(a, b) => Overlaps::Three(a, b, q),
-        Overlaps::Three(a, b, c) => Overlaps::Three(a, b, c),
+        Overlaps::Three(_, _, _) => unreachable!(),
     }
 }
 
 // The position before p, where the instruction there has p for its second byte.
-fn behind(image: &[u8], marks: &[u8], p: u32) -> Overlaps
-    ensures { overlaps_in result ≡ cond (from_before image.now marks.now p) ((p - 1) ∷ []) [] }
+fn behind(image: &[u8], marks: &[u8], p: u32) -> Option<u32>
+    ensures { result ≡ cond (from_before image.now marks.now p) (Some (p - 1)) None }
 {
-    if p < 1 {
-        return Overlaps::Nothing;
+    let q = p.checked_sub(1)?;
+    if traced::is_traced_at(image, marks, q as usize) && 2 <= targets::size_at(image, q) {
+        return Some(q);
     }
-    let q = p - 1;
-    if !traced::is_traced_at(image, marks, q as usize) {
-        return Overlaps::Nothing;
+    None
+}
+
+// This position, where it is traced.
+fn traced_one(image: &[u8], marks: &[u8], q: u32) -> Option<u32>
+    ensures { result ≡ cond (traced_at image.now marks.now q) (Some q) None }
+{
+    if traced::is_traced_at(image, marks, q as usize) {
+        return Some(q);
     }
-    if targets::size_at(image, q) < 2 {
-        return Overlaps::Nothing;
-    }
-    Overlaps::One(q)
+    None
 }
 
 // The traced positions that share a byte with the instruction at a traced p: that before p, and those up to its last byte. Nothing further back.
@@ -70,20 +75,19 @@ pub fn overlaps_at(image: &[u8], marks: &[u8], p: u32) -> Overlaps
     if Image::LIMIT < image.len() {
         return Overlaps::Nothing;
     }
-    let at = p as usize;
-    if !traced::is_traced_at(image, marks, at) {
+    if !traced::is_traced_at(image, marks, p as usize) {
         return Overlaps::Nothing;
     }
     let size = targets::size_at(image, p);
-    let back = behind(image, marks, p);
+    let back = with(Overlaps::Nothing, behind(image, marks, p));
     if size < 2 {
         return back;
     }
-    let ahead = with(back, traced::is_traced_at(image, marks, at + 1), p + 1);
+    let ahead = with(back, traced_one(image, marks, p + 1));
     if size < 3 {
         return ahead;
     }
-    with(ahead, traced::is_traced_at(image, marks, at + 2), p + 2)
+    with(ahead, traced_one(image, marks, p + 2))
 }
 
 // Writes these positions at the beginning of the room.

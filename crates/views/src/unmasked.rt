@@ -1,5 +1,5 @@
 // The data run by the marks: no mask is lent.
-ghost use Rattle.std.specs.Prelude.{◌≡◌, ◌+◌, ◌≤◌, length};
+ghost use Rattle.std.specs.Prelude.{◌≡◌, ◌+◌, ◌<◌, ◌≤◌, length};
 ghost use Rattle.views.specs.Unmasked.{is_untraced, untraced_length, unmasked_run};
 
 use crate::data::DataRun;
@@ -8,27 +8,17 @@ use crate::traced;
 fn is_untraced(image: &[u8], marks: &[u8], b: usize) -> bool
     ensures { result ≡ is_untraced image.now marks.now b }
 {
-    if image.len() <= b {
-        return false;
-    }
-    !traced::is_traced_at(image, marks, b)
+    b < image.len() && !traced::is_traced_at(image, marks, b)
 }
 
 // How many bytes stand before the next traced position, up to the longest run.
 fn untraced_length(image: &[u8], marks: &[u8], at: usize) -> usize
-    requires { at ≤ length image.now }
+    requires { at < length image.now }
     ensures { (result ≡ untraced_length image.now marks.now at) × (at + result ≤ length image.now) }
 {
-    let mut e = at;
-    let mut left = DataRun::LENGTH;
-    while left > 0 {
-        if !is_untraced(image, marks, e) {
-            return e - at;
-        }
-        e += 1;
-        left -= 1;
-    }
-    e - at
+    (at..at + DataRun::LENGTH)
+        .take_while(|b| is_untraced(image, marks, *b))
+        .count()
 }
 
 // The data run at p, where the code that begins up to p ends there; none on a byte of code. An instruction that begins before p and goes
