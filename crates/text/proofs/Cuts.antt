@@ -4,12 +4,15 @@ use mathlib.Core.Path.{◌≡◌, refl, ap, ◌∙◌}
 use mathlib.Core.Bool.{Bool, true, false, cond}
 use mathlib.Core.List.{List, [], ◌∷◌}
 use Prim.Native.Nat.{ℕ, suc, ◌+◌, ◌-◌, ◌≤◌, ◌<◌}
-use native.Mathlib.Numerals.{add-one}
 use native.Mathlib.Omega.{arith}
 use lib.Dec.{eqb, ltb}
-use lib.ListN.{length, get_or, take, drop, drop_of_length-le, length-drop}
-use lib.Seq.{drop-cons, drop-drop}
-use borrow.Author.Tests.{eq-eqb, ne_eqb, ltb-true, ltb-false}
+use lib.ListN.{length, take, drop, drop_of_length-le, length-drop}
+use lib.Seq.{drop-drop}
+use borrow.Author.Tests.{ltb-true, ltb-false}
+use Rattle.std.specs.Prelude.{Option, Some, None}
+use Rattle.std.specs.List.{position_or_len}
+use Rattle.std.specs.Option.{unwrap_or}
+use Rattle.std.proofs.lemmas.List.Recursion.{is_position_or_len}
 use Rattle.text.specs.Cut.{before, cut, up_to, lines}
 
 -- a turn over a piece brings the end nearer
@@ -18,14 +21,6 @@ nearer n at e k p h = omega arith
 
 -- where the first piece of what is left ends
 module _ (s : ℕ) (t : List ℕ) (i : ℕ) where
-  pub first_stop : i < length t → get_or t i 0 ≡ s → up_to s (drop i t) ≡ []
-  unfolding up_to
-  first_stop h e = rw (drop-cons t i 0, eq-eqb (get_or t i 0) s e)
-
-  pub first_more : i < length t → (get_or t i 0 ≡ s → ⊥) → length (up_to s (drop i t)) ≡ suc (length (up_to s (drop (i + 1) t)))
-  unfolding up_to
-  first_more h n = rw (add-one, drop-cons t i 0, ne_eqb (get_or t i 0) s n)
-
   pub first_end : length t ≤ i → up_to s (drop i t) ≡ []
   unfolding up_to
   first_end h = rw (drop_of_length-le t h)
@@ -39,6 +34,27 @@ up_to_most s (b ∷ t) = by (up_to_most s t) (eqb b s)
     by : length (up_to s t) ≤ length t → (x : Bool) → length (cond x [] (b ∷ up_to s t)) ≤ suc (length t)
     by h true = omega arith
     by h false = omega arith
+
+-- the first piece goes up to the first byte s, or to the end
+to_first : (s : ℕ) (t : List ℕ) → length (up_to s t) ≡ position_or_len (λ (b : ℕ). eqb b s) t
+unfolding up_to
+to_first s t = is_position_or_len (λ (u : List ℕ). length (up_to s u)) (λ (b : ℕ). eqb b s) refl step t
+  where
+    step : (b : ℕ) (u : List ℕ) → length (up_to s (b ∷ u)) ≡ cond (eqb b s) 0 (1 + length (up_to s u))
+    step b u = by (eqb b s)
+      where
+        by : (x : Bool) → length (cond x [] (b ∷ up_to s u)) ≡ cond x 0 (1 + length (up_to s u))
+        by true = refl
+        by false = omega arith
+
+-- where a search for byte s says that the first piece ends
+pub found_at : (s : ℕ) (t : List ℕ) (o : Option ℕ) → o ≡ cond (ltb (position_or_len (λ (b : ℕ). eqb b s) t) (length t)) (Some (position_or_len (λ (b : ℕ). eqb b s) t)) None
+    → unwrap_or o (length t) ≡ length (up_to s t)
+found_at s t o e = rw (e, ← to_first s t) (by (ltb (length (up_to s t)) (length t)) refl)
+  where
+    by : (x : Bool) → ltb (length (up_to s t)) (length t) ≡ x → unwrap_or (cond x (Some (length (up_to s t))) None) (length t) ≡ length (up_to s t)
+    by true f = refl
+    by false f = let k = ltb-false (length (up_to s t)) (length t) f in let h = up_to_most s t in omega arith
 
 pub end_inside : (s : ℕ) (t : List ℕ) (at : ℕ) → at ≤ length t → at + length (up_to s (drop at t)) ≤ length t
 end_inside s t at h = omega (arith, up_to_most s (drop at t), length-drop at t)

@@ -10,13 +10,7 @@ pub fn is_bytes(s: &[u8], most: usize) -> bool
     ensures { result ≡ is_bytes most s.now }
 {
     let n = s.len() / 2;
-    if s.len() != n * 2 {
-        return false;
-    }
-    if n == 0 {
-        return false;
-    }
-    if most < n {
+    if s.len() != n * 2 || n == 0 || most < n {
         return false;
     }
     hex::is_hex(s)
@@ -26,13 +20,7 @@ pub fn is_bytes(s: &[u8], most: usize) -> bool
 fn fitting(k: usize, n: usize, at: usize) -> usize
     ensures { (result ≤ k) × (result ≤ n - at) × (result < k → n ≤ at + result) }
 {
-    if n <= at {
-        return 0;
-    }
-    if n - at < k {
-        return n - at;
-    }
-    k
+    k.min(n.saturating_sub(at))
 }
 
 // Writes the bytes of these digits into a room from a place on; what falls past its end is not written. How many fit is asked before the
@@ -41,9 +29,7 @@ pub fn put(digits: &[u8], room: &mut [u8], at: usize)
     ensures { room.new ≡ sets room.old at (bytes_of digits.now) }
 {
     let n = fitting(digits.len() / 2, room.len(), at);
-    let mut i: usize = 0;
-    while i < n {
+    for i in 0..n {
         room[at + i] = hex::pair(digits[2 * i], digits[2 * i + 1]);
-        i += 1;
     }
 }

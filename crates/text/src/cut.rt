@@ -10,12 +10,9 @@ pub const TAB: u8 = 9;
 pub fn end(text: &[u8], at: usize, s: u8) -> usize
     ensures { result ≡ at + length (up_to s (drop at text.now)) }
 {
-    let mut i = at;
-    while i < text.len() {
-        if text[i] == s {
-            return i;
-        }
-        i += 1;
+    if text.len() <= at {
+        return at;
     }
-    i
+    let rest = &text[at..];
+    at + rest.iter().position(|b| *b == s).unwrap_or(rest.len())
 }

@@ -10,6 +10,7 @@ pub fn is_digit(b: u8) -> bool
 }
 
 // The value of a byte that is a digit, by its low four bits: those of A are 1.
+#[tactic(auto, using(crate::proofs::Digits::digit_by_bits))]
 fn value_of(b: u8) -> u32
     requires { is_digit b ≡ true }
     ensures { (result ≡ digit_of b) × (result < 16) }
@@ -18,16 +19,16 @@ fn value_of(b: u8) -> u32
 }
 
 // The value of a digit; 0 for any other byte.
+#[tactic(auto, using(crate::proofs::Digits::no_value))]
 pub fn digit(b: u8) -> u32
     ensures { (result ≡ digit_of b) × (result < 16) }
 {
-    if !is_digit(b) {
-        return 0;
-    }
-    value_of(b)
+    if is_digit(b) { value_of(b) } else { 0 }
 }
 
-// The value of a digit; 65,536 for any other byte. All digits are written out, so that the compiler makes a load of it.
+// The value of a digit; 65,536 for any other byte. All digits are written out, so that the compiler makes a load of it. It stays beside
+// `digit`, since a load is what four digits alone take least time by, and bits are what the compiler takes many digits at a time by.
+#[tactic(auto, unfolding(crate::specs::Hex::digit_of))]
 pub fn value(b: u8) -> u32
     ensures { (result ≡ value_of b) × (result ≤ 65536) }
 {
@@ -53,13 +54,11 @@ pub fn value(b: u8) -> u32
 }
 
 // The value of the digit at a place; 0 past the end.
+#[tactic(auto, using(crate::proofs::Digits::none_at))]
 pub fn digit_at(s: &[u8], i: usize) -> u32
     ensures { (result ≡ digit_of (get_or s.now i 0)) × (result < 16) }
 {
-    if s.len() <= i {
-        return 0;
-    }
-    digit(s[i])
+    if i < s.len() { digit(s[i]) } else { 0 }
 }
 
 // The byte that two digits stand for.
@@ -74,10 +73,8 @@ pub fn is_hex(s: &[u8]) -> bool
     ensures { result ≡ all_hex s.now }
 {
     let mut all = true;
-    let mut i: usize = 0;
-    while i < s.len() {
-        all = all & is_digit(s[i]);
-        i += 1;
+    for b in s {
+        all &= is_digit(*b);
     }
     all
 }
