@@ -6,7 +6,7 @@ use mathlib.Core.Logic.{◌⊎◌, inl, inr, ◌≢◌}
 use mathlib.Core.List.Memᴰ
 use mathlib.Core.List.{List, [], ◌∷◌, Memᴰ as Among}
 use Rattle.reach.proofs.Cases.{lt_or_le}
-use Rattle.sweep.specs.Way.{AllBelow, Covers, Bounded, Joined}
+use Rattle.sweep.specs.Way.{Covers, Joined}
 use Rattle.sweep.specs.declared.way.Way.{Way}
 
 abbrev pub One : Way → ℕ → ℕ → Way → Type 0
@@ -25,25 +25,15 @@ module _ (w : Way) (at t : ℕ) where
   )
 
   module _ (h : at ≤ t) where
-    -- ahead, before the end
-    pub within : t < w.end → One w at t w
-    within g = (
+    -- ahead: the end is past it
+    pub ahead : (e : ℕ) → w.end ≤ e → t < e → ((n : ℕ) → w.end ≤ n → t < n → e ≤ n) → (r : Way)
+        → r ≡ record { taken = w.taken; end = e; from = w.from; to = w.to } → One w at t r
+    ahead e a b c r f = rw f (
       refl,
       record {
-        bounds = λ n k all B. B;
-        new = λ q i. let s : q ≡ t = Memᴰ.eq_of_singleton i in (λ x. omega (arith, s, g), λ x. absurd (omega (arith, s, h, x)));
-        old = λ q C. C;
-      },
-    )
-
-    -- ahead, past it
-    pub past : w.end ≤ t → (r : Way) → r ≡ record { taken = w.taken; end = t + 1; from = w.from; to = w.to } → One w at t r
-    past g r e = rw e (
-      refl,
-      record {
-        bounds = λ n k all B. (omega (arith, all t (Among.head refl)), B.1, B.2);
-        new = λ q i. let s : q ≡ t = Memᴰ.eq_of_singleton i in (λ x. omega (arith, s), λ x. absurd (omega (arith, s, h, x)));
-        old = λ q C. (λ x. omega (arith, C.0 x, g), C.1);
+        bounds = λ n k all B. (c n B.0 (all t (Among.head refl)), B.1, B.2);
+        new = λ q i. let s : q ≡ t = Memᴰ.eq_of_singleton i in (λ x. omega (arith, s, b), λ x. absurd (omega (arith, s, h, x)));
+        old = λ q C. (λ x. omega (arith, C.0 x, a), C.1);
       },
     )
 

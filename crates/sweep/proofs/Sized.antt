@@ -16,7 +16,9 @@ use Rattle.reach.proofs.Cases.{lt_or_le}
 use Rattle.reach.proofs.Start.{start_long, start_count}
 use Rattle.reach.specs.Pins.{table}
 use Rattle.reach.proofs.Table.{table_base}
-use Rattle.marks.specs.Refusals.{size_refusals}
+use Rattle.marks.specs.Refusals.{size_refusals, size_refused}
+use Rattle.marks.specs.declared.sizes.SizeError.{SizeError}
+use Rattle.marks.specs.declared.sizes.SizeError.TheVariants.{LongImage, ShortMarks}
 use Rattle.marks.specs.Tracer.{tracer_of}
 use Rattle.marks.proofs.Sizing.{long_image, short_marks, right_sizes}
 use Rattle.trace.specs.Start.{start_answer, start_marks}
@@ -25,10 +27,10 @@ use Rattle.sweep.specs.declared.sweep.Tally.{Tally}
 use Rattle.sweep.proofs.Sweeping.{Ended}
 
 -- what the inner function answers and leaves is where the sweeps end
-pub told : (mode : Mode) (image m m' : List ℕ) (sweeps steps : ℕ) (t : Tally) → (t.sweeps ≡ sweeps) × (t.steps ≡ steps)
-    → Ended (tracer_of mode image) m m' sweeps steps → (tally_of t ≡ sweep_result mode image m) × (m' ≡ swept_marks (tracer_of mode image) m)
-told mode image m m' sweeps steps t h E =
-    let a = h.0 ∙ E.sweeps_are in let b = h.1 ∙ E.steps_are in (rw (a, b), E.marks_are)
+pub told : (mode : Mode) (image m m' : List ℕ) (sweeps steps : ℕ) → Ended (tracer_of mode image) m m' sweeps steps
+    → (tally_of (record { sweeps = sweeps; steps = steps }) ≡ sweep_result mode image m) × (m' ≡ swept_marks (tracer_of mode image) m)
+told mode image m m' sweeps steps E =
+    let a = E.sweeps_are in let b = E.steps_are in (rw (a, b), E.marks_are)
 
 module _ (mode : Mode) (image marks entries pins : List ℕ) where
   abbrev n : ℕ
@@ -41,7 +43,7 @@ module _ (mode : Mode) (image marks entries pins : List ℕ) where
   Is a m = (a ≡ sweep_answer mode image marks entries pins) × (m ≡ sweep_leaves mode image marks entries pins)
 
   -- a refusal of start is one here, and changes nothing
-  pub refused_too : (k : ℕ) (vs : List ℤ) (m : List ℕ) → refused k vs ≡ start_answer image marks entries pins → m ≡ start_marks image marks entries pins
+  refused_too : (k : ℕ) (vs : List ℤ) (m : List ℕ) → refused k vs ≡ start_answer image marks entries pins → m ≡ start_marks image marks entries pins
       → Is (refused k vs) m
   unfolding start_answer start_marks sweep_answer sweep_leaves
   refused_too k vs m e f =
@@ -50,6 +52,10 @@ module _ (mode : Mode) (image marks entries pins : List ℕ) where
         f ∙ ap (λ (a : Answer ℕ). after a (note n entries (table n pins marks)) marks) (sym e)
             ∙ ap (λ (a : Answer SweepResult). after a (swept_marks (tracer_of mode image) (start_marks image marks entries pins)) marks) (sym g),
       )
+
+  pub sizes : (e : SizeError) (m : List ℕ) → size_refused e ≡ start_answer image marks entries pins → m ≡ start_marks image marks entries pins → Is (size_refused e) m
+  sizes (LongImage k) m e f = refused_too 1 (pos k ∷ []) m e f
+  sizes (ShortMarks k) m e f = refused_too 2 (pos k ∷ []) m e f
 
   module _ (k : ℕ) (e : accepted k ≡ start_answer image marks entries pins) where
     not_refused : (j : ℕ) (vs : List ℤ) → start_answer image marks entries pins ≡ refused j vs → ⊥

@@ -1,15 +1,14 @@
 -- What the sweeping engine answers and leaves. Document 02, W6; document 01, 'Marks and steps', and refusals 1 and 2, as in start.
 -- Assumes nothing.
-use Rattle.std.specs.Prelude.{ℕ, List, [], ◌∷◌, pos}
-use Rattle.instruction.specs.Answer.{Answer, accepted, refused, judge, after}
+use Rattle.std.specs.Prelude.{ℕ, List, Result, Ok, Err}
+use Rattle.instruction.specs.Answer.{Answer, accepted, judge, after}
 use Rattle.instruction.specs.declared.mode.Mode.{Mode}
 use Rattle.reach.specs.Sweep.{swept_marks, sweeps, swept_steps}
-use Rattle.marks.specs.Refusals.{size_refusals}
+use Rattle.marks.specs.Refusals.{size_refusals, size_refused}
 use Rattle.marks.specs.Tracer.{tracer_of}
 use Rattle.trace.specs.Start.{start_marks}
 use Rattle.sweep.specs.declared.sweep.Tally.{Tally}
-use Rattle.sweep.specs.declared.sweep.Swept.{Swept}
-use Rattle.sweep.specs.declared.sweep.Swept.TheVariants.{Ended, LongImage, ShortMarks}
+use Rattle.marks.specs.declared.sizes.SizeError.{SizeError}
 
 -- the sweeps, the last one counted, and the steps, which are the marks 2 and 3 afterwards
 pub record SweepResult : Type 0 where
@@ -23,10 +22,9 @@ sweep_result mode image m = record { sweeps = sweeps (tracer_of mode image) m; s
 abbrev pub tally_of : Tally → SweepResult
 tally_of t = record { sweeps = t.sweeps; steps = t.steps }
 
-abbrev pub swept_of : Swept → Answer SweepResult
-swept_of (Ended t) = accepted (tally_of t)
-swept_of (LongImage n) = refused 1 (pos n ∷ [])
-swept_of (ShortMarks n) = refused 2 (pos n ∷ [])
+abbrev pub swept_of : Result Tally SizeError → Answer SweepResult
+swept_of (Ok t) = accepted (tally_of t)
+swept_of (Err e) = size_refused e
 
 -- it starts as start does
 unfoldable pub sweep_answer : Mode → List ℕ → List ℕ → List ℕ → List ℕ → Answer SweepResult

@@ -4,4 +4,4 @@
 pub mod sweep;
 mod way;
 
-pub use sweep::{Swept, Tally};
+pub use sweep::Tally;

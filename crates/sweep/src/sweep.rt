@@ -10,33 +10,13 @@ ghost use Rattle.sweep.specs.Way.{Between, MetOn, SweptOver};
 use crate::way;
 use crate::way::Way;
 use instruction::Mode;
-use marks::Mark;
-use targets::Ways;
-use trace::Started;
+use marks::{Mark, SizeError};
 
 // The sweeps, the last one counted, and the steps.
-#[derive(Clone, Copy)]
+#[derive(Clone, Copy, Debug, PartialEq, Eq)]
 pub struct Tally {
     pub sweeps: u32,
     pub steps: u32,
-}
-
-impl Tally {
-    pub fn new(sweeps: u32, steps: u32) -> Self
-        ensures { (result.sweeps ≡ sweeps) × (result.steps ≡ steps) }
-    {
-        Self { sweeps, steps }
-    }
-}
-
-#[derive(Clone, Copy)]
-pub enum Swept {
-    // A sweep took none.
-    Ended(Tally),
-    // 1: the image's length.
-    LongImage(usize),
-    // 2: the marks' length.
-    ShortMarks(usize),
 }
 
 // A sweep meets p.
@@ -47,15 +27,11 @@ fn meet(mode: Mode, image: &[u8], marks: &mut [u8], p: u32, way: Way) -> Way
     if marks[p as usize] != Mark::WAITING {
         return way;
     }
-    match targets::ways_at(mode, image, p) {
-        Ways::Goes(to) => {
-            let up = marks::take_up(image, marks, p, to);
-            let noted = up.noted;
-            way::after(way, p + 1, noted)
-        }
-        Ways::Cut(_) => way,
-        Ways::Outside => way,
-    }
+    let Ok(to) = targets::ways_at(mode, image, p) else {
+        return way;
+    };
+    let up = marks::take_up(image, marks, p, to);
+    way::after(way, p + 1, up.noted)
 }
 
 // One sweep, where all that it could take up stands between two bounds. What became waiting ahead is met, so the end moves on.
@@ -64,8 +40,14 @@ fn sweep_once(mode: Mode, image: &[u8], marks: &mut [u8], from: u32, to: u32) ->
     requires between { Between (tracer_of mode image.now) marks.old from to }
     ensures { SweptOver (tracer_of mode image.now) marks.old result marks.new }
 {
-    let mut way = Way::new(0, to, image.len() as u32, 0);
+    let mut way = Way {
+        taken: 0,
+        end: to,
+        from: image.len() as u32,
+        to: 0,
+    };
     let mut p = from;
+    // The end moves on while the positions are met, so no range stands for the loop.
     while p < way.end {
         way = meet(mode, image, marks, p, way);
         p += 1;
@@ -79,32 +61,39 @@ fn sweep_on(mode: Mode, image: &[u8], marks: &mut [u8]) -> Tally
     ensures result_value { tally_of result ≡ sweep_result mode image.now marks.old }
     ensures marks_after { marks.new ≡ swept_marks (tracer_of mode image.now) marks.old }
 {
-    let n = image.len();
+    let n = image.len() as u32;
     let mut from: u32 = 0;
-    let mut to = n as u32;
-    let mut sweeps: usize = 0;
+    let mut to = n;
     let mut steps: u32 = 0;
-    while sweeps <= n {
+    for sweeps in 0..n + 1 {
         let way = sweep_once(mode, image, marks, from, to);
-        sweeps += 1;
         if way.taken == 0 {
-            return Tally::new(sweeps as u32, steps);
+            return Tally {
+                sweeps: sweeps + 1,
+                steps,
+            };
         }
         steps += way.taken;
         from = way.from;
         to = way.to;
     }
-    Tally::new(sweeps as u32, steps)
+    Tally {
+        sweeps: n + 1,
+        steps,
+    }
 }
 
 // Starts from the entries and sweeps until a sweep takes none.
-pub fn sweep(mode: Mode, image: &[u8], marks: &mut [u8], entries: &[u32], pins: &[u32]) -> Swept
+pub fn sweep(
+    mode: Mode,
+    image: &[u8],
+    marks: &mut [u8],
+    entries: &[u32],
+    pins: &[u32],
+) -> Result<Tally, SizeError>
     ensures result_value { swept_of result ≡ sweep_answer mode image.now marks.old entries.now pins.now }
     ensures marks_after { marks.new ≡ sweep_leaves mode image.now marks.old entries.now pins.now }
 {
-    match trace::start::start(image, marks, entries, pins) {
-        Started::Set(_) => Swept::Ended(sweep_on(mode, image, marks)),
-        Started::LongImage(n) => Swept::LongImage(n),
-        Started::ShortMarks(n) => Swept::ShortMarks(n),
-    }
+    trace::start::start(image, marks, entries, pins)?;
+    Ok(sweep_on(mode, image, marks))
 }

@@ -17,34 +17,22 @@ pub struct Way {
     pub to: u32,
 }
 
-impl Way {
-    pub fn new(taken: u32, end: u32, from: u32, to: u32) -> Self
-        ensures { result ≡ record { taken = taken; end = end; from = from; to = to } }
-    {
-        Self {
-            taken,
-            end,
-            from,
-            to,
-        }
-    }
-}
-
 // One position waits besides, behind the one that is met next or ahead.
 fn with_one(way: Way, at: u32, t: u32) -> Way
     requires { t < 65536 }
     ensures { (result.taken ≡ way.taken) × Joined at (t ∷ []) way result }
 {
     if t < at {
-        if way.from < t {
-            return Way::new(way.taken, way.end, way.from, at);
-        }
-        return Way::new(way.taken, way.end, t, at);
+        return Way {
+            from: way.from.min(t),
+            to: at,
+            ..way
+        };
     }
-    if t < way.end {
-        return way;
+    Way {
+        end: way.end.max(t + 1),
+        ..way
     }
-    Way::new(way.taken, t + 1, way.from, way.to)
 }
 
 // One more was taken up, and these wait besides.
@@ -52,7 +40,10 @@ pub fn after(way: Way, at: u32, noted: Places) -> Way
     requires { (way.taken < 65536) × AllBelow 65536 (places_in noted) }
     ensures { (result.taken ≡ way.taken + 1) × Joined at (places_in noted) way result }
 {
-    let more = Way::new(way.taken + 1, way.end, way.from, way.to);
+    let more = Way {
+        taken: way.taken + 1,
+        ..way
+    };
     match noted {
         Places::Nothing => more,
         Places::First(s) => with_one(more, at, s),

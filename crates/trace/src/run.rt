@@ -10,16 +10,16 @@ ghost use Rattle.trace.specs.declared.run.RunError.TheVariants.{Size, Cut};
 use crate::{begin, queue};
 use instruction::{CutOff, Mode};
 use marks::SizeError;
-use targets::Ways;
+use targets::NotWhole;
 
 // The steps, and the positions noted.
-#[derive(Clone, Copy)]
+#[derive(Clone, Copy, Debug, PartialEq, Eq)]
 pub struct Counts {
     pub steps: u32,
     pub noted: u32,
 }
 
-#[derive(Clone, Copy)]
+#[derive(Clone, Copy, Debug, PartialEq, Eq)]
 pub enum Ran {
     // Nothing waiting.
     Finished(Counts),
@@ -27,7 +27,7 @@ pub enum Ran {
     Stopped(Counts),
 }
 
-#[derive(Clone, Copy)]
+#[derive(Clone, Copy, Debug, PartialEq, Eq)]
 pub enum RunError {
     // 1 and 2.
     Size(SizeError),
@@ -67,13 +67,12 @@ fn take_next(
     ensures { NextTaken mode image.now marks.old order.old p tail result marks.new order.new }
 {
     match targets::ways_at(mode, image, p) {
-        Ways::Goes(to) => {
+        Ok(to) => {
             let taken = marks::take_up(image, marks, p, to);
-            let noted = taken.noted;
-            Ok(queue::put(order, tail, noted))
+            Ok(queue::put(order, tail, taken.noted))
         }
-        Ways::Cut(c) => Err(c),
-        Ways::Outside => Ok(tail),
+        Err(NotWhole::Cut(c)) => Err(c),
+        Err(NotWhole::Outside) => Ok(tail),
     }
 }
 

@@ -1,6 +1,6 @@
 // A single step.
 ghost use Rattle.std.specs.Prelude.{◌≡◌, ◌≤◌, ◌<◌, length};
-ghost use Rattle.trace.specs.Step.{stepped_of, step_answer, step_marks, whole_answer, whole_marks};
+ghost use Rattle.trace.specs.Step.{stepped_of, step_answer, step_marks, whole_answer, whole_marks, not_stepped};
 ghost use Rattle.targets.specs.Ways.{places_in};
 ghost use Rattle.marks.specs.Taken.{going_to};
 ghost use Rattle.trace.specs.declared.step.StepError.TheVariants.{Size};
@@ -8,16 +8,16 @@ ghost use Rattle.trace.specs.declared.step.StepError.TheVariants.{Size};
 use crate::damage;
 use instruction::{CutOff, Mode};
 use marks::{Mark, SizeError};
-use targets::{Places, Ways};
+use targets::{NotWhole, Places};
 
 // The new mark, and how many positions became waiting.
-#[derive(Clone, Copy)]
+#[derive(Clone, Copy, Debug, PartialEq, Eq)]
 pub struct Advance {
     pub mark: u8,
     pub waiting: u32,
 }
 
-#[derive(Clone, Copy)]
+#[derive(Clone, Copy, Debug, PartialEq, Eq)]
 pub enum StepError {
     // 1 and 2.
     Size(SizeError),
@@ -34,6 +34,17 @@ impl From<SizeError> for StepError {
 
     fn from(e: SizeError) -> StepError {
         StepError::Size(e)
+    }
+}
+
+impl From<NotWhole> for StepError {
+    ghost from_gives = { λ e r. r ≡ not_stepped e };
+
+    fn from(e: NotWhole) -> StepError {
+        match e {
+            NotWhole::Cut(c) => StepError::Cut(c),
+            NotWhole::Outside => StepError::NotWaiting(0),
+        }
     }
 }
 
@@ -56,10 +67,9 @@ fn step_whole(image: &[u8], marks: &mut [u8], p: u32, to: Places) -> Result<Adva
 {
     damage::check(image, marks, p, to).map_err(StepError::Damaged)?;
     let taken = marks::take_up(image, marks, p, to);
-    let noted = taken.noted;
     Ok(Advance {
         mark: taken.mark,
-        waiting: count(noted),
+        waiting: count(taken.noted),
     })
 }
 
@@ -80,9 +90,6 @@ pub fn step(mode: Mode, image: &[u8], marks: &mut [u8], p: u32) -> Result<Advanc
     if mark != Mark::WAITING {
         return Err(StepError::NotWaiting(mark));
     }
-    match targets::ways_at(mode, image, p) {
-        Ways::Goes(to) => step_whole(image, marks, p, to),
-        Ways::Cut(c) => Err(StepError::Cut(c)),
-        Ways::Outside => Err(StepError::NotWaiting(0)),
-    }
+    let to = targets::ways_at(mode, image, p)?;
+    step_whole(image, marks, p, to)
 }
