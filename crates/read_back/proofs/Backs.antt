@@ -1,27 +1,29 @@
 -- The whole listing: the refusals in their order, and what is laid over the rooms.
 -- Assumes nothing.
-use mathlib.Core.Path.{◌≡◌, refl, sym, ap, ◌∙◌}
+use mathlib.Core.Path.{◌≡◌, sym, ap, ◌∙◌}
 use mathlib.Core.Bool.{Bool, true, false, cond}
 use mathlib.Core.List.{List, [], ◌∷◌, ◌++◌, map}
-use Prim.Native.Nat.{ℕ, zero, suc, ◌+◌, ◌-◌, ◌≤◌, ◌<◌}
+use Prim.Native.Nat.{ℕ, zero, suc, ◌+◌, ◌≤◌, ◌<◌}
 use native.Mathlib.Omega.{arith}
 use borrow.Author.Tests.{lt-ltb, le-ltb}
 use lib.IntN.{ℤ, pos}
 use lib.ListN.{length, get_or, set, drop, replicate}
+use Rattle.std.specs.Prelude.{Result, Ok, Err}
 use lib.Seq.{sets, get_or-drop}
 use Rattle.instruction.specs.Answer.{Answer, accepted, refused, judge, after, laid}
 use Rattle.instruction.specs.declared.mode.Mode.{Mode}
 use Rattle.text.specs.Bytes.{bytes_of}
 use Rattle.text.specs.Cut.{lines}
 use Rattle.text.proofs.Pairs.{bytes_small}
-use Rattle.read_back.specs.Back.{restored_of, line_refusals, sheet_after, back_answer, back_image, back_marks}
+use Rattle.read_back.specs.Back.{restore_refused, restored_of, line_refusals, sheet_after, back_answer, back_image, back_marks}
 use Rattle.read_back.specs.LinesLeave.{LinesLeave}
 use Rattle.read_back.specs.Noted.{marks_in}
 use Rattle.read_back.specs.Line.{field_on, letter_on, position_on, has_bytes}
 use Rattle.read_back.specs.Order.{start}
 use Rattle.read_back.specs.Sheet.{Sheet, empty_sheet, listed_on, sheet_with}
-use Rattle.read_back.specs.declared.back.Restored.{Restored}
-use Rattle.read_back.specs.declared.back.Restored.TheVariants.{Written, LongImage, ShortMarks, NoRoom, Malformed, PastEnd}
+use Rattle.read_back.specs.declared.back.RestoreError.{RestoreError}
+use Rattle.read_back.specs.declared.back.RestoreError.TheVariants.{Size, NoRoom, Malformed, PastEnd}
+use Rattle.marks.specs.declared.sizes.SizeError.TheVariants.{LongImage, ShortMarks}
 use Rattle.read_back.proofs.Keeping.{bytes_in, bytes_at_lem}
 use Rattle.read_back.proofs.Noting.{marks_length}
 
@@ -117,27 +119,26 @@ module _ (mode : Mode) (text : List ℕ) (n : ℕ) (image marks : List ℕ) wher
         by_lines = rw (le-ltb 65536 n h, le-ltb (length marks) n k, le-ltb (length image) n g)
 
         -- what the lines leave
-        module _ (new told : List ℕ) (x : Restored) (r : LinesLeave mode text n new told (restored_of x)) where
+        module _ (new told : List ℕ) (x : Result ℕ RestoreError) (r : LinesLeave mode text n new told (restored_of x)) where
           said : restored_of x ≡ back_answer mode text n image marks
           said = r.answer ∙ by_lines
 
-          pub is_bad : ((j : ℕ) → x ≡ Written j → ⊥) → Is (restored_of x) image marks
-          is_bad f = by x said f
+          pub is_bad : (e : RestoreError) → x ≡ Err e → Is (restore_refused e) image marks
+          is_bad e f = by e (sym (ap restored_of f) ∙ said)
             where
-              by : (x : Restored) → restored_of x ≡ back_answer mode text n image marks → ((j : ℕ) → x ≡ Written j → ⊥) → Is (restored_of x) image marks
-              by (Written j) e f = absurd (f j refl)
-              by (LongImage j) e f = is_refused 1 (pos j ∷ []) e
-              by (ShortMarks j) e f = is_refused 2 (pos j ∷ []) e
-              by (NoRoom j) e f = is_refused 11 (pos j ∷ []) e
-              by (Malformed j) e f = is_refused 15 (pos j ∷ []) e
-              by (PastEnd j) e f = is_refused 16 (pos j ∷ []) e
+              by : (e : RestoreError) → restore_refused e ≡ back_answer mode text n image marks → Is (restore_refused e) image marks
+              by (Size (LongImage j)) q = is_refused 1 (pos j ∷ []) q
+              by (Size (ShortMarks j)) q = is_refused 2 (pos j ∷ []) q
+              by (NoRoom j) q = is_refused 11 (pos j ∷ []) q
+              by (Malformed j) q = is_refused 15 (pos j ∷ []) q
+              by (PastEnd j) q = is_refused 16 (pos j ∷ []) q
 
-          pub is_done : (j : ℕ) → x ≡ Written j → (im mk : List ℕ) → im ≡ laid new image → mk ≡ marks_in told n ++ drop n marks → Is (restored_of x) im mk
+          pub is_done : (j : ℕ) → x ≡ Ok j → (im mk : List ℕ) → im ≡ laid new image → mk ≡ marks_in told n ++ drop n marks → Is (accepted j) im mk
           unfolding back_image back_marks
           is_done j f im mk p q =
               let e : accepted j ≡ back_answer mode text n image marks = sym (ap restored_of f) ∙ said in
               let k : mk ≡ laid (marks_in told n) marks = q ∙ ap (λ (i : ℕ). marks_in told n ++ drop i marks) (sym (marks_length told n)) in (
-                said,
+                e,
                 rw (← e) (p ∙ ap (λ (y : List ℕ). laid y image) (r.image j (ap restored_of f))),
                 rw (← e) (k ∙ ap (λ (y : List ℕ). laid y marks) (r.marks j (ap restored_of f))),
               )

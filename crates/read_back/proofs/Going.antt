@@ -10,12 +10,13 @@ use borrow.Author.Tests.{lt-ltb}
 use lib.IntN.{ℤ, pos}
 use lib.ListN.{length, drop, replicate, length-replicate}
 use lib.Seq.{sets, length-sets}
+use Rattle.std.specs.Prelude.{Result, Ok, Err}
 use Rattle.instruction.specs.Answer.{Answer, accepted, refused, refuse, judge}
 use Rattle.instruction.proofs.Sign.{never}
 use Rattle.instruction.specs.declared.mode.Mode.{Mode}
 use Rattle.text.specs.Cut.{up_to, lines}
 use Rattle.text.proofs.Cuts.{end_inside, the_piece, line_next, lines_end}
-use Rattle.read_back.specs.Back.{line_refusals, sheet_after, sheet_of}
+use Rattle.read_back.specs.Back.{restore_refused, line_refusals, sheet_after, sheet_of}
 use Rattle.read_back.specs.LinesLeave.{LinesLeave}
 use Rattle.read_back.specs.Line.{position_on, record_of}
 use Rattle.read_back.specs.Noted.{marks_in}
@@ -24,8 +25,9 @@ use Rattle.read_back.specs.Read.{is_good}
 use Rattle.read_back.specs.Sheet.{Sheet, empty_sheet, listed_on, agree, reach, sheet_with, image_on}
 use Rattle.read_back.specs.Turn.{agree_to, turned_of, turn_answer, Turned}
 use Rattle.read_back.specs.declared.place.Place.{Place}
-use Rattle.read_back.specs.declared.turn.Turn.{Turn}
-use Rattle.read_back.specs.declared.turn.Turn.TheVariants.{On}
+use Rattle.read_back.specs.declared.back.RestoreError.{RestoreError}
+use Rattle.read_back.specs.declared.back.RestoreError.TheVariants.{Size, NoRoom, Malformed, PastEnd}
+use Rattle.marks.specs.declared.sizes.SizeError.TheVariants.{LongImage, ShortMarks}
 use Rattle.read_back.proofs.Keeping.{Kept, kept_none, agrees_is, from, kept_on}
 use Rattle.read_back.proofs.Notes.{position_small}
 use Rattle.read_back.proofs.Noting.{marks_none, noted_marks, noted_wide}
@@ -159,8 +161,8 @@ module _ (mode : Mode) (text : List ℕ) (n : ℕ) where
           ∙ rw (the_piece 10 text place.at e refl, add-one)
 
       -- the line over the image is judged as it is over the cells
-      module _ (r : Turn) (new told : List ℕ) (t : Turned mode place end image table line r new told) where
-        turned : turned_of place r ≡ turn_answer mode place (agree g.cells (position_on line) (listed_on line)) n line
+      module _ (r : Result (Place × ℕ) RestoreError) (new told : List ℕ) (t : Turned mode place end image table line r new told) where
+        turned : turned_of r ≡ turn_answer mode place (agree g.cells (position_on line) (listed_on line)) n line
         turned =
             t.answer
             ∙ ap (λ (k : ℕ). turn_answer mode place (agree_to end image (position_on line) (listed_on line)) k line) g.long
@@ -169,7 +171,7 @@ module _ (mode : Mode) (text : List ℕ) (n : ℕ) where
         -- the answer, by this line's
         then : (x : ℕ)
             → judge (line_refusals mode n start (empty_sheet n) (lines text)) x
-            ≡ onto (turned_of place r) (λ (p : Place). judge
+            ≡ onto (turned_of r) (λ (p : Place). judge
             (line_refusals mode n p (sheet_with before line) (lines (drop (suc (place.at + length line)) text))) x)
         then x =
             let ls : List (List ℕ) = lines (drop (suc (place.at + length line)) text) in
@@ -177,7 +179,7 @@ module _ (mode : Mode) (text : List ℕ) (n : ℕ) where
             ∙ step mode n place g.cells (marks_in table n) line ls x
             ∙ ap (λ (b : Answer Place). onto b (λ (p : Place). judge (line_refusals mode n p (sheet_with before line) ls) x)) (sym turned)
 
-        pub going_stop : (k : ℕ) (vs : List ℤ) → turned_of place r ≡ refused k vs → length told ≡ length table → LinesLeave mode text n new told (refused k vs)
+        going_stop : (k : ℕ) (vs : List ℤ) → turned_of r ≡ refused k vs → length told ≡ length table → LinesLeave mode text n new told (refused k vs)
         going_stop k vs e w =
             let z : (j : ℕ) → refused k vs ≡ accepted j → ⊥ = λ j f. never (sym (ap is_accepted f)) in
             record {
@@ -190,9 +192,16 @@ module _ (mode : Mode) (text : List ℕ) (n : ℕ) where
               wide = w ∙ g.wide;
             }
 
-        module _ (next : Place) (far : ℕ) (e : r ≡ On next far) where
+        pub going_err : (x : RestoreError) → r ≡ Err x → length told ≡ length table → LinesLeave mode text n new told (restore_refused x)
+        going_err (Size (LongImage j)) e w = going_stop 1 (pos j ∷ []) (ap turned_of e) w
+        going_err (Size (ShortMarks j)) e w = going_stop 2 (pos j ∷ []) (ap turned_of e) w
+        going_err (NoRoom j) e w = going_stop 11 (pos j ∷ []) (ap turned_of e) w
+        going_err (Malformed j) e w = going_stop 15 (pos j ∷ []) (ap turned_of e) w
+        going_err (PastEnd j) e w = going_stop 16 (pos j ∷ []) (ap turned_of e) w
+
+        module _ (next : Place) (far : ℕ) (e : r ≡ Ok (next, far)) where
           is : accepted next ≡ turn_answer mode place (agree g.cells (position_on line) (listed_on line)) n line
-          is = sym (ap (turned_of place) e) ∙ turned
+          is = sym (ap turned_of e) ∙ turned
 
           good : (is_good mode place line ≡ true) × (reach n (position_on line) (listed_on line) ≡ false) × (next ≡ place_after place (length line) (record_of line))
           good = fine mode place _ n line next is
@@ -234,7 +243,7 @@ module _ (mode : Mode) (text : List ℕ) (n : ℕ) where
             wide = ap length (t.leaves next far e).1 ∙ noted_wide (record_of line) table ∙ g.wide;
             answer = λ x. then x ∙ ap (λ (b : Answer Place). onto b
                 (λ (p : Place). judge (line_refusals mode n p (sheet_with before line) (lines (drop (suc (place.at + length line)) text))) x))
-                (ap (turned_of place) e) ∙ ap₂ (λ (y : Sheet) (ls : List (List ℕ)). judge (line_refusals mode n next y ls) x) noting others;
+                (ap turned_of e) ∙ ap₂ (λ (y : Sheet) (ls : List (List ℕ)). judge (line_refusals mode n next y ls) x) noting others;
             rest = g.rest ∙ ap (sheet_after before) next_lines ∙ ap₂ sheet_after noting others;
             count = omega (arith, line_number b, g.count, ap length next_lines, ap length others);
             number = omega (arith, line_number b, at_next, g.number);

@@ -1,5 +1,6 @@
 pub mod Letters
 pub mod NoLetters
+pub mod Chunks
 pub mod Lines
 pub mod Pieces
 pub mod Rests

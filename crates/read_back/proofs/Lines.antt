@@ -1,14 +1,14 @@
 -- Lines judged part by part.
 -- Assumes nothing.
-use mathlib.Core.Path.{◌≡◌, refl, sym, ap, ◌∙◌}
+use mathlib.Core.Path.{◌≡◌, refl, sym, ◌∙◌}
 use mathlib.Core.Bool.{Bool, true, false, cond, ◌&&◌}
 use mathlib.Core.List.{List, [], ◌∷◌}
 use Prim.Native.Nat.{ℕ, ◌+◌, ◌-◌, ◌≤◌, ◌<◌}
 use native.Mathlib.Omega.{arith}
 use borrow.Author.Tests.{eqb-true, eqb-false, eq-eqb, ne_eqb, le-leb, lt-leb, leb-true}
 use lib.Dec.{eqb, leb}
-use lib.ListN.{length, get_or, take, drop, length-drop, drop_of_length-le}
-use lib.Seq.{get_or-drop, get_or-take, drop-drop, length-take-le}
+use lib.ListN.{length, get_or, take, drop, length-drop}
+use lib.Seq.{get_or-take, take-take, drop-drop, length-take-le}
 use Rattle.instruction.specs.declared.mode.Mode.{Mode}
 use Rattle.instruction.proofs.Ands.{first_part}
 use Rattle.text.specs.Four.{is_four, four_of, four_in}
@@ -45,37 +45,43 @@ five (t ∷ a ∷ b ∷ []) h = absurd (omega arith)
 five (t ∷ a ∷ b ∷ c ∷ []) h = absurd (omega arith)
 five (t ∷ a ∷ b ∷ c ∷ d ∷ l) h = refl
 
-module _ (s : List ℕ) (i : ℕ) where
-  pub places_few : i < length s → length s - i < 5 → are_places (drop i s) ≡ false
-  places_few h k = few (drop i s) (omega (arith, length-drop i s)) (omega (arith, length-drop i s))
+first_of : (l : List ℕ) → get_or (take 5 l) 0 0 ≡ get_or l 0 0
+first_of [] = refl
+first_of (x ∷ l) = refl
 
-  at_0 : get_or (drop i s) 0 0 ≡ get_or s i 0
-  at_0 = get_or-drop i s 0 0 ∙ ap (λ (n : ℕ). get_or s n 0) (let q : i + 0 ≡ i = omega arith in q)
+others_of : (l : List ℕ) → take 4 (drop 1 (take 5 l)) ≡ take 4 (drop 1 l)
+others_of [] = refl
+others_of (x ∷ l) = take-take 4 4 l (omega arith)
 
-  module _ (k : 5 ≤ length s - i) where
-    next : are_places (drop i s) ≡ (eqb (get_or s i 0) 9 && (all_hex (take 4 (drop (i + 1) s)) && are_places (drop (i + 5) s)))
-    next =
-        five (drop i s) (omega (arith, length-drop i s))
-        ∙ rw (at_0, drop-drop 1 i s, drop-drop 5 i s)
+-- the five bytes at a place
+module _ (s place : List ℕ) (i : ℕ) (k : 5 ≤ length s - i) (p : place ≡ take 5 (drop i s)) where
+  next : are_places (drop i s) ≡ (eqb (get_or place 0 0) 9 && (all_hex (take 4 (drop 1 place)) && are_places (drop (i + 5) s)))
+  next =
+      five (drop i s) (omega (arith, length-drop i s))
+      ∙ rw (p, first_of (drop i s), others_of (drop i s), drop-drop 5 i s)
 
-    pub places_bad : (get_or s i 0 ≡ 9 → ⊥) → are_places (drop i s) ≡ false
-    places_bad n = next ∙ rw (ne_eqb (get_or s i 0) 9 n)
+  pub places_bad : (get_or place 0 0 ≡ 9 → ⊥) → are_places (drop i s) ≡ false
+  places_bad n = next ∙ rw (ne_eqb (get_or place 0 0) 9 n)
 
-    module _ (e : get_or s i 0 ≡ 9) (b : Bool) (f : b ≡ all_hex (take (i + 5 - (i + 1)) (drop (i + 1) s))) where
-      tested : are_places (drop i s) ≡ (b && are_places (drop (i + 5) s))
-      tested =
-          let q : i + 5 - (i + 1) ≡ 4 = omega arith in
-          next ∙ rw (eq-eqb (get_or s i 0) 9 e, f, q)
+  module _ (e : get_or place 0 0 ≡ 9) (b : Bool) (f : b ≡ all_hex (take 4 (drop 1 place))) where
+    tested : are_places (drop i s) ≡ (b && are_places (drop (i + 5) s))
+    tested = next ∙ rw (eq-eqb (get_or place 0 0) 9 e, f)
 
-      pub places_off : b ≡ false → are_places (drop i s) ≡ false
-      places_off g = tested ∙ rw g
+    pub places_off : b ≡ false → are_places (drop i s) ≡ false
+    places_off g = tested ∙ rw g
 
-      pub places_on : b ≡ true → are_places (drop i s) ≡ are_places (drop (i + 5) s)
-      places_on g = tested ∙ rw g
+    pub places_on : b ≡ true → are_places (drop i s) ≡ are_places (drop (i + 5) s)
+    places_on g = tested ∙ rw g
 
-  pub places_end : length s ≤ i → are_places (drop i s) ≡ true
-  unfolding are_places
-  places_end h = rw (drop_of_length-le s h)
+-- what is left after them
+pub places_left : (l : List ℕ) → length l < 5 → eqb (length l) 0 ≡ are_places l
+unfolding are_places
+places_left [] h = refl
+places_left (t ∷ []) h = refl
+places_left (t ∷ a ∷ []) h = refl
+places_left (t ∷ a ∷ b ∷ []) h = refl
+places_left (t ∷ a ∷ b ∷ c ∷ []) h = refl
+places_left (t ∷ a ∷ b ∷ c ∷ d ∷ l) h = absurd (omega arith)
 
 -- how each line begins
 module _ (line : List ℕ) where

@@ -3,21 +3,21 @@
 use mathlib.Core.Path.{◌≡◌, refl, sym, ap, ◌∙◌}
 use mathlib.Core.Bool.{Bool, true, false, cond, ◌&&◌}
 use mathlib.Core.List.{List, [], ◌∷◌}
-use Prim.Native.Nat.{ℕ, suc, ◌+◌, ◌-◌, ◌*◌, ◌≤◌, ◌<◌}
-use native.Mathlib.Numerals.{add-one}
+use mathlib.Core.Logic.{◌⊎◌, inl, inr}
+use Prim.Native.Nat.{ℕ, suc, ◌+◌, ◌-◌, ◌*◌, ◌/◌, ◌≤◌, ◌<◌, min, max}
 use native.Mathlib.Omega.{arith}
-use borrow.Author.Tests.{eq-eqb, ne_eqb, le-leb, lt-leb}
+use borrow.Author.Tests.{eq-eqb, ne_eqb, le-leb, lt-leb, lt-ltb, le-ltb}
 use lib.Dec.{eqb}
 use lib.ListN.{length, get_or, take, drop, length-drop}
-use lib.Seq.{take-take}
+use lib.Seq.{take-take, get_or-take, get_or-drop, drop-drop, length-take-le}
+use Rattle.reach.proofs.Cases.{lt_or_le}
 use Rattle.text.specs.Bytes.{bytes_of}
 use Rattle.text.specs.Hex.{digit_of}
 use Rattle.text.proofs.Cuts.{take_first}
-use Rattle.text.proofs.Pairs.{pair_next, pair_end}
 use Rattle.read_back.specs.Line.{field_on, letter_on, position_on, bytes_on, further_on, has_bytes, record_of}
 use Rattle.read_back.specs.Offsets.{digits_at, bytes_at, Spaced}
 use Rattle.read_back.specs.Sheet.{listed_on}
-use Rattle.read_back.specs.Turn.{agree_to, far_of}
+use Rattle.read_back.specs.Turn.{agree_to, far_of, later_of}
 use Rattle.read_back.specs.declared.place.Record.{Record}
 use Rattle.read_back.proofs.Codes.{digits_inside}
 use Rattle.read_back.proofs.Lines.{four_small}
@@ -28,33 +28,61 @@ unfolding agree_to
 agree_past end image n [] h = refl
 agree_past end image n (b ∷ bs) h = rw (le-leb end n h) (agree_past end image (suc n) bs (omega arith))
 
--- what remains to be compared
-pub record Comparing (digits image : List ℕ) (p end i n : ℕ) : Type 0 where
-  pub ahead : 1 ≤ i
-  pub rest : agree_to end image p (bytes_of digits) ≡ agree_to end image n (bytes_of (drop (i - 1) digits))
+-- a pair of digits, and what follows it
+pair_of : (l : List ℕ) → 2 ≤ length l
+    → bytes_of l ≡ (digit_of (get_or (take 2 l) 0 0) * 16 + digit_of (get_or (take 2 l) 1 0)) ∷ bytes_of (drop 2 l)
+unfolding bytes_of
+pair_of [] h = absurd (omega arith)
+pair_of (a ∷ []) h = absurd (omega arith)
+pair_of (a ∷ b ∷ l) h = refl
 
-module _ (digits image : List ℕ) (p end : ℕ) where
-  pub compare_start : Comparing digits image p end 1 p
-  compare_start = record { ahead = omega arith; rest = refl }
+no_pair : (l : List ℕ) → length l < 2 → bytes_of l ≡ []
+unfolding bytes_of
+no_pair [] h = refl
+no_pair (a ∷ []) h = refl
+no_pair (a ∷ b ∷ l) h = absurd (omega arith)
 
-  module _ (i n : ℕ) (c : Comparing digits image p end i n) where
-    pub compare_past : end ≤ n → true ≡ agree_to end image p (bytes_of digits)
-    compare_past h = sym (c.rest ∙ agree_past end image n (bytes_of (drop (i - 1) digits)) h)
+-- what remains to be compared with what was listed from p on, where k bytes were
+module _ (digits image : List ℕ) (p end from : ℕ) (s : from ≡ min p end) (w : end ≤ length image) (k : ℕ)
+    (c : agree_to end image p (bytes_of digits) ≡ agree_to end image (p + k) (bytes_of (drop (k * 2) digits))) where
+  abbrev known : List ℕ
+  known = take (end - from) (drop from image)
 
-    pub compare_end : length digits ≤ i → true ≡ agree_to end image p (bytes_of digits)
+  long : length known ≡ end - from
+  long = length-take-le (end - from) (drop from image) (omega (arith, length-drop from image))
+
+  pub compare_end : (n : ℕ) → n ≡ length digits / 2 → k ≡ min n (length known) → true ≡ agree_to end image p (bytes_of digits)
+  unfolding agree_to
+  compare_end n f e = by (lt_or_le (p + k) end)
+    where
+      by : ((p + k) < end) ⊎ (end ≤ (p + k)) → true ≡ agree_to end image p (bytes_of digits)
+      by (inl h) = sym (c ∙ ap (agree_to end image (p + k)) (no_pair (drop (k * 2) digits) (omega (arith, length-drop (k * 2) digits, long))))
+      by (inr h) = sym (c ∙ agree_past end image (p + k) (bytes_of (drop (k * 2) digits)) h)
+
+  module _ (h : k < length digits / 2) (l : k < length known) (pair : List ℕ) (f : pair ≡ take 2 (drop (k * 2) digits)) (x : ℕ)
+      (e : x ≡ digit_of (get_or pair 0 0) * 16 + digit_of (get_or pair 1 0)) (b : ℕ) (g : b ≡ get_or known k 0) where
+    byte : get_or image (p + k) 0 ≡ b
+    byte =
+        sym (g ∙ get_or-take (end - from) (drop from image) k 0 (omega (arith, long)) ∙ get_or-drop from image k 0
+        ∙ ap (λ (j : ℕ). get_or image j 0) (let z : from + k ≡ p + k = omega (arith, long) in z))
+
+    pairing : bytes_of (drop (k * 2) digits) ≡ x ∷ bytes_of (drop ((k + 1) * 2) digits)
+    pairing =
+        pair_of (drop (k * 2) digits) (omega (arith, length-drop (k * 2) digits))
+        ∙ rw (← f, ← e, drop-drop 2 (k * 2) digits) (ap (λ (j : ℕ). x ∷ bytes_of (drop j digits)) (let v : k * 2 + 2 ≡ (k + 1) * 2 = omega arith in v))
+
+    one : agree_to end image (p + k) (bytes_of (drop (k * 2) digits)) ≡ (eqb b x && agree_to end image (p + (k + 1)) (bytes_of (drop ((k + 1) * 2) digits)))
     unfolding agree_to
-    compare_end h = sym (c.rest ∙ ap (agree_to end image n) (pair_end digits i c.ahead h))
+    one =
+        ap (agree_to end image (p + k)) pairing
+        ∙ rw (lt-leb end (p + k) (let z : p + k < end = omega (arith, long) in z), byte)
+        (ap (λ (j : ℕ). eqb b x && agree_to end image j (bytes_of (drop ((k + 1) * 2) digits))) (let u : suc (p + k) ≡ p + (k + 1) = omega arith in u))
 
-    module _ (h : i < length digits) (l : n < end) (x : ℕ) (e : x ≡ digit_of (get_or digits (i - 1) 0) * 16 + digit_of (get_or digits i 0)) where
-      one : agree_to end image n (bytes_of (drop (i - 1) digits)) ≡ (eqb (get_or image n 0) x && agree_to end image (n + 1) (bytes_of (drop (i + 2 - 1) digits)))
-      unfolding agree_to
-      one = ap (agree_to end image n) (pair_next digits i c.ahead h) ∙ rw (lt-leb end n l, e, add-one)
+    pub compare_off : (b ≡ x → ⊥) → false ≡ agree_to end image p (bytes_of digits)
+    compare_off n = sym (c ∙ one ∙ rw (ne_eqb b x n))
 
-      pub compare_off : (get_or image n 0 ≡ x → ⊥) → false ≡ agree_to end image p (bytes_of digits)
-      compare_off g = sym (c.rest ∙ one ∙ rw (ne_eqb (get_or image n 0) x g))
-
-      pub compare_on : get_or image n 0 ≡ x → Comparing digits image p end (i + 2) (n + 1)
-      compare_on g = record { ahead = omega arith; rest = c.rest ∙ one ∙ rw (eq-eqb (get_or image n 0) x g) }
+    pub compare_on : b ≡ x → agree_to end image p (bytes_of digits) ≡ agree_to end image (p + (k + 1)) (bytes_of (drop ((k + 1) * 2) digits))
+    compare_on n = c ∙ one ∙ rw (eq-eqb b x n)
 
 -- two digits for each byte
 whole_most : (d : List ℕ) → length (bytes_of d) * 2 ≤ length d
@@ -130,3 +158,11 @@ far_none p (b ∷ bs) h = absurd (omega arith)
 pub far_some : (p k : ℕ) (bs : List ℕ) → length bs ≡ k → (k ≡ 0 → ⊥) → p + k ≡ far_of p bs
 far_some p k [] h z = absurd (z (sym h))
 far_some p k (b ∷ bs) h z = ap (λ (x : ℕ). p + x) (sym h)
+
+-- the later of two ends
+pub max_later : (a b : ℕ) → max a b ≡ later_of a b
+max_later a b = by (lt_or_le a b)
+  where
+    by : (a < b) ⊎ (b ≤ a) → max a b ≡ later_of a b
+    by (inl h) = rw (lt-ltb a b h) (omega arith)
+    by (inr h) = rw (le-ltb a b h) (omega arith)

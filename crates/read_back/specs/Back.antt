@@ -1,26 +1,29 @@
 -- The whole listing read back. Document 02, W1: refusals 1, 2 and 11, then the first bad line decides: 15, malformed or out of order; 16,
 -- `I` or `D` reaching past the length; both with the line's number. Nothing is written on any.
 -- Assumes nothing.
-use Rattle.std.specs.Prelude.{ℕ, Bool, not, ◌&&◌, List, [], ◌∷◌, ◌++◌, ltb, pos, length, drop}
+use Rattle.std.specs.Prelude.{ℕ, Bool, not, ◌&&◌, Result, Ok, Err, List, [], ◌∷◌, ltb, pos, length}
 use Rattle.instruction.specs.Answer.{Answer, accepted, refused, Refusal, refuse, judge, after, laid}
 use Rattle.instruction.specs.declared.mode.Mode.{Mode}
+use Rattle.marks.specs.Refusals.{size_refused}
 use Rattle.text.specs.Cut.{lines}
 use Rattle.read_back.specs.Line.{position_on, record_of}
 use Rattle.read_back.specs.Order.{start, place_after}
 use Rattle.read_back.specs.Read.{is_good}
 use Rattle.read_back.specs.Sheet.{Sheet, empty_sheet, listed_on, agree, reach, sheet_with, image_on}
-use Rattle.read_back.specs.declared.back.Restored.{Restored}
-use Rattle.read_back.specs.declared.back.Restored.TheVariants.{Written, LongImage, ShortMarks, NoRoom, Malformed, PastEnd}
+use Rattle.read_back.specs.declared.back.RestoreError.{RestoreError}
+use Rattle.read_back.specs.declared.back.RestoreError.TheVariants.{Size, NoRoom, Malformed, PastEnd}
 use Rattle.read_back.specs.declared.place.Place.{Place}
 
--- the number and values of each answer
-abbrev pub restored_of : Restored → Answer ℕ
-restored_of (Written k) = accepted k
-restored_of (LongImage n) = refused 1 (pos n ∷ [])
-restored_of (ShortMarks n) = refused 2 (pos n ∷ [])
-restored_of (NoRoom n) = refused 11 (pos n ∷ [])
-restored_of (Malformed k) = refused 15 (pos k ∷ [])
-restored_of (PastEnd k) = refused 16 (pos k ∷ [])
+-- the number and values of each refusal, and of each answer
+abbrev pub restore_refused : {A : Type 0} → RestoreError → Answer A
+restore_refused (Size e) = size_refused e
+restore_refused (NoRoom n) = refused 11 (pos n ∷ [])
+restore_refused (Malformed k) = refused 15 (pos k ∷ [])
+restore_refused (PastEnd k) = refused 16 (pos k ∷ [])
+
+abbrev pub restored_of : Result ℕ RestoreError → Answer ℕ
+restored_of (Ok k) = accepted k
+restored_of (Err e) = restore_refused e
 
 -- the line after a place, over what was read before it
 abbrev pub is_fit : Mode → Place → Sheet → List ℕ → Bool

@@ -1,7 +1,7 @@
 -- What the core answers at a place: the record on the line that begins there and the place after it, the end, or 15 with the line's number.
 -- Document 02, W1.
 -- Assumes nothing.
-use Rattle.std.specs.Prelude.{ℕ, Bool, cond, not, ◌&&◌, List, [], ◌∷◌, leb, pos, length, drop}
+use Rattle.std.specs.Prelude.{ℕ, Bool, cond, not, ◌&&◌, Option, Some, None, Result, Ok, Err, List, [], ◌∷◌, leb, pos, length, drop}
 use Rattle.instruction.specs.Answer.{Answer, accepted, refused, refuse, judge}
 use Rattle.instruction.specs.declared.mode.Mode.{Mode}
 use Rattle.text.specs.Cut.{up_to}
@@ -9,8 +9,7 @@ use Rattle.read_back.specs.Line.{is_line, record_of}
 use Rattle.read_back.specs.Order.{follows, place_after}
 use Rattle.read_back.specs.declared.place.Place.{Place}
 use Rattle.read_back.specs.declared.place.Record.{Record}
-use Rattle.read_back.specs.declared.read.Read.{Read}
-use Rattle.read_back.specs.declared.read.Read.TheVariants.{Line, End, Malformed}
+use Rattle.read_back.specs.declared.read.ReadError.{ReadError}
 
 -- what is found at a place
 pub data Found : Type 0 where
@@ -18,10 +17,10 @@ pub data Found : Type 0 where
   ended : Found
 
 -- the number and values of each answer
-abbrev pub read_of : Read → Answer Found
-read_of (Line r next) = accepted (listed r next)
-read_of End = accepted ended
-read_of (Malformed k) = refused 15 (pos k ∷ [])
+abbrev pub read_of : Result (Option (Record × Place)) ReadError → Answer Found
+read_of (Ok (Some p)) = accepted (listed p.0 p.1)
+read_of (Ok None) = accepted ended
+read_of (Err e) = refused 15 (pos e.line ∷ [])
 
 -- a line that may stand at the place
 abbrev pub is_good : Mode → Place → List ℕ → Bool

@@ -5,7 +5,7 @@ ghost use Rattle.text.specs.Bytes.{bytes_of};
 ghost use Rattle.read_back.specs.Line.{record_of};
 ghost use Rattle.read_back.specs.Offsets.{Spaced};
 ghost use Rattle.read_back.specs.Sheet.{listed_on};
-ghost use Rattle.read_back.specs.Turn.{agree_to, far_of, later_of};
+ghost use Rattle.read_back.specs.Turn.{agree_to, far_of};
 
 use crate::line;
 use crate::place::Record;
@@ -31,17 +31,12 @@ pub fn agree(digits: &[u8], image: &[u8], p: usize, end: usize) -> bool
     requires { end ≤ length image.now }
     ensures { result ≡ agree_to end image.now p (bytes_of digits.now) }
 {
-    let mut i: usize = 1;
-    let mut n = p;
-    while i < digits.len() {
-        if end <= n {
-            return true;
-        }
-        if image[n] != hex::pair(digits[i - 1], digits[i]) {
+    let (pairs, _) = digits.as_chunks::<2>();
+    let known = &image[p.min(end)..end];
+    for (pair, byte) in pairs.iter().zip(known) {
+        if *byte != hex::pair(pair[0], pair[1]) {
             return false;
         }
-        n += 1;
-        i += 2;
     }
     true
 }
@@ -55,14 +50,4 @@ pub fn far(digits: &[u8], p: u32) -> usize
         return 0;
     }
     p as usize + k
-}
-
-// The later of two ends.
-pub fn later(a: usize, b: usize) -> usize
-    ensures { result ≡ later_of a b }
-{
-    if a < b {
-        return b;
-    }
-    a
 }

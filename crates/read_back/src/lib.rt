@@ -10,6 +10,6 @@ pub mod place;
 pub mod read;
 mod turn;
 
-pub use back::{Restored, read_back};
+pub use back::{RestoreError, read_back};
 pub use place::{Place, Record};
-pub use read::{Read, read_line};
+pub use read::{ReadError, read_line};

@@ -24,29 +24,22 @@ const WIDEST: usize = 30;
 fn are_places(s: &[u8]) -> bool
     ensures { result ≡ are_places s.now }
 {
-    let mut i: usize = 0;
-    while i < s.len() {
-        if s.len() - i < 5 {
+    let (places, rest) = s.as_chunks::<5>();
+    for place in places {
+        if place[0] != cut::TAB {
             return false;
         }
-        if s[i] != cut::TAB {
+        if !hex::is_hex(&place[1..]) {
             return false;
         }
-        if !hex::is_hex(&s[i + 1..i + 5]) {
-            return false;
-        }
-        i += 5;
     }
-    true
+    rest.len() == 0
 }
 
 fn is_found(rest: &[u8]) -> bool
     ensures { result ≡ is_found_rest rest.now }
 {
-    if rest.len() == 0 {
-        return false;
-    }
-    are_places(rest)
+    rest.len() != 0 && are_places(rest)
 }
 
 fn is_data(rest: &[u8]) -> bool
@@ -65,10 +58,7 @@ fn is_data(rest: &[u8]) -> bool
 pub fn has_bytes(letter: u8) -> bool
     ensures { result ≡ has_bytes letter }
 {
-    if letter == b'I' {
-        return true;
-    }
-    letter == b'D'
+    matches!(letter, b'I' | b'D')
 }
 
 // The digits of the bytes on a line: its third field.

@@ -8,44 +8,44 @@ use instruction::Mode;
 use targets::Image;
 use text::cut;
 
-#[derive(Clone, Copy)]
-pub enum Read {
-    // What the line at the place says, and the place after it.
-    Line(Record, Place),
-    // No line begins at or after the place.
-    End,
-    // 15: malformed or out of order, with the line's number.
-    Malformed(usize),
+// 15: malformed or out of order, with the line's number.
+#[derive(Clone, Copy, Debug, PartialEq, Eq)]
+pub struct ReadError {
+    pub line: usize,
 }
 
-// The line that begins at a place, whoever made the place.
-pub fn read_line(mode: Mode, text: &[u8], place: Place) -> Read
+// What the line says that begins at a place, whoever made the place, and the place after it; nothing where no line begins at or after the
+// place.
+pub fn read_line(
+    mode: Mode,
+    text: &[u8],
+    place: Place,
+) -> Result<Option<(Record, Place)>, ReadError>
     ensures { read_of result ≡ read_answer mode text.now place }
 {
     if text.len() <= place.at {
-        return Read::End;
+        return Ok(None);
     }
     let at = place.at;
     let e = cut::end(text, at, cut::LINE_END);
     let l = &text[at..e];
+    let bad = ReadError { line: place.line };
     let p = line::position(l);
     if p == Image::NOWHERE {
-        return Read::Malformed(place.line);
+        return Err(bad);
     }
     if !line::is_line(mode, l, p) {
-        return Read::Malformed(place.line);
+        return Err(bad);
     }
     let record = line::record(l, p);
     if !order::follows(place, record) {
-        return Read::Malformed(place.line);
+        return Err(bad);
     }
-    Read::Line(
-        record,
-        Place::new(
-            e + 1,
-            order::line_after(place.line),
-            record.position,
-            record.letter,
-        ),
-    )
+    let next = Place {
+        at: e + 1,
+        line: order::line_after(place.line),
+        last: record.position,
+        letter: record.letter,
+    };
+    Ok(Some((record, next)))
 }

@@ -3,21 +3,13 @@ ghost use Rattle.std.specs.Prelude.{◌≡◌, ◌≤◌, ◌<◌, length, drop}
 ghost use Rattle.text.specs.Cut.{up_to};
 ghost use Rattle.read_back.specs.Turn.{Turned};
 
+use crate::back::RestoreError;
 use crate::place::Place;
-use crate::read::Read;
 use crate::{laying, noted, read};
 use instruction::Mode;
 use text::bytes;
 
-#[derive(Clone, Copy)]
-pub enum Turn {
-    // The place of the next line, and where what is listed ends.
-    On(Place, usize),
-    Malformed,
-    PastEnd,
-}
-
-// Reads the line at a place and notes what it lists, if it is good.
+// Reads the line at a place and notes what it lists, if it is good: the place of the next line, and where what is listed ends.
 pub fn read_on(
     mode: Mode,
     text: &[u8],
@@ -25,26 +17,26 @@ pub fn read_on(
     image: &mut [u8],
     table: &mut [u64],
     end: usize,
-) -> Turn
+) -> Result<(Place, usize), RestoreError>
     requires { (place.at < length text.now) × (end ≤ length image.old) × (length table.old ≡ 1024) }
     ensures { Turned mode place end image.old table.old (up_to 10 (drop place.at text.now)) result
         image.new table.new }
 {
-    let Read::Line(r, next) = read::read_line(mode, text, place) else {
-        return Turn::Malformed;
+    let Some((r, next)) = read::read_line(mode, text, place)? else {
+        unreachable!()
     };
     let at = place.at;
     let e = next.at - 1;
     let p = r.position;
     let d = laying::listed(&text[at..e], r);
     if !laying::agree(d, image, p as usize, end) {
-        return Turn::Malformed;
+        return Err(RestoreError::Malformed(place.line));
     }
     let far = laying::far(d, p);
     if image.len() < far {
-        return Turn::PastEnd;
+        return Err(RestoreError::PastEnd(place.line));
     }
     bytes::put(d, image, p as usize);
     noted::note(r, table);
-    Turn::On(next, laying::later(end, far))
+    Ok((next, end.max(far)))
 }

@@ -6,8 +6,8 @@ ghost use Rattle.std.specs.Prelude.{◌≡◌};
 ghost use Rattle.read_back.specs.Read.{read_of, read_answer};
 
 use instruction::Mode;
-use read_back::Place;
-use read_back::read::{Read, read_line};
+use read_back::read::{ReadError, read_line};
+use read_back::{Place, Record};
 
 #[derive(Clone, Copy)]
 pub struct Reader<'a> {
@@ -23,7 +23,7 @@ pub fn new<'a>(text: &'a [u8], place: Place) -> Reader<'a>
 }
 
 // What the line at the place says. The reader stays where it is: the answer has the place after the line, and `moved` goes there.
-pub fn next<'a>(mode: Mode, r: Reader<'a>) -> Read
+pub fn next<'a>(mode: Mode, r: Reader<'a>) -> Result<Option<(Record, Place)>, ReadError>
     ensures { read_of result ≡ read_answer mode r.entry.text.now r.entry.place }
 {
     read_line(mode, r.text, r.place)
@@ -47,7 +47,7 @@ pub fn moved<'a>(r: Reader<'a>, place: Place) -> Reader<'a>
 }
 
 // A reader of the text at the place is made, and read.
-pub fn read(mode: Mode, text: &[u8], place: Place) -> Read
+pub fn read(mode: Mode, text: &[u8], place: Place) -> Result<Option<(Record, Place)>, ReadError>
     ensures { read_of result ≡ read_answer mode text.now place }
 {
     next(mode, new(text, place))

@@ -1,10 +1,8 @@
 -- `line::record` meets its contract.
 -- Assumes nothing.
 use mathlib.Core.Path.{◌∙◌}
-use Prim.Native.Nat.{◌≤◌}
 use native.Mathlib.Omega.{arith}
 use borrow.Author.Rules.{rules}
-use lib.ListN.{length}
 use Rattle.read_back.proofs.Records.{made, with_data, with_code, with_places}
 use Rattle.read_back.proofs.line.record.Statement.{statement}
 use Rattle.read_back.proofs.line.record.Tie as tie
