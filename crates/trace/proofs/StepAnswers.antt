@@ -23,7 +23,7 @@ use Rattle.marks.specs.Tracer.{tracer_of}
 use Rattle.targets.specs.At.{fits_here}
 use Rattle.targets.specs.Ways.{ways_of}
 use Rattle.targets.specs.declared.not_whole.NotWhole.{NotWhole}
-use Rattle.targets.specs.declared.not_whole.NotWhole.TheVariants as whole
+use Rattle.targets.specs.declared.not_whole.NotWhole.TheVariants as cause
 use Rattle.targets.proofs.WaysAre.{goes_cut, never_outside}
 use Rattle.std.specs.Prelude.{Err}
 use Rattle.marks.proofs.Sizing as sizing
@@ -108,11 +108,11 @@ module _ (mode : Mode) (image m : List ℕ) (p : ℕ) where
           cut : (c : CutOff) → (fits_here image p ≡ false) × (cut_values c ≡ cut_values (cut_at image p)) → Is (refused 5 (cut_values c)) m
           cut c h = held (refused 5 (cut_values c)) (waiting ∙ stop _ _ _ (rw h.0) ∙ ap (refused 5) (sym h.1)) m refl
 
-          pub goes_on : fits_here image p ≡ true → (r : Answer StepResult) (t : List ℕ) → Inner (tracer_of mode image) image m p r t → Is r t
+          pub whole : fits_here image p ≡ true → (r : Answer StepResult) (t : List ℕ) → Inner (tracer_of mode image) image m p r t → Is r t
           unfolding step_marks
-          goes_on f r t h = let e : step_answer mode image m p ≡ judge (damages_here) (step_result (tracer_of mode image) m p) = waiting ∙ pass _ _ _ (rw f) in
+          whole f r t h = let e : step_answer mode image m p ≡ judge (damages_here) (step_result (tracer_of mode image) m p) = waiting ∙ pass _ _ _ (rw f) in
               (h.0 ∙ sym e, rw e h.1)
 
           pub not_whole : (e : NotWhole) → Err e ≡ ways_of mode image p → Is (stepped_of (Err (not_stepped e))) m
-          not_whole (whole.Cut c) e = cut c (goes_cut mode image p inside fits c e)
-          not_whole whole.Outside e = absurd (never_outside mode image p inside fits e)
+          not_whole (cause.Cut c) e = cut c (goes_cut mode image p inside fits c e)
+          not_whole cause.Outside e = absurd (never_outside mode image p inside fits e)

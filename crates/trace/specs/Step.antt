@@ -12,7 +12,7 @@ use Rattle.marks.specs.Refusals.{size_refusals, size_refused, damaged}
 use Rattle.marks.specs.Tracer.{tracer_of}
 use Rattle.targets.specs.At.{fits_here, flash_here}
 use Rattle.targets.specs.declared.not_whole.NotWhole.{NotWhole}
-use Rattle.targets.specs.declared.not_whole.NotWhole.TheVariants as whole
+use Rattle.targets.specs.declared.not_whole.NotWhole.TheVariants as cause
 use Rattle.trace.specs.declared.step.Advance.{Advance}
 use Rattle.trace.specs.declared.step.StepError.{StepError}
 use Rattle.trace.specs.declared.step.StepError.TheVariants.{Size, NotWaiting, Cut, Damaged}
@@ -59,8 +59,8 @@ stepped_of (Err (Damaged q)) = refused 6 (pos q ∷ [])
 
 -- of an instruction that is not whole: cut off, or not inside
 abbrev pub not_stepped : NotWhole → StepError
-not_stepped (whole.Cut c) = Cut c
-not_stepped whole.Outside = NotWaiting 0
+not_stepped (cause.Cut c) = Cut c
+not_stepped cause.Outside = NotWaiting 0
 
 -- by a tracer
 abbrev pub step_result : Tracer → List ℕ → ℕ → StepResult

@@ -11,7 +11,6 @@ use Rattle.reach.specs.Pins.{pinned, pin}
 use Rattle.marks.specs.Refusals.{damaged}
 use Rattle.trace.specs.Start.{start_answer, start_marks}
 use Rattle.trace.specs.Run.{outcome_of}
-use Rattle.trace.specs.Step.{idle}
 use Rattle.trace_laws.specs.ClaimsPins.{NoPins, NoFour}
 
 pub no_pins : NoPins

@@ -1,11 +1,9 @@
 -- The sweeping engine over images: by its definitions it sweeps the tracer of the image, so what is claimed of every tracer holds.
 -- Assumes nothing.
-use Prim.Native.Nat.{ℕ, suc, ◌<◌, ◌≤◌}
+use Prim.Native.Nat.{ℕ, suc, ◌≤◌}
 use native.Mathlib.Omega.{arith}
-use mathlib.Core.Bool.{true, false}
 use mathlib.Core.List.{List}
 use mathlib.Core.Path.{◌≡◌, refl, sym, ap, subst, ◌∙◌}
-use lib.IntN.{ℤ}
 use lib.ListN.{length, take}
 use borrow.Author.Tests.{ltb-false, le-ltb}
 use Rattle.instruction.specs.Answer.{Answer, accepted, refused, after}
@@ -26,7 +24,7 @@ use Rattle.reach.specs.Pins.{table}
 use Rattle.reach.proofs.Table.{table_base}
 use Rattle.reach.proofs.Table.{length_table}
 use Rattle.marks.specs.Tracer.{tracer_of}
-use Rattle.trace.specs.Run.{RunResult, run_judged, run_answer, run_marks, ran_answer, end_of, outcome_of, and_then}
+use Rattle.trace.specs.Run.{run_judged, run_answer, ran_answer, end_of, outcome_of, and_then}
 use Rattle.trace.specs.Start.{start_answer, start_marks}
 use Rattle.sweep.specs.Sweep.{SweepResult, sweep_result, sweep_answer, sweep_leaves}
 use Rattle.trace_laws.specs.ClaimsSweeps as claims

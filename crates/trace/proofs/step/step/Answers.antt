@@ -3,7 +3,7 @@
 use Rattle.std.proofs.lemmas.Result.{err_from_is_err_and}
 use Rattle.targets.proofs.WaysAre.{goes_whole}
 use Rattle.trace.proofs.Stepping.{inner_ways}
-use Rattle.trace.proofs.StepAnswers.{sizes, outside, damaged_mark, not_waiting, not_whole, goes_on}
+use Rattle.trace.proofs.StepAnswers.{sizes, outside, damaged_mark, not_waiting, not_whole, whole}
 use Rattle.trace.proofs.step.step.Goals as goal
 
 pub returns-in_err-check_sizes-clause-result_value : goal.returns-in_err-check_sizes-clause-result_value
@@ -72,7 +72,7 @@ returns-clause-result_value c =
     let s = c.in_ok-check_sizes.ensures.right in
     let w = goes_whole a.mode a.image.now a.p c.if-image-at.false s.0 c.in_ok-to.to c.in_ok-to.ensures in
     let n = c.step_whole.ensures in
-    (goes_on a.mode a.image.now a.marks.now a.p s.0 s.1 c.if-image-at.false c.if-mark-ne-WAITING.false w.0 _ _
+    (whole a.mode a.image.now a.marks.now a.p s.0 s.1 c.if-image-at.false c.if-mark-ne-WAITING.false w.0 _ _
     (inner_ways a.mode a.image.now _ a.marks.now a.p _ _ w.1 (n.result_value, n.marks_after))).0
 
 pub returns-clause-marks_after : goal.returns-clause-marks_after
@@ -81,5 +81,5 @@ returns-clause-marks_after c =
     let s = c.in_ok-check_sizes.ensures.right in
     let w = goes_whole a.mode a.image.now a.p c.if-image-at.false s.0 c.in_ok-to.to c.in_ok-to.ensures in
     let n = c.step_whole.ensures in
-    (goes_on a.mode a.image.now a.marks.now a.p s.0 s.1 c.if-image-at.false c.if-mark-ne-WAITING.false w.0 _ _
+    (whole a.mode a.image.now a.marks.now a.p s.0 s.1 c.if-image-at.false c.if-mark-ne-WAITING.false w.0 _ _
     (inner_ways a.mode a.image.now _ a.marks.now a.p _ _ w.1 (n.result_value, n.marks_after))).1
