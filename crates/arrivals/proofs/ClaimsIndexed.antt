@@ -3,13 +3,13 @@
 use mathlib.Core.Path.{◌≡◌, refl, sym, ap, ◌∙◌}
 use mathlib.Core.Bool.{Bool, true, false}
 use mathlib.Core.List.{List}
-use Prim.Native.Nat.{ℕ, ◌+◌, ◌*◌, ◌/◌, ◌<◌, ◌≤◌}
+use Prim.Native.Nat.{ℕ, ◌+◌, ◌/◌, ◌<◌}
 use native.Mathlib.Omega.{arith}
 use lib.Dec.{ltb}
 use lib.ListN.{length, get_or}
 use borrow.Author.Tests.{ltb-true, ltb-false}
 use Rattle.instruction.specs.declared.mode.Mode.{Mode}
-use Rattle.arrivals.specs.Index.{name_at, names_it, next_namer, link_of, cell_of, cell_says, index_of, next_in}
+use Rattle.arrivals.specs.Index.{name_at, names_it, next_namer, cell_of, cell_says, index_of}
 use Rattle.arrivals.specs.ClaimsIndex.{OfBytes, ArrivesTwoWays, FirstIndexed, NextIndexed}
 use Rattle.arrivals.proofs.Asking.{any_default, cell_back}
 use Rattle.arrivals.proofs.Falls.{arrives_either}

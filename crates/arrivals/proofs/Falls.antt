@@ -2,10 +2,12 @@
 -- Assumes nothing.
 use mathlib.Core.Path.{◌≡◌, refl, sym, ap, ◌∙◌}
 use mathlib.Core.Bool.{Bool, true, false, cond, not, ◌&&◌, ◌||◌}
-use mathlib.Core.List.{List, [], ◌∷◌, map}
+use mathlib.Core.List.{List, [], map}
 use Prim.Native.Nat.{ℕ, ◌+◌, ◌-◌, ◌%◌, ◌<◌, ◌≤◌}
 use native.Mathlib.Omega.{arith}
 use lib.Dec.{eqb, ltb, leb}
+use Rattle.std.proofs.Common.{Option, Some, None, MatchOption}
+use Rattle.std.specs.Option.{unwrap_or}
 use lib.IntN.{ℤ, pos}
 use lib.ListN.{length, get_or}
 use borrow.Author.Tests.{lt-ltb, ltb-true, ltb-false, leb-true, eqb-true, eqb-false, eq-eqb, ne_eqb, lt-leb}
@@ -27,7 +29,7 @@ use Rattle.views.proofs.Ors.{or_start, or_rest}
 use Rattle.views.proofs.TracedAt.{traced_inside}
 use Rattle.arrivals.specs.Arrivals.{held_at, arrives}
 use Rattle.arrivals.specs.Index.{name_at, names_it, names_held, is_held, falls_from, next_fall}
-use Rattle.arrivals.proofs.Lowest.{low_past, low_later, low_over, low_none}
+use Rattle.arrivals.proofs.Lowest.{low_past, low_here, low_later, low_over, low_none}
 
 -- ---- what the code asks
 
@@ -134,6 +136,29 @@ two_ways_lem p h Stop t n = sym (ap (λ (b : Bool). b || false) (ne_eqb p 65536 
 two_ways_lem p h Next t n = or_start (eqb p (place_of n)) false refl ∙ sym (or_rest (eqb p 65536) _ (ne_eqb p 65536 (λ e. omega arith)))
 two_ways_lem p h Jump t n = refl
 two_ways_lem p h Branch t n = ap (λ (b : Bool). eqb p (place_of t) || b) (or_start (eqb p (place_of n)) false refl)
+
+-- what the search of the window tells
+module _ (mode : Mode) (image m : List ℕ) (B : Small image) (fits : length image ≤ 65536) (p e k q : ℕ)
+    (d : e ≡ cond (eqb p 0) (length image) p) (f : q ≡ cond (ltb k (e - 3)) (e - 3) k) where
+  abbrev falls : ℕ → Bool
+  falls = falls_from mode image m p
+
+  same_start : next_fall mode image m p q ≡ next_fall mode image m p k
+  same_start = window_start mode image m B fits p e k q d f
+
+  pub fall_found : (r : Option ℕ) → MatchOption r ((i : ℕ) → q ≤ i → i < e → falls i ≡ false)
+      (λ x. (q ≤ x) × (x < e) × (falls x ≡ true) × ((i : ℕ) → q ≤ i → i < x → falls i ≡ false))
+      → unwrap_or r 65536 ≡ next_fall mode image m p k
+  fall_found None free = by (ltb q e) refl
+    where
+      by : (t : Bool) → ltb q e ≡ t → 65536 ≡ next_fall mode image m p k
+      by true g =
+          sym (window_end mode image m B fits p e e d (omega arith))
+          ∙ low_over (length image) fits falls q e (omega (arith, ltb-true q e g)) (λ i a b c. free i a b) ∙ same_start
+      by false g = sym (window_end mode image m B fits p e q d (ltb-false q e g)) ∙ same_start
+  fall_found (Some x) h =
+      sym (low_here falls (length image) x (falls_inside mode image m p x h.2) h.2)
+      ∙ low_over (length image) fits falls q x h.0 (λ i a b c. h.3 i a b) ∙ same_start
 
 module _ (mode : Mode) (image m : List ℕ) (B : Small image) (fits : length image ≤ 65536) (p q : ℕ) (h : p < length image) where
   abbrev going_on : Bool

@@ -3,6 +3,7 @@
 use mathlib.Core.Path.{◌≡◌, refl, ap, ◌∙◌}
 use mathlib.Core.Bool.{Bool, true, false, cond, ◌&&◌}
 use mathlib.Core.List.{List, []}
+use Rattle.std.proofs.Common.{Result, Ok, Err}
 use Prim.Native.Nat.{ℕ}
 use lib.Dec.{ltb, leb}
 use lib.ListN.{length, get_or}
@@ -10,8 +11,9 @@ use borrow.Author.Tests.{eq-eqb, ne_eqb}
 use Rattle.instruction.specs.declared.answer.CutOff.{CutOff}
 use Rattle.targets.specs.At.{fits_here, ways_here}
 use Rattle.targets.specs.Ways.{is_whole, places_in, places_named, ways_of}
-use Rattle.targets.specs.declared.place.Ways.{Ways}
-use Rattle.targets.specs.declared.place.Ways.TheVariants.{Goes, Cut, Outside}
+use Rattle.targets.specs.declared.place.Places.{Places}
+use Rattle.targets.specs.declared.not_whole.NotWhole.{NotWhole}
+use Rattle.targets.specs.declared.not_whole.NotWhole.TheVariants.{Cut, Outside}
 use Rattle.instruction.proofs.Ands.{not_first}
 use Rattle.instruction.specs.declared.mode.Mode.{Mode}
 use Rattle.targets.proofs.WaysAre.{two_at_most}
@@ -21,10 +23,9 @@ use Rattle.views.specs.Positions.{traced_at}
 use Rattle.arrivals.specs.Arrivals.{held_at}
 
 -- the positions where control goes
-abbrev pub gone : Ways → List ℕ
-gone (Goes ps) = places_in ps
-gone (Cut c) = []
-gone Outside = []
+abbrev pub gone : Result Places NotWhole → List ℕ
+gone (Ok ps) = places_in ps
+gone (Err e) = []
 
 either : (t : Bool) → ◌≡◌ {A = List ℕ} [] (cond t [] [])
 either true = refl
@@ -35,7 +36,7 @@ module _ (mode : Mode) (image : List ℕ) (q : ℕ) where
   unfolding ways_of
   gone_whole = by (ltb q (length image) && leb (length image) 65536) (fits_here image q) _
     where
-      by : (b f : Bool) (c : CutOff) → gone (cond b (cond f (Goes (places_named (ways_here mode image q))) (Cut c)) Outside)
+      by : (b f : Bool) (c : CutOff) → gone (cond b (cond f (Ok (places_named (ways_here mode image q))) (Err (Cut c))) (Err Outside))
           ≡ cond (b && f) (ways_here mode image q) []
       by true true c = two_at_most mode image q
       by true false c = refl
@@ -50,6 +51,6 @@ module _ (mode : Mode) (image : List ℕ) (q : ℕ) where
     unfolding held_at held
     flash_held e = rw (eq-eqb (get_or m q 0) flash e) (either (traced_at image m q && is_whole image q))
 
-    pub traced_held : traced_at image m q ≡ true → (get_or m q 0 ≡ flash → ⊥) → (w : Ways) → w ≡ ways_of mode image q → gone w ≡ held_at mode image m q
+    pub traced_held : traced_at image m q ≡ true → (get_or m q 0 ≡ flash → ⊥) → (w : Result Places NotWhole) → w ≡ ways_of mode image q → gone w ≡ held_at mode image m q
     unfolding held_at held
     traced_held t n w e = ap gone e ∙ gone_whole ∙ rw (t, ne_eqb (get_or m q 0) flash n)

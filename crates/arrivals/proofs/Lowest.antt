@@ -2,10 +2,11 @@
 -- Assumes nothing.
 use mathlib.Core.Path.{◌≡◌, refl, sym, ap, subst, ◌∙◌}
 use mathlib.Core.Bool.{Bool, true, false, cond, ◌||◌}
-use mathlib.Core.List.{List}
 use Prim.Native.Nat.{ℕ, zero, suc, ◌+◌, ◌-◌, ◌<◌, ◌≤◌}
 use native.Mathlib.Omega.{arith}
 use lib.Dec.{eqb, ltb}
+use Rattle.std.proofs.Common.{Option, Some, None, MatchOption}
+use Rattle.std.proofs.lemmas.Option.{same_Some, none-some}
 use borrow.Author.Tests.{lt-ltb, le-ltb, ltb-true, ltb-false, eqb-true, eqb-false}
 use Rattle.instruction.proofs.Sign.{never}
 use Rattle.views.specs.Positions.{up_from, some}
@@ -14,6 +15,28 @@ use Rattle.views.proofs.Kept.{kept_no, from_is, from_end, from_takes, from_skips
 use Rattle.views.proofs.Ors.{or_first, or_second, or_rest}
 use Rattle.arrivals.specs.Arrivals.{first_or}
 use Rattle.arrivals.specs.Index.{lowest_of}
+use Rattle.arrivals.specs.Search.{if_below}
+
+-- what is told of a position below n
+pub below_some : (n x q : ℕ) → Some q ≡ if_below n x → (x ≡ q) × (q < n)
+below_some n x q e = by (ltb x n) refl e
+  where
+    by : (t : Bool) → ltb x n ≡ t → Some q ≡ cond t (Some x) None → (x ≡ q) × (q < n)
+    by true f g = let h : x ≡ q = same_Some x q (sym g) in (h, omega (arith, ltb-true x n f))
+    by false f g = absurd (none-some q (sym g))
+
+pub below_none : (n x : ℕ) → None ≡ if_below n x → n ≤ x
+below_none n x e = by (ltb x n) refl e
+  where
+    by : (t : Bool) → ltb x n ≡ t → None ≡ cond t (Some x) None → n ≤ x
+    by true f g = absurd (none-some x g)
+    by false f g = ltb-false x n f
+
+pub told_some : (n x q : ℕ) → x ≡ q → q < n → Some q ≡ if_below n x
+told_some n x q e h = rw (e, lt-ltb q n h)
+
+pub told_none : (n x : ℕ) → n ≤ x → None ≡ if_below n x
+told_none n x h = rw (le-ltb x n h)
 
 module _ (f : ℕ → Bool) (n : ℕ) where
   pub low_past : (k : ℕ) → n ≤ k → lowest_of f n k ≡ 65536
@@ -133,6 +156,14 @@ module _ (n : ℕ) (fits : n ≤ 65536) where
         by : (t : Bool) → f q ≡ t → c ≡ lowest_of f n (q + 1)
         by true g = absurd (d (e ∙ low_here f n q h g))
         by false g = e ∙ low_later f n q h g
+
+    -- what a search of the positions from k on answers
+    pub found_is : (k : ℕ) (r : Option ℕ)
+        → MatchOption r ((i : ℕ) → k ≤ i → i < n → f i ≡ false) (λ q. (k ≤ q) × (q < n) × (f q ≡ true) × ((i : ℕ) → k ≤ i → i < q → f i ≡ false))
+        → r ≡ if_below n (lowest_of f n k)
+    found_is k None free = rw (low_none k free, le-ltb 65536 n fits)
+    found_is k (Some q) h =
+        let e : lowest_of f n k ≡ q = sym (low_over k q h.0 (λ i a b c. h.3 i a b)) ∙ low_here f n q h.1 h.2 in rw (e, lt-ltb q n h.1)
 
   module _ (f g : ℕ → Bool) where
     -- of a test that passes at fewer positions nothing is missed on the way to the first of the other

@@ -1,11 +1,14 @@
 -- The search for the next arrival: up to the lowest position from which control goes on, no other arrives but by a name.
 -- Assumes nothing.
-use mathlib.Core.Path.{◌≡◌, refl, sym, subst, ◌∙◌}
-use mathlib.Core.Bool.{Bool, true, false, ◌||◌}
+use mathlib.Core.Path.{◌≡◌, refl, sym, ap, subst, ◌∙◌}
+use mathlib.Core.Bool.{Bool, true, false, cond, ◌||◌}
 use mathlib.Core.List.{List}
 use Prim.Native.Nat.{ℕ, ◌<◌, ◌≤◌}
 use native.Mathlib.Omega.{arith}
 use lib.Dec.{eqb, ltb}
+use Rattle.std.proofs.Common.{Option, Some, None}
+use Rattle.std.specs.Option.{option_or}
+use Rattle.std.specs.Bool.{then_some}
 use lib.ListN.{length}
 use borrow.Author.Tests.{ltb-true, ltb-false}
 use Rattle.instruction.specs.declared.mode.Mode.{Mode}
@@ -14,10 +17,14 @@ use Rattle.targets.specs.Ways.{name_of}
 use Rattle.views.proofs.Ors.{or_first, or_second, or_rest}
 use Rattle.arrivals.specs.Arrivals.{arrives, next_arrival}
 use Rattle.arrivals.specs.Index.{lowest_of, names_held, falls_from, next_fall}
-use Rattle.arrivals.specs.Search.{may_name}
+use Rattle.arrivals.specs.Search.{may_name, if_below}
 use Rattle.arrivals.proofs.Falls.{arrives_either}
 use Rattle.arrivals.proofs.HeldNames.{may_name_lem, by_its_name}
-use Rattle.arrivals.proofs.Lowest.{Lowest, low_is, low_one, low_fewer}
+use Rattle.arrivals.proofs.Lowest.{Lowest, low_is, low_one, low_fewer, low_past, below_some, below_none, told_some}
+
+some_cond : (b : Bool) (x : ℕ) → then_some b x ≡ cond b (Some x) None
+some_cond true x = refl
+some_cond false x = refl
 
 -- arrivals at p are searched for before d
 pub record Search (image : List ℕ) (p d : ℕ) : Type 0 where
@@ -57,6 +64,10 @@ module _ {image : List ℕ} {p d : ℕ} (s : Search image p d) (mode : Mode) (m 
 
     pub asks_name : q < d → (r : ℕ) → r ≡ name_of mode image q → eqb p r ≡ H q
     asks_name h r g = by_its_name mode image m s.bytes s.fits p q s.inside (in_image q h) (low.here h) r g
+
+  -- none of them, so none
+  pub none_named : (k : ℕ) → d ≤ lowest_of (may_name image m) d k → lowest_of H d k ≡ 65536
+  none_named k h = sym (none_between k (lowest_of (may_name image m) d k) refl) ∙ low_past H d (lowest_of (may_name image m) d k) h
 
   -- ---- x is the lowest from k on that names p, f the lowest from which control goes on to it
 
@@ -101,3 +112,13 @@ module _ {image : List ℕ} {p d : ℕ} (s : Search image p d) (mode : Mode) (m 
             by : (t : Bool) → ltb f n ≡ t → r < d
             by true i = let z = g.0 (ltb-true f n i) in omega (arith, j, z)
             by false i = let z = g.1 (ltb-false f n i) in omega (arith, c, z)
+
+  -- the lower of the two, as the code tells it
+  pub arrival_found : (k f : ℕ) (found : Option ℕ) → f ≡ next_fall mode image m p k → d ≤ f → (f < n → f ≤ d) × (n ≤ f → n ≤ d)
+      → found ≡ if_below d (lowest_of H d k) → option_or found (then_some (ltb f n) f) ≡ if_below n (next_arrival mode image m p k)
+  arrival_found k f None e g i u =
+      let h = below_none d (lowest_of H d k) u in
+      some_cond (ltb f n) f ∙ ap (if_below n) (fall_first k f (lowest_of H d k) refl e i h)
+  arrival_found k f (Some x) e g i u =
+      let h = below_some d (lowest_of H d k) x u in
+      told_some n (next_arrival mode image m p k) x (sym (named_first k f x (sym h.0) e g h.1)) (in_image x h.1)

@@ -11,7 +11,7 @@ ghost use Rattle.instruction.specs.Answer.{laid};
 use crate::{held, search};
 use instruction::Mode;
 use targets::Places;
-use views::Viewed;
+use views::ViewError;
 
 // Whether p is one of these positions.
 fn has(ps: Places, p: u32) -> bool
@@ -20,12 +20,7 @@ fn has(ps: Places, p: u32) -> bool
     match ps {
         Places::Nothing => false,
         Places::First(a) => p == a,
-        Places::Both(a, b) => {
-            if p == a {
-                return true;
-            }
-            p == b
-        }
+        Places::Both(a, b) => p == a || p == b,
     }
 }
 
@@ -39,17 +34,18 @@ pub fn arrives(mode: Mode, image: &[u8], marks: &[u8], p: u32, q: u32) -> bool
     has(held::held_at(mode, image, marks, q), p)
 }
 
-fn count_arrivals(mode: Mode, image: &[u8], marks: &[u8], p: u32) -> usize
+// How many there are. Where there is room for all they are written; the step from one to the next is told by what is found.
+fn put_arrivals(mode: Mode, image: &[u8], marks: &[u8], p: u32, room: &mut [u32]) -> usize
     requires { (length image.now ≤ 65536) × (length image.now ≤ length marks.now) × (p < length image.now) }
-    ensures { result ≡ length (arrivals_of mode image.now marks.now p) }
+    ensures value { result ≡ length (arrivals_of mode image.now marks.now p) }
+    ensures room_after { length (arrivals_of mode image.now marks.now p) ≤ length room.old
+        → room.new ≡ laid (arrivals_of mode image.now marks.now p) room.old }
 {
-    let n = image.len() as u32;
-    let mut count: usize = 0;
-    let mut from: u32 = 0;
-    while from < n {
-        let q = search::next_arrival(mode, image, marks, p, from);
-        if n <= q {
-            return count;
+    let mut count = 0;
+    let mut from = 0;
+    while let Some(q) = search::next_arrival(mode, image, marks, p, from) {
+        if count < room.len() {
+            room[count] = q;
         }
         count += 1;
         from = q + 1;
@@ -67,46 +63,27 @@ fn needed(mode: Mode, image: &[u8], marks: &[u8], p: u32, room: usize) -> usize
     if image.len() <= room {
         return image.len();
     }
-    count_arrivals(mode, image, marks, p)
-}
-
-// How many are written.
-fn write_arrivals(mode: Mode, image: &[u8], marks: &[u8], p: u32, room: &mut [u32]) -> usize
-    requires image_len_bound { (length image.now ≤ 65536) × (length image.now ≤ length marks.now) × (p < length image.now) }
-    requires p_in_bounds { length (arrivals_of mode image.now marks.now p) ≤ length room.old }
-    ensures value { result ≡ length (arrivals_of mode image.now marks.now p) }
-    ensures room_after { room.new ≡ laid (arrivals_of mode image.now marks.now p) room.old }
-{
-    let n = image.len() as u32;
-    let mut i: usize = 0;
-    let mut from: u32 = 0;
-    while from < n {
-        let q = search::next_arrival(mode, image, marks, p, from);
-        if n <= q {
-            return i;
-        }
-        room[i] = q;
-        i += 1;
-        from = q + 1;
-    }
-    i
+    put_arrivals(mode, image, marks, p, &mut [])
 }
 
 // The traced positions that have p among the targets they had when they were taken up, upward.
-pub fn arrivals(mode: Mode, image: &[u8], marks: &[u8], p: u32, room: &mut [u32]) -> Viewed
+pub fn arrivals(
+    mode: Mode,
+    image: &[u8],
+    marks: &[u8],
+    p: u32,
+    room: &mut [u32],
+) -> Result<usize, ViewError>
     ensures result_value { viewed_of result ≡ arrivals_answer mode image.now marks.now p room.old }
     ensures room_after { room.new ≡ arrivals_room mode image.now marks.now p room.old }
 {
-    let v = views::check(image, marks);
-    if !v.is_written() {
-        return v;
-    }
+    views::check(image, marks)?;
     if image.len() <= p as usize {
-        return Viewed::Written(0);
+        return Ok(0);
     }
     let n = needed(mode, image, marks, p, room.len());
     if room.len() < n {
-        return Viewed::NoRoom(n);
+        return Err(ViewError::NoRoom(n));
     }
-    Viewed::Written(write_arrivals(mode, image, marks, p, room))
+    Ok(put_arrivals(mode, image, marks, p, room))
 }

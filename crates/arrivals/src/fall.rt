@@ -23,13 +23,7 @@ fn falls(mode: Mode, image: &[u8], marks: &[u8], p: u32, q: u32) -> bool
 fn window(end: u32, from: u32) -> u32
     ensures { result ≡ cond (ltb from (end - 3)) (end - 3) from }
 {
-    if end < 3 {
-        return from;
-    }
-    if from < end - 3 {
-        return end - 3;
-    }
-    from
+    from.max(end.saturating_sub(3))
 }
 
 // The position that an instruction from which control goes on to p ends at: in wrapping mode the end of memory is its beginning.
@@ -51,12 +45,7 @@ pub fn next_fall(mode: Mode, image: &[u8], marks: &[u8], p: u32, from: u32) -> u
         return Image::NOWHERE;
     }
     let end = end_before(image, p);
-    let mut q = window(end, from);
-    while q < end {
-        if falls(mode, image, marks, p, q) {
-            return q;
-        }
-        q += 1;
-    }
-    Image::NOWHERE
+    (window(end, from)..end)
+        .find(|q| falls(mode, image, marks, p, *q))
+        .unwrap_or(Image::NOWHERE)
 }

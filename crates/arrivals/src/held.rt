@@ -5,7 +5,7 @@ ghost use Rattle.arrivals.specs.Arrivals.{held_at};
 
 use instruction::Mode;
 use marks::Mark;
-use targets::{Places, Ways};
+use targets::Places;
 
 // None under the exception.
 pub fn held_at(mode: Mode, image: &[u8], marks: &[u8], q: u32) -> Places
@@ -18,9 +18,5 @@ pub fn held_at(mode: Mode, image: &[u8], marks: &[u8], q: u32) -> Places
     if marks[at] == Mark::FLASH {
         return Places::Nothing;
     }
-    match targets::ways_at(mode, image, q) {
-        Ways::Goes(ps) => ps,
-        Ways::Cut(_) => Places::Nothing,
-        Ways::Outside => Places::Nothing,
-    }
+    targets::ways_at(mode, image, q).unwrap_or(Places::Nothing)
 }

@@ -1,21 +1,10 @@
 // An index of all that name a position.
-ghost use Rattle.std.specs.Prelude.{◌≡◌, length, replicate};
+ghost use Rattle.std.specs.Prelude.{◌≡◌};
 ghost use Rattle.arrivals.specs.Index.{is_index_room, room_of};
 
 use crate::index_entry;
 use instruction::Mode;
 use targets::Image;
-
-// Nothing is named.
-fn blank(index: &mut [u16])
-    ensures { index.new ≡ replicate (length index.old) 65535 }
-{
-    let mut i: usize = 0;
-    while i < index.len() {
-        index[i] = 65_535;
-        i += 1;
-    }
-}
 
 // Two cells for each position of the image are filled; a room of another length stays as it was, and so does any for an image past its
 // limit; whether it is filled. From the last position down, so that what is noted so far is what comes after. The last itself names
@@ -30,11 +19,9 @@ pub fn index_into(mode: Mode, image: &[u8], marks: &[u8], index: &mut [u16]) -> 
     if index.len() != 2 * image.len() {
         return false;
     }
-    blank(index);
-    let mut q = image.len();
-    while 1 < q {
-        q -= 1;
-        index_entry::enter(mode, image, marks, index, (q - 1) as u32);
+    index.fill(65_535);
+    for q in (0..image.len().saturating_sub(1)).rev() {
+        index_entry::enter(mode, image, marks, index, q as u32);
     }
     true
 }

@@ -4,22 +4,13 @@ ghost use Rattle.arrivals.specs.Index.{cell_says, first_in, next_in};
 
 use targets::Image;
 
-fn says(v: u16) -> u32
-    ensures { result ≡ cell_says v }
-{
-    if v < 65_535 {
-        return v as u32;
-    }
-    Image::NOWHERE
-}
-
 fn cell(index: &[u16], at: usize) -> u32
     ensures { result ≡ cell_says (get_or index.now at 65535) }
 {
-    if at < index.len() {
-        return says(index[at]);
+    match index.get(at) {
+        Some(v) if *v < 65_535 => u32::from(*v),
+        _ => Image::NOWHERE,
     }
-    Image::NOWHERE
 }
 
 // The lowest that names p.

@@ -2,11 +2,10 @@
 // the loop over all positions: of most it is a load and a compare.
 ghost use Rattle.std.specs.Prelude.{◌≡◌, ◌≤◌, ◌<◌, length};
 ghost use Rattle.arrivals.specs.Index.{lowest_of};
-ghost use Rattle.arrivals.specs.Search.{may_name};
+ghost use Rattle.arrivals.specs.Search.{may_name, if_below};
 
 use instruction::FirstByte;
 use marks::Mark;
-use targets::Image;
 
 // Whether q had targets and names one of them: under the exception it had none.
 fn may_name(image: &[u8], marks: &[u8], q: u32) -> bool
@@ -14,24 +13,13 @@ fn may_name(image: &[u8], marks: &[u8], q: u32) -> bool
     ensures { result ≡ may_name image.now marks.now q }
 {
     let at = q as usize;
-    if marks[at] != Mark::TRACED {
-        return false;
-    }
-    let flow = FirstByte::read(image[at]).flow;
-    targets::is_naming(flow)
+    marks[at] == Mark::TRACED && targets::is_naming(FirstByte::read(image[at]).flow)
 }
 
-// The lowest of them from this position on, of those before an end; where there is none, a position outside every image.
-pub fn next_naming(image: &[u8], marks: &[u8], from: u32, end: u32) -> u32
-    requires { (end ≤ length image.now) × (end ≤ length marks.now) }
-    ensures { result ≡ lowest_of (may_name image.now marks.now) end from }
+// The lowest of them from this position on, of those before an end.
+pub fn next_naming(image: &[u8], marks: &[u8], from: u32, end: u32) -> Option<u32>
+    requires { (end ≤ length image.now) × (end ≤ length marks.now) × (end ≤ 65536) }
+    ensures { result ≡ if_below end (lowest_of (may_name image.now marks.now) end from) }
 {
-    let mut q = from;
-    while q < end {
-        if may_name(image, marks, q) {
-            return q;
-        }
-        q += 1;
-    }
-    Image::NOWHERE
+    (from..end).find(|q| may_name(image, marks, *q))
 }
