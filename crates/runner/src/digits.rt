@@ -1,0 +1,34 @@
+// Numbers of a list, in digits.
+ghost use Rattle.std.specs.Prelude.{◌≡◌, ◌<◌, IfSome};
+
+// What an upper-case hex digit stands for.
+pub fn hex_digit(b: u8) -> Option<u8>
+    ensures { IfSome result (λ d. d < 16) }
+{
+    match b {
+        b'0'..=b'9' => Some(b - b'0'),
+        b'A'..=b'F' => Some(b - b'A' + 10),
+        _ => None,
+    }
+}
+
+// What a decimal digit stands for.
+pub fn decimal_digit(b: u8) -> Option<u8>
+    ensures { IfSome result (λ d. d < 10) }
+{
+    hex_digit(b).filter(|d| *d < 10)
+}
+
+// A decimal number, whose digits are read by `digit`, and 0 for what is none; what is past twelve digits is not read.
+pub fn number<F: Fn(u8) -> Option<u8>>(digits: &[u8], digit: F) -> usize
+    requires { F.IsAlwaysCallable digit }
+{
+    let mut value: usize = 0;
+    for b in digits {
+        if 1_000_000_000_000 < value {
+            return value;
+        }
+        value = value * 10 + usize::from(digit(*b).unwrap_or(0));
+    }
+    value
+}

@@ -1,0 +1,19 @@
+// What the programs share: a file or a stream read into a room of fixed length, and, for those that replay a stored list, its entries and
+// how many of them hold.
+#![tactic(auto)]
+
+pub mod call;
+mod digits;
+mod entries;
+mod input;
+pub mod ring;
+mod room;
+mod sum;
+mod tally;
+
+pub use digits::{decimal_digit, hex_digit, number};
+pub use entries::{Cases, Entries, replay};
+pub use input::{read_file, read_full};
+pub use room::{copy, filled, put};
+pub use sum::checksum;
+pub use tally::Tally;

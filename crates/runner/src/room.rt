@@ -1,0 +1,35 @@
+// Rooms of fixed length, and what is put into them.
+ghost use Rattle.std.specs.Prelude.{◌≡◌, length, replicate};
+ghost use Rattle.std.specs.Iterator.{IsFinite};
+
+// A room that holds this item everywhere.
+pub fn filled<T: Copy, const N: usize>(item: T) -> [T; N]
+    ensures { result ≡ replicate N item }
+{
+    [item; N]
+}
+
+// Puts a part at a place, as far as there is room: the next place.
+pub fn copy<T: Copy>(part: &[T], at: usize, room: &mut [T]) -> usize {
+    let n = part.len().min(room.len().saturating_sub(at));
+    if n == 0 {
+        return at;
+    }
+    room[at..at + n].copy_from_slice(&part[..n]);
+    at + n
+}
+
+// Puts bytes at a place, as far as there is room: the next place.
+pub fn put<I: Iterator<Item = u8>>(bytes: I, at: usize, room: &mut [u8]) -> usize
+    requires { I.Iterator.can_next bytes × IsFinite (I.Iterator.remaining bytes) }
+{
+    let mut next = at;
+    for b in bytes {
+        if room.len() <= next {
+            return next;
+        }
+        room[next] = b;
+        next += 1;
+    }
+    next
+}
