@@ -12,7 +12,7 @@ mod sum;
 mod tally;
 
 pub use digits::{decimal_digit, hex_digit, number};
-pub use entries::{Cases, Entries, replay};
+pub use entries::Entries;
 pub use input::{read_file, read_full};
 pub use room::{copy, filled, put};
 pub use sum::checksum;

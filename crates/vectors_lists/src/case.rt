@@ -1,78 +1,144 @@
-// What the lines of a case say, up to its last.
-ghost use Rattle.std.specs.Prelude.{◌≤◌};
+// What the lines of a case say, and whether it holds.
+ghost use Rattle.std.specs.Prelude.{◌<◌};
 
-use crate::part::Written;
-use crate::{line, part};
+use crate::listings::{Listings, Output};
+use instruction::Mode;
+use runner::{Entries, Tally, call};
 
 // What is given stands in one room: the input or the image, then the marks or the words, then the output's beginning.
 #[derive(Clone, Copy)]
-pub struct Case {
+struct Case {
     // Where each of the three ends.
-    pub input: usize,
-    pub marks: usize,
-    pub told: usize,
+    input: usize,
+    marks: usize,
+    told: usize,
     // How often the next part is meant.
-    pub times: usize,
+    times: usize,
     // The first bad line of the input, or 0.
-    pub bad: usize,
+    bad: usize,
     // The output's checksum.
-    pub sum: usize,
-    // Whether it is in wrapping mode.
-    pub wrapping: bool,
+    sum: usize,
+    mode: Mode,
 }
 
 impl Case {
-    pub fn new() -> Self {
-        Self {
-            input: 0,
-            marks: 0,
-            told: 0,
-            times: 1,
-            bad: 0,
-            sum: 0,
-            wrapping: false,
-        }
+    // Before its first line.
+    const NEW: Self = Self {
+        input: 0,
+        marks: 0,
+        told: 0,
+        times: 1,
+        bad: 0,
+        sum: 0,
+        mode: Mode::Unwrapped,
+    };
+}
+
+// The byte that a character of a text stands for.
+fn meant(b: u8) -> u8 {
+    match b {
+        b'T' => 9,
+        b'|' => 10,
+        b'!' => 0,
+        b'^' => 13,
+        b'_' => 32,
+        b'*' => 255,
+        _ => b,
     }
 }
 
-// How many cases end with a line of this letter.
-pub fn ended(letter: u8) -> u64
-    ensures { result ≤ 1 }
+fn hex_digit(b: u8) -> u8
+    ensures { result < 16 }
 {
-    match letter {
-        b'=' | b'-' | b'+' | b'?' | b'd' | b'm' => 1,
+    runner::hex_digit(b).unwrap_or(0)
+}
+
+// The byte of two hex digits; 0 for one.
+fn in_hex(digits: &[u8]) -> u8 {
+    match digits {
+        [high, low] => hex_digit(*high) * 16 + hex_digit(*low),
         _ => 0,
     }
 }
 
-// Where what is given ends after a line.
-fn put(c: Case, letter: u8, rest: &[u8], given: &mut [u8]) -> usize {
-    match letter {
-        b'T' | b'G' | b'X' => part::put(Written::AsText, rest, c.times, c.told, given),
-        b'B' | b'M' => part::put(Written::InHex, rest, c.times, c.told, given),
-        _ => c.told,
+// Nothing where there is no such part.
+fn part(given: &[u8], from: usize, to: usize) -> &[u8] {
+    given.get(from..to).unwrap_or(&[])
+}
+
+fn number(digits: &[u8]) -> usize {
+    runner::number(digits, |b| runner::hex_digit(b))
+}
+
+impl Case {
+    // Puts a part as often as it is meant: where what is given ends.
+    fn put(&self, letter: u8, rest: &[u8], given: &mut [u8]) -> usize {
+        let mut end = self.told;
+        for _ in 0..self.times {
+            end = match letter {
+                b'B' | b'M' => runner::put(rest.chunks(2).map(in_hex), end, given),
+                _ => runner::put(rest.iter().map(|b| meant(*b)), end, given),
+            };
+        }
+        end
+    }
+
+    // A line whose letter has no meaning says nothing.
+    fn read(&mut self, letter: u8, rest: &[u8], given: &mut [u8]) {
+        let number = number(rest);
+        match letter {
+            b'T' | b'B' => {
+                self.told = self.put(letter, rest, given);
+                self.input = self.told;
+                self.marks = self.told;
+            }
+            b'M' | b'G' => {
+                self.told = self.put(letter, rest, given);
+                self.marks = self.told;
+            }
+            b'X' => self.told = self.put(letter, rest, given),
+            b'L' => self.bad = number,
+            b'S' => self.sum = number,
+            b'W' => self.mode = Mode::Wrapping,
+            _ => {}
+        }
+        self.times = if letter == b'N' { number } else { 1 };
     }
 }
 
-// After a last line a case begins anew. A line whose letter has no meaning says nothing.
-pub fn read(before: Case, letter: u8, rest: &[u8], given: &mut [u8]) -> Case {
-    let end = put(before, letter, rest, given);
-    let number = line::number(rest);
-    let mut c = before;
-    c.told = end;
-    c.times = 1;
-    match letter {
-        b'N' => c.times = number,
-        b'T' | b'B' => {
-            c.input = end;
-            c.marks = end;
-        }
-        b'M' | b'G' => c.marks = end,
-        b'L' => c.bad = number,
-        b'S' => c.sum = number,
-        b'W' => c.wrapping = true,
-        b'=' | b'-' | b'+' | b'?' | b'd' | b'm' => return Case::new(),
-        _ => return c,
+// The last letter says which output is meant, and its number how long it is.
+fn holds(c: Case, output: Output, need: usize, given: &[u8], room: &mut [u8]) -> bool {
+    let listings = Listings {
+        output,
+        mode: c.mode,
+        input: part(given, 0, c.input),
+        marks: part(given, c.input, c.marks),
+    };
+    if listings.bad_line() != c.bad {
+        return false;
     }
-    c
+    if need != 0 && !call::is_refused(&listings, need, room) {
+        return false;
+    }
+    if !call::is_written(&listings, need, room) {
+        return false;
+    }
+    let written = part(room, 0, need);
+    runner::checksum(written) as usize == c.sum && written.starts_with(part(given, c.marks, c.told))
+}
+
+// How many cases of a list hold. After its last line a case begins anew.
+pub fn replay(list: &[u8], given: &mut [u8], room: &mut [u8]) -> Tally {
+    let mut tally = Tally::default();
+    let mut case = Case::NEW;
+    for (letter, rest) in Entries(list) {
+        match Output::of(letter) {
+            Some(output) => {
+                tally.count(holds(case, output, number(rest), given, room));
+                case = Case::NEW;
+            }
+            None => case.read(letter, rest, given),
+        }
+    }
+    tally
 }

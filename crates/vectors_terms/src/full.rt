@@ -1,130 +1,143 @@
 // Sums that are nearly full, which no text reaches. For each of the eight: where the image just fits, its line and the sums are printed; with
 // one more, 22 alone, whatever follows.
-ghost use Rattle.std.specs.Prelude.{◌≤◌};
+ghost use Rattle.std.specs.Prelude.{◌<◌, ◌≤◌};
 
-use crate::replay::Tally;
-use crate::{blocks, judge, line, replay, rooms};
+use crate::blocks;
 use report_text::{Sums, Term};
+use runner::Tally;
 
-// How many sums there are, and the last of them, that of the refused images.
-const ALL: u8 = 8;
+// How many sums there are.
+const ALL: usize = 8;
 
-const LAST: u8 = 7;
+// How many bytes the blocks have.
+const BLOCK: usize = 7;
+
+// As long as what is printed of one image and the sums can be.
+const PRINTED: usize = Term::MOST_PRINTED;
+
+// What is printed of a text of one image, and what is printed last where all sums were 0 before.
+#[derive(Clone, Copy)]
+struct Case {
+    text: &'static [u8],
+    // The same with another image after it.
+    followed: &'static [u8],
+    told: &'static [u8],
+    total: &'static [u8],
+}
+
+// An image that adds to each sum but the last.
+const ACCEPTED: Case = Case {
+    text: b"N\ta\n0000\t0001\n0100A0FF\n",
+    followed: b"N\ta\n0000\t0001\n0100A0FF\n\nN\tc\n",
+    told: b"a\t4\t3\t3\t1\t1\t1\n",
+    total: b"T\t4\t3\t3\t1\t1\t1\t1\t0\n",
+};
+
+// An image that adds to the last, that of the refused images.
+const REFUSED: Case = Case {
+    text: b"N\tb\n0000\n68\n",
+    followed: b"N\tb\n0000\n68\n\nN\tc\n",
+    told: b"b\tR\t5\n",
+    total: b"T\t0\t0\t0\t0\t0\t0\t0\t1\n",
+};
 
 // The sums are 0 but for one.
-fn begun(at: u8, n: u64) -> Term {
-    let mut sums = Sums::new();
-    match at {
-        0 => sums.length = n,
-        1 => sums.steps = n,
-        2 => sums.code = n,
-        3 => sums.plain = n,
-        4 => sums.shared = n,
-        5 => sums.targets = n,
-        6 => sums.accepted = n,
-        _ => sums.refused = n,
-    }
+fn begun(at: usize, n: u64) -> Term
+    requires { at < 8 }
+{
+    let mut each = [0; ALL];
+    each[at] = n;
+    let [
+        length,
+        steps,
+        code,
+        plain,
+        shared,
+        targets,
+        accepted,
+        refused,
+    ] = each;
     Term {
-        sums,
+        sums: Sums {
+            length,
+            steps,
+            code,
+            plain,
+            shared,
+            targets,
+            accepted,
+            refused,
+        },
         held: 0,
         fresh: true,
         over: false,
     }
 }
 
-// Where a sum stands in a `T` line in which each field has one digit.
-fn place(at: u8) -> usize
-    ensures { result ≤ 512 }
-{
-    2 * at as usize + 2
-}
+impl Case {
+    // What stands before a sum in the last line, in which each field has one digit, what the image adds to the sum, and what stands after it.
+    fn around(&self, at: usize) -> Option<(&[u8], u64, &[u8])>
+        requires { at < 8 }
+    {
+        let (before, rest) = self.total.split_at_checked(2 * at + 2)?;
+        let (digit, after) = rest.split_first()?;
+        Some((before, u64::from(runner::decimal_digit(*digit)?), after))
+    }
 
-// What an image adds to a sum, from such a line that has this image alone.
-fn added(total: &[u8], at: u8) -> u64 {
-    let i = place(at);
-    if total.len() <= i {
-        return 0;
+    // What is printed after the highest number, where the image's line and the last line's beginning stand before it.
+    fn after_sum<'a>(&self, printed: &'a [u8], before: &[u8]) -> Option<&'a [u8]> {
+        let total = printed.strip_prefix(self.told)?;
+        let sum = total.strip_prefix(before)?;
+        sum.strip_prefix(b"18446744073709551615")
     }
-    line::digit(total[i]) as u64
-}
 
-// Whether it is that line, but with the highest number in one field.
-fn is_full(last: &[u8], total: &[u8], at: u8) -> bool {
-    let from = place(at);
-    let n = last.len();
-    if n < 19 {
-        return false;
+    // Where the image just fits, its line is printed, and the last line with the highest number in one field.
+    fn is_reported(&self, at: usize) -> bool
+        requires { at < 8 }
+    {
+        let Some((before, added, after)) = self.around(at) else {
+            return false;
+        };
+        let mut room: [u8; PRINTED] = runner::filled(0);
+        let Some(n) = blocks::report(begun(at, u64::MAX - added), BLOCK, self.text, &mut room)
+        else {
+            return false;
+        };
+        room.get(..n)
+            .and_then(|printed| self.after_sum(printed, before))
+            .is_some_and(|rest| rest == after)
     }
-    if n - 19 != total.len() {
-        return false;
-    }
-    if !judge::begins(last, judge::part(total, 0, from)) {
-        return false;
-    }
-    if !judge::begins(judge::part(last, from, n), b"18446744073709551615") {
-        return false;
-    }
-    let rest = judge::part(total, from + 1, total.len());
-    judge::begins(judge::part(last, from + 20, n), rest)
-}
 
-fn is_reported(at: u8, text: &[u8], told: &[u8], total: &[u8], room: &mut [u8]) -> bool {
-    let most = u64::MAX - added(total, at);
-    let n = blocks::report(begun(at, most), 7, text, room);
-    judge::begins(room, told) && is_full(judge::part(room, told.len(), n), total, at)
-}
+    // With one more, 22 alone is printed.
+    fn is_refused(&self, at: usize, text: &[u8]) -> bool
+        requires { at < 8 }
+    {
+        let Some((_, added, _)) = self.around(at) else {
+            return false;
+        };
+        if added == 0 {
+            return false;
+        }
+        let mut room: [u8; PRINTED] = runner::filled(0);
+        let before = begun(at, u64::MAX - (added - 1));
+        let n = blocks::report(before, BLOCK, text, &mut room);
+        let printed = b"R\t22\n";
+        n == Some(printed.len()) && room.starts_with(printed)
+    }
 
-fn is_refused(at: u8, text: &[u8], total: &[u8], room: &mut [u8]) -> bool {
-    let k = added(total, at);
-    if k == 0 {
-        return false;
+    // The image ends its text, or another follows.
+    fn holds(&self, at: usize) -> bool
+        requires { at < 8 }
+    {
+        self.is_reported(at) && self.is_refused(at, self.text) && self.is_refused(at, self.followed)
     }
-    let printed = b"R\t22\n";
-    let n = blocks::report(begun(at, u64::MAX - (k - 1)), 7, text, room);
-    n == printed.len() && judge::begins(room, printed)
-}
-
-// The image ends its text, or another follows.
-fn holds(at: u8, text: &[u8], followed: &[u8], told: &[u8], total: &[u8]) -> bool {
-    let mut room = rooms::printed();
-    if !is_reported(at, text, told, total, &mut room) {
-        return false;
-    }
-    if !is_refused(at, text, total, &mut room) {
-        return false;
-    }
-    is_refused(at, followed, total, &mut room)
-}
-
-// An image that adds to each of the other sums, and one that is refused.
-fn is_held(at: u8) -> bool {
-    if at < LAST {
-        return holds(
-            at,
-            b"N\ta\n0000\t0001\n0100A0FF\n",
-            b"N\ta\n0000\t0001\n0100A0FF\n\nN\tc\n",
-            b"a\t4\t3\t3\t1\t1\t1\n",
-            b"T\t4\t3\t3\t1\t1\t1\t1\t0\n",
-        );
-    }
-    holds(
-        at,
-        b"N\tb\n0000\n68\n",
-        b"N\tb\n0000\n68\n\nN\tc\n",
-        b"b\tR\t5\n",
-        b"T\t0\t0\t0\t0\t0\t0\t0\t1\n",
-    )
 }
 
 pub fn replay() -> Tally {
-    let mut held: u64 = 0;
-    let mut at: u8 = 0;
-    while at < ALL {
-        held += replay::one(is_held(at));
-        at += 1;
+    let mut tally = Tally::default();
+    for at in 0..ALL {
+        let case = if at < ALL - 1 { ACCEPTED } else { REFUSED };
+        tally.count(case.holds(at));
     }
-    Tally {
-        held,
-        all: ALL as u64,
-    }
+    tally
 }
