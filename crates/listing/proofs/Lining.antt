@@ -1,24 +1,22 @@
 -- The lines: what is left out, what is shown, and how long the parts are.
 -- Assumes nothing.
 use mathlib.Core.Path.{◌≡◌, refl, sym, ap, ◌∙◌}
-use mathlib.Core.Bool.{Bool, true, false, cond, ◌&&◌}
+use mathlib.Core.Bool.{Bool, true, false, cond}
 use mathlib.Core.List.{List, [], ◌∷◌, ◌++◌, map}
-use Prim.Native.Nat.{ℕ, ◌+◌, ◌<◌, ◌≤◌}
+use Prim.Native.Nat.{ℕ, ◌+◌, ◌≤◌}
 use Prim.Native.Char.{code}
-use native.Mathlib.Numerals.{add-one}
 use native.Mathlib.Omega.{arith}
 use borrow.Author.Tests.{eq-eqb, ne_eqb, le-ltb}
 use lib.Dec.{eqb}
-use lib.ListN.{length, get_or, take, drop, drop_of_length-le, length-append}
-use lib.Seq.{drop-cons}
+use lib.ListN.{length, take, length-append}
 use Rattle.instruction.specs.Encode.{form_in}
 use Rattle.instruction.specs.Forms.{size_of}
 use Rattle.instruction.specs.Mnemonic.{mnemonic_of}
 use Rattle.instruction.specs.Parts.{parts_of}
 use Rattle.instruction.specs.declared.instr.Instr.{Instr}
 use Rattle.instruction.specs.declared.mode.Mode.{Mode}
+use Rattle.std.specs.Prelude.{Ok}
 use Rattle.targets.specs.Here.{here_of}
-use Rattle.targets.specs.declared.here.Here.TheVariants.{Whole}
 use Rattle.targets.specs.Targets.{next_of, targets_answer}
 use Rattle.views.specs.Overlaps.{overlaps_in}
 use Rattle.views.specs.declared.overlaps.Overlaps.{Overlaps}
@@ -136,7 +134,7 @@ module _ (mode : Mode) (all : List ℕ) (p : ℕ) (i : Instr) where
   instr rest e w f bytes g = rw (e, f, g)
 
 -- by itself
-pub code_here : (mode : Mode) (p : ℕ) (bytes : List ℕ) (i : Instr) → Whole i ≡ here_of bytes 0 → next_of p i ≤ 65536
+pub code_here : (mode : Mode) (p : ℕ) (bytes : List ℕ) (i : Instr) → Ok i ≡ here_of bytes 0 → next_of p i ≤ 65536
     → instr_text mode p i bytes ≡ code_line mode p bytes
 unfolding code_line
 code_here mode p bytes i e h = ap (λ (b : Bool). cond b [] (instr_text mode p i bytes)) (sym (le-ltb 65536 (next_of p i) h)) ∙ ap (code_by mode p bytes) e

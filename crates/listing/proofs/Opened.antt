@@ -16,10 +16,11 @@ use Rattle.instruction.specs.declared.instr.Parts.{Parts}
 use Rattle.instruction.specs.declared.mode.Mode.{Mode}
 use Rattle.instruction.proofs.Accepting.{differ}
 use Rattle.instruction.proofs.Decoding.{nothing, Made, found_whole}
+use Rattle.std.specs.Prelude.{Ok, Err}
 use Rattle.targets.specs.At.{size_here, fits_here, instr_here}
 use Rattle.targets.specs.Here.{here_of}
 use Rattle.targets.specs.Targets.{next_of}
-use Rattle.targets.specs.declared.here.Here.TheVariants.{Whole, Cut}
+use Rattle.targets.specs.declared.not_whole.NotWhole.TheVariants.{Cut}
 use Rattle.targets.proofs.HereIs.{answer, outside_here, whole_here}
 use Rattle.targets.proofs.WaysAre.{here_whole}
 use Rattle.targets.proofs.Within.{Small, Within, within, size_here_lem, size_short}
@@ -59,7 +60,7 @@ module _ (s : List ℕ) (v : Parts) (e : accepted v ≡ parts_answer s) where
 -- ---- what stands at q
 
 module _ (image : List ℕ) (q : ℕ) (inside : q < length image) where
-  there : (t : Bool) → fits_here image q ≡ t → here_of image q ≡ cond t (Whole (instr_here image q)) (Cut (cut_at image q))
+  there : (t : Bool) → fits_here image q ≡ t → here_of image q ≡ cond t (Ok (instr_here image q)) (Err (Cut (cut_at image q)))
   unfolding here_of
   there t f = rw (lt-ltb q (length image) inside, f)
 
@@ -78,7 +79,7 @@ none_here mode image q h = ap (here_line mode image q) (outside_here image q h)
 module _ (mode : Mode) (p : ℕ) (s : List ℕ) (b : Small s) where
   -- by how many bytes there are, and whether the instruction is whole
   module _ {A : List ℕ} (none : length s ≡ 0 → A ≡ code_by mode p s (here_of s 0))
-      (some : (h : 0 < length s) (t : Bool) → fits_here s 0 ≡ t → A ≡ code_by mode p s (cond t (Whole (instr_here s 0)) (Cut (cut_at s 0)))) where
+      (some : (h : 0 < length s) (t : Bool) → fits_here s 0 ≡ t → A ≡ code_by mode p s (cond t (Ok (instr_here s 0)) (Err (Cut (cut_at s 0))))) where
     pub either : A ≡ code_line mode p s
     unfolding code_line
     either = by (length s) refl
@@ -96,7 +97,7 @@ module _ (mode : Mode) (p : ℕ) (s : List ℕ) (b : Small s) where
   pub none_alone : 65536 < p + size_here s 0 → [] ≡ code_line mode p s
   none_alone h = either outside by
     where
-      by : (i : 0 < length s) (t : Bool) → fits_here s 0 ≡ t → [] ≡ code_by mode p s (cond t (Whole (instr_here s 0)) (Cut (cut_at s 0)))
+      by : (i : 0 < length s) (t : Bool) → fits_here s 0 ≡ t → [] ≡ code_by mode p s (cond t (Ok (instr_here s 0)) (Err (Cut (cut_at s 0))))
       by i true f = rw (lt-ltb 65536 (next_of p (instr_here s 0)) (rw end h))
       by i false f = refl
 
@@ -104,6 +105,6 @@ module _ (mode : Mode) (p : ℕ) (s : List ℕ) (b : Small s) where
   text_alone h = either (λ f. ap (text_of mode p s) (sym (nothing s f)) ∙ outside f) by
     where
       by : (i : 0 < length s) (t : Bool) → fits_here s 0 ≡ t
-          → text_of mode p s (decode_answer s) ≡ code_by mode p s (cond t (Whole (instr_here s 0)) (Cut (cut_at s 0)))
+          → text_of mode p s (decode_answer s) ≡ code_by mode p s (cond t (Ok (instr_here s 0)) (Err (Cut (cut_at s 0))))
       by i true f = rw (le-ltb 65536 (next_of p (instr_here s 0)) (rw end h)) (ap (text_of mode p s) (answer s 0 i true f))
       by i false f = ap (text_of mode p s) (answer s 0 i false f)

@@ -1,6 +1,6 @@
 -- What follows the bytes on an `I` line, put from the parts that decode answers; and the line by what decode answers.
 -- Assumes nothing.
-use mathlib.Core.Path.{◌≡◌, refl, sym, ap, ap₂, ◌∙◌}
+use mathlib.Core.Path.{◌≡◌, sym, ap, ap₂, ◌∙◌}
 use mathlib.Core.Bool.{Bool, true, false, cond}
 use mathlib.Core.List.{List, [], ◌∷◌, ◌++◌}
 use Prim.Native.Nat.{ℕ, ◌+◌, ◌≤◌, ◌<◌}
@@ -9,21 +9,22 @@ use borrow.Author.Tests.{eq-eqb, ne_eqb, lt-ltb, le-ltb}
 use lib.Dec.{ltb}
 use lib.IntN.{ℤ}
 use lib.ListN.{length}
+use Rattle.std.specs.Prelude.{Ok, Err}
 use Rattle.instruction.specs.Answer.{Answer, accepted, refused, on_accepted}
 use Rattle.instruction.specs.Decode.{decoded_parts_of, decode_answer, parts_answer, cut_at}
 use Rattle.instruction.specs.Encode.{form_in}
 use Rattle.instruction.specs.Forms.{form_at, size_of}
 use Rattle.instruction.specs.Mnemonic.{mnemonic_of, packed_letters}
 use Rattle.instruction.specs.Parts.{parts_of, made_of}
-use Rattle.instruction.specs.declared.decode.DecodedParts.{DecodedParts}
-use Rattle.instruction.specs.declared.decode.DecodedParts.TheVariants as parts
+use Rattle.instruction.specs.declared.decode.DecodeError.{DecodeError}
+use Rattle.instruction.specs.declared.decode.DecodeError.TheVariants as decode
 use Rattle.instruction.specs.declared.instr.Instr.{Instr}
 use Rattle.instruction.specs.declared.instr.Parts.{Parts}
 use Rattle.instruction.specs.declared.mode.Mode.{Mode}
 use Rattle.instruction.proofs.Decoding.{nothing, found_whole, refused_whole}
 use Rattle.targets.specs.At.{fits_here, instr_here}
 use Rattle.targets.specs.Targets.{next_of}
-use Rattle.targets.specs.declared.here.Here.TheVariants.{Whole, Cut}
+use Rattle.targets.specs.declared.not_whole.NotWhole.TheVariants.{Cut}
 use Rattle.targets.proofs.HereIs.{answer}
 use Rattle.targets.proofs.Within.{Small}
 use Rattle.text.specs.Puts.{letters}
@@ -43,10 +44,9 @@ module _ (mode : Mode) (p : ℕ) (s : List ℕ) where
   unfolding code_rest
   rest_none n vs e = ap (rest_by mode p (length s)) (refused_whole s n vs e)
 
-  pub rest_not_found : (x : DecodedParts) → decoded_parts_of x ≡ parts_answer s → ((v : Parts) → x ≡ parts.Found v → ⊥) → [] ≡ code_rest mode p s
-  rest_not_found (parts.Found v) e f = absurd (f v refl)
-  rest_not_found parts.Nothing e f = rest_none _ _ e
-  rest_not_found (parts.Cut k) e f = rest_none _ _ e
+  pub rest_not_found : (d : DecodeError) → decoded_parts_of (Err d) ≡ parts_answer s → [] ≡ code_rest mode p s
+  rest_not_found decode.Nothing e = rest_none _ _ e
+  rest_not_found (decode.Cut k) e = rest_none _ _ e
 
   module _ (v : Parts) (e : accepted v ≡ parts_answer s) (b : Small s) where
     abbrev i : Instr
@@ -105,7 +105,7 @@ module _ (s : List ℕ) (b : Small s) where
   by_decode mode p = either mode p s b (λ f. ap (line_by mode p s) (sym (nothing s f)) ∙ outside mode p s b f) by
     where
       by : (h : 0 < length s) (t : Bool) → fits_here s 0 ≡ t
-          → line_by mode p s (decode_answer s) ≡ code_by mode p s (cond t (Whole (instr_here s 0)) (Cut (cut_at s 0)))
+          → line_by mode p s (decode_answer s) ≡ code_by mode p s (cond t (Ok (instr_here s 0)) (Err (Cut (cut_at s 0))))
       by h true f = ap (line_by mode p s) (answer s 0 h true f)
       by h false f = ap (line_by mode p s) (answer s 0 h false f)
 

@@ -9,14 +9,15 @@ use Prim.Native.Char.{code}
 use native.Mathlib.Omega.{arith}
 use lib.Dec.{eqb, ltb, leb}
 use lib.ListN.{length, get_or, drop, length-append, length-take}
+use Rattle.std.specs.Prelude.{Result, Ok, Err}
 use Rattle.instruction.specs.Parts.{parts_of}
 use Rattle.instruction.specs.declared.instr.Instr.{Instr}
 use Rattle.instruction.specs.declared.mode.Mode.{Mode}
 use Rattle.targets.specs.At.{form_here, size_here}
 use Rattle.targets.specs.Here.{here_of}
 use Rattle.targets.specs.Targets.{next_of}
-use Rattle.targets.specs.declared.here.Here.{Here}
-use Rattle.targets.specs.declared.here.Here.TheVariants.{Whole, Cut, Outside}
+use Rattle.targets.specs.declared.not_whole.NotWhole.{NotWhole}
+use Rattle.targets.specs.declared.not_whole.NotWhole.TheVariants.{Cut, Outside}
 use Rattle.targets.proofs.WaysAre.{whole_inside, here_whole}
 use Rattle.targets.proofs.Within.{Small, form_here_lem, form_is, size_short}
 use Rattle.reach.specs.Mark.{traced_mark}
@@ -79,7 +80,7 @@ module _ (image m : List ℕ) (B : Small image) where
 
 module _ (mode : Mode) (image m : List ℕ) (B : Small image) where
   -- what stands at q, shown at any place
-  whole_width : (q : ℕ) (i : Instr) → Whole i ≡ here_of image q → (p : ℕ) (all : List ℕ) → length (instr_text mode p i all) ≤ 31
+  whole_width : (q : ℕ) (i : Instr) → Ok i ≡ here_of image q → (p : ℕ) (all : List ℕ) → length (instr_text mode p i all) ≤ 31
   whole_width q i e p all =
       let w = here_whole image q (whole_inside image q i e) i e in
       let f : (parts_of i).form ≡ form_here image q = ap (λ j. (parts_of j).form) w.1 ∙ form_is image q B in
@@ -88,24 +89,24 @@ module _ (mode : Mode) (image m : List ℕ) (B : Small image) where
   here_width : (p : ℕ) → length (here_line mode image p (here_of image p)) ≤ 31
   here_width p = by (here_of image p) refl
     where
-      by : (h : Here) → h ≡ here_of image p → length (here_line mode image p h) ≤ 31
-      by (Whole i) e = whole_width p i e p (drop p image)
-      by (Cut c) e = omega arith
-      by Outside e = omega arith
+      by : (h : Result Instr NotWhole) → h ≡ here_of image p → length (here_line mode image p h) ≤ 31
+      by (Ok i) e = whole_width p i e p (drop p image)
+      by (Err (Cut c)) e = omega arith
+      by (Err Outside) e = omega arith
 
   -- bytes by themselves
   pub alone_width : (p : ℕ) → length (code_line mode p image) ≤ 31
   unfolding code_line
   alone_width p = by (here_of image 0) refl
     where
-      past : (b : Bool) (i : Instr) → Whole i ≡ here_of image 0 → length (cond b [] (instr_text mode p i image)) ≤ 31
+      past : (b : Bool) (i : Instr) → Ok i ≡ here_of image 0 → length (cond b [] (instr_text mode p i image)) ≤ 31
       past true i e = omega arith
       past false i e = whole_width 0 i e p image
 
-      by : (h : Here) → h ≡ here_of image 0 → length (code_by mode p image h) ≤ 31
-      by (Whole i) e = past (ltb 65536 (next_of p i)) i e
-      by (Cut c) e = omega arith
-      by Outside e = omega arith
+      by : (h : Result Instr NotWhole) → h ≡ here_of image 0 → length (code_by mode p image h) ≤ 31
+      by (Ok i) e = past (ltb 65536 (next_of p i)) i e
+      by (Err (Cut c)) e = omega arith
+      by (Err Outside) e = omega arith
 
   run_short : (mask : List ℕ) (p : ℕ) → length (data_run image mask p) ≤ 16
   unfolding data_run run_length

@@ -1,7 +1,7 @@
 -- The lines of the listing. Document 01, 'The listing': `L`, `O` and `A` carry the position after the letter, `O` and `A` then one field
 -- per position found. `I` has position, bytes, mnemonic and operands, `D` position and bytes.
 -- Assumes nothing.
-use Rattle.std.specs.Prelude.{ℕ, Bool, true, cond, ◌&&◌, List, [], ◌∷◌, map, eqb, ltb, take, drop}
+use Rattle.std.specs.Prelude.{ℕ, Bool, true, cond, ◌&&◌, List, [], ◌∷◌, map, eqb, ltb, take, drop, Result, Ok, Err}
 use Prim.Native.Char.{code}
 use Rattle.instruction.specs.Encode.{form_in}
 use Rattle.instruction.specs.Forms.{size_of}
@@ -11,8 +11,8 @@ use Rattle.instruction.specs.declared.instr.Instr.{Instr}
 use Rattle.instruction.specs.declared.mode.Mode.{Mode}
 use Rattle.targets.specs.Here.{here_of}
 use Rattle.targets.specs.Targets.{next_of}
-use Rattle.targets.specs.declared.here.Here.{Here}
-use Rattle.targets.specs.declared.here.Here.TheVariants.{Whole, Cut, Outside}
+use Rattle.targets.specs.declared.not_whole.NotWhole.{NotWhole}
+use Rattle.targets.specs.declared.not_whole.NotWhole.TheVariants.{Cut, Outside}
 use Rattle.listing.specs.Hex.{hex4, hexes}
 use Rattle.listing.specs.Line.{line}
 use Rattle.listing.specs.Operand.{operands}
@@ -40,16 +40,16 @@ abbrev pub instr_line : Mode → List ℕ → ℕ → Instr → List ℕ
 instr_line mode image p i = instr_text mode p i (drop p image)
 
 -- what stands at p; a traced instruction that is cut off was refused before
-abbrev pub here_line : Mode → List ℕ → ℕ → Here → List ℕ
-here_line mode image p (Whole i) = instr_line mode image p i
-here_line mode image p (Cut c) = []
-here_line mode image p Outside = []
+abbrev pub here_line : Mode → List ℕ → ℕ → Result Instr NotWhole → List ℕ
+here_line mode image p (Ok i) = instr_line mode image p i
+here_line mode image p (Err (Cut c)) = []
+here_line mode image p (Err Outside) = []
 
 -- bytes by themselves at p: the line of the instruction that they begin with; none where it is cut off, or next is over 65,536
-abbrev pub code_by : Mode → ℕ → List ℕ → Here → List ℕ
-code_by mode p bytes (Whole i) = cond (ltb 65536 (next_of p i)) [] (instr_text mode p i bytes)
-code_by mode p bytes (Cut c) = []
-code_by mode p bytes Outside = []
+abbrev pub code_by : Mode → ℕ → List ℕ → Result Instr NotWhole → List ℕ
+code_by mode p bytes (Ok i) = cond (ltb 65536 (next_of p i)) [] (instr_text mode p i bytes)
+code_by mode p bytes (Err (Cut c)) = []
+code_by mode p bytes (Err Outside) = []
 
 unfoldable pub code_line : Mode → ℕ → List ℕ → List ℕ
 code_line mode p bytes = code_by mode p bytes (here_of bytes 0)

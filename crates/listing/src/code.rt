@@ -4,7 +4,7 @@ ghost use Rattle.listing.specs.Rest.{code_rest};
 ghost use Rattle.text.specs.Puts.{Puts};
 
 use crate::lines;
-use instruction::{DecodedParts, Instr, Mode, Parts};
+use instruction::{Instr, Mode, Parts};
 
 // The `I` line of bytes at p, ended by byte 10: how many bytes it has, 0 where decode or targets refuses. What falls past the end of the
 // room is not written; a line has at most 31 bytes.
@@ -23,7 +23,7 @@ pub fn code_line(mode: Mode, p: u32, bytes: &[u8], room: &mut [u8]) -> usize
 pub fn code_rest(mode: Mode, p: u32, bytes: &[u8], room: &mut [u8]) -> usize
     ensures { Puts (code_rest mode p bytes.now) 0 room.old room.new result }
 {
-    let DecodedParts::Found(v) = Parts::decode(bytes) else {
+    let Ok(v) = Parts::decode(bytes) else {
         return 0;
     };
     let n = v.size();

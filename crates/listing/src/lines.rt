@@ -16,7 +16,7 @@ ghost use Rattle.listing.specs.Lines.{label_line, overlap_line, arrival_line, in
 ghost use Rattle.text.specs.Puts.{Puts};
 
 use crate::{chain, operands, put};
-use instruction::{DecodedParts, Mode, Parts};
+use instruction::{Mode, Parts};
 use views::Overlaps;
 
 // `L`, where there is a target mark.
@@ -162,9 +162,8 @@ pub fn put_instr(mode: Mode, bytes: &[u8], out: &mut [u8], at: usize, p: u32) ->
     ensures upper_bound { result ≤ at + 2 ^ 18 }
 {
     match Parts::decode(bytes) {
-        DecodedParts::Found(v) => put_parts(mode, bytes, out, at, p, v),
-        DecodedParts::Nothing => at,
-        DecodedParts::Cut(_) => at,
+        Ok(v) => put_parts(mode, bytes, out, at, p, v),
+        Err(_) => at,
     }
 }
 

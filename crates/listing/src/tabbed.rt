@@ -8,7 +8,7 @@ ghost use Rattle.listing.specs.declared.tabbed.Arrivals.TheVariants.{Declined};
 
 use crate::{rooms, walk};
 use instruction::Mode;
-use views::Viewed;
+use views::ViewError;
 
 // The bytes that a position has at most, without arrivals.
 const MOST: usize = 60;
@@ -35,7 +35,8 @@ fn put_declined(mode: Mode, image: &[u8], marks: &[u8], room: &mut [u8]) -> usiz
 {
     let n = image.len();
     let mut labels = rooms::bytes();
-    views::target_marks(mode, image, marks, &mut labels);
+    // Sound marks are not refused, and the room is as long as any image.
+    let _ = views::target_marks(mode, image, marks, &mut labels);
     let none = [0u16; 1];
     walk::put_walk(mode, image, marks, &labels[0..n], &none[0..0], room)
 }
@@ -77,35 +78,33 @@ fn needed<const CHOSEN: bool>(mode: Mode, image: &[u8], marks: &[u8], room: usiz
     put_text::<CHOSEN>(mode, image, marks, &mut none)
 }
 
-// The listing of marks that are not damaged.
-fn list<const CHOSEN: bool>(mode: Mode, image: &[u8], marks: &[u8], room: &mut [u8]) -> Viewed
-    requires { Sound image.now marks.now }
-    ensures result_value { viewed_of result ≡ text_answer mode image.now marks.now CHOSEN room.old }
-    ensures room_after { room.new ≡ text_room mode image.now marks.now CHOSEN room.old }
-{
-    let need = needed::<CHOSEN>(mode, image, marks, room.len());
-    if room.len() < need {
-        return Viewed::NoRoom(need);
-    }
-    Viewed::Written(put_text::<CHOSEN>(mode, image, marks, room))
-}
-
 // The listing of the traced image, with arrivals or without: how many bytes were written. Either is never compiled into its caller, so that
 // it takes the stack of its own table alone.
 #[inline(never)]
-fn listing_by<const CHOSEN: bool>(mode: Mode, image: &[u8], marks: &[u8], room: &mut [u8]) -> Viewed
+fn listing_by<const CHOSEN: bool>(
+    mode: Mode,
+    image: &[u8],
+    marks: &[u8],
+    room: &mut [u8],
+) -> Result<usize, ViewError>
     ensures result_value { viewed_of result ≡ text_answer mode image.now marks.now CHOSEN room.old }
     ensures room_after { room.new ≡ text_room mode image.now marks.now CHOSEN room.old }
 {
-    let v = views::check(image, marks);
-    if !v.is_written() {
-        return v;
+    views::check(image, marks)?;
+    let need = needed::<CHOSEN>(mode, image, marks, room.len());
+    if room.len() < need {
+        return Err(ViewError::NoRoom(need));
     }
-    list::<CHOSEN>(mode, image, marks, room)
+    Ok(put_text::<CHOSEN>(mode, image, marks, room))
 }
 
 // Without arrivals.
-pub fn listing_declined(mode: Mode, image: &[u8], marks: &[u8], room: &mut [u8]) -> Viewed
+pub fn listing_declined(
+    mode: Mode,
+    image: &[u8],
+    marks: &[u8],
+    room: &mut [u8],
+) -> Result<usize, ViewError>
     ensures result_value { viewed_of result ≡ listing_answer mode image.now marks.now Declined room.old }
     ensures room_after { room.new ≡ listing_room mode image.now marks.now Declined room.old }
 {
@@ -119,7 +118,7 @@ pub fn listing_with(
     marks: &[u8],
     arrivals: Arrivals,
     room: &mut [u8],
-) -> Viewed
+) -> Result<usize, ViewError>
     ensures result_value { viewed_of result ≡ listing_answer mode image.now marks.now arrivals room.old }
     ensures room_after { room.new ≡ listing_room mode image.now marks.now arrivals room.old }
 {
@@ -130,7 +129,7 @@ pub fn listing_with(
 }
 
 // The listing without a choice.
-pub fn listing(mode: Mode, image: &[u8], marks: &[u8], room: &mut [u8]) -> Viewed
+pub fn listing(mode: Mode, image: &[u8], marks: &[u8], room: &mut [u8]) -> Result<usize, ViewError>
     ensures result_value { viewed_of result ≡ listing_answer mode image.now marks.now unchosen room.old }
     ensures room_after { room.new ≡ listing_room mode image.now marks.now unchosen room.old }
 {
