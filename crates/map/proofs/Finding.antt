@@ -1,11 +1,13 @@
 -- The search for the first data byte, word by word.
 -- Assumes nothing.
-use mathlib.Core.Path.{◌≡◌, refl, ap, ◌∙◌}
+use mathlib.Core.Path.{◌≡◌, refl, ap, subst, ◌∙◌}
 use mathlib.Core.Bool.{Bool, true, false, not}
 use mathlib.Core.List.{List}
-use Prim.Native.Nat.{ℕ, ◌+◌, ◌*◌, ◌-◌, ◌/◌, ◌%◌, ◌<◌, ◌≤◌}
+use Prim.Native.Nat.{ℕ, zero, suc, min, max, ◌+◌, ◌*◌, ◌-◌, ◌/◌, ◌%◌, ◌<◌, ◌≤◌}
 use native.Mathlib.Omega.{arith}
 use lib.Dec.{ltb}
+use Rattle.std.proofs.Common.{Option, Some, None, MatchOption}
+use Rattle.std.specs.Option.{unwrap_or}
 use lib.ListN.{get_or}
 use borrow.Author.Tests.{lt-ltb, ltb-true, ltb-false}
 use Rattle.map.specs.Bits.{one, first_in, first_zero}
@@ -34,47 +36,88 @@ module _ (ws : List ℕ) (to q : ℕ) where
           ∙ ones_one 64 (i - j * 64)
           ∙ lt-ltb (i - j * 64) 64 (omega arith)
 
+  -- so many words more
+  full_to : (d j : ℕ) → j + d ≤ to / 64 → ((i : ℕ) → j ≤ i → i < j + d → get_or ws i 0 ≡ 0xFFFFFFFFFFFFFFFF) → Full ws to q (j * 64) → Full ws to q ((j + d) * 64)
+  full_to zero j h f s = subst (λ (k : ℕ). Full ws to q (k * 64)) (let e : j ≡ j + 0 = omega arith in e) s
+  full_to (suc d) j h f s =
+      subst (λ (k : ℕ). Full ws to q (k * 64)) (let e : (j + 1) + d ≡ j + suc d = omega arith in e)
+      (full_to d (j + 1) (omega arith) (λ i a b. f i (omega arith) (omega arith)) (full_next j s (omega arith) (f j (omega arith) (omega arith))))
+
+  -- up to the word that a search of them tells, or else up to the last
+  pub full_found : q % 64 ≡ 0 → q < to + 64 → (r : Option ℕ)
+      → MatchOption r ((i : ℕ) → q / 64 ≤ i → i < to / 64 → get_or ws i 0 ≡ 0xFFFFFFFFFFFFFFFF)
+      (λ j. (q / 64 ≤ j) × (j < to / 64) × Unit {0} × ((i : ℕ) → q / 64 ≤ i → i < j → get_or ws i 0 ≡ 0xFFFFFFFFFFFFFFFF))
+      → Full ws to q (unwrap_or r (max (q / 64) (to / 64)) * 64)
+  full_found aligned h (Some j) f =
+      let e : q / 64 + (j - q / 64) ≡ j = omega (arith, f.0) in
+      subst (λ (k : ℕ). Full ws to q (k * 64)) e
+      (full_to (j - q / 64) (q / 64) (omega (arith, f.0, f.1)) (λ i a b. f.3 i a (omega (arith, f.0))) (full_start aligned h))
+  full_found aligned h None f = by (ltb (q / 64) (to / 64)) refl
+    where
+      by : (b : Bool) → ltb (q / 64) (to / 64) ≡ b → Full ws to q (max (q / 64) (to / 64) * 64)
+      by true g =
+          let k = ltb-true (q / 64) (to / 64) g in
+          let e : q / 64 + (to / 64 - q / 64) ≡ max (q / 64) (to / 64) = omega arith in
+          subst (λ (j : ℕ). Full ws to q (j * 64)) e
+          (full_to (to / 64 - q / 64) (q / 64) (omega arith) (λ i a b. f i a (omega arith)) (full_start aligned h))
+      by false g =
+          let k = ltb-false (q / 64) (to / 64) g in
+          let e : q / 64 ≡ max (q / 64) (to / 64) = omega arith in
+          subst (λ (j : ℕ). Full ws to q (j * 64)) e (full_start aligned h)
+
 -- ---- the first data byte
 
 module _ (ws : List ℕ) (from to : ℕ) where
   -- no position from `from` on and before q is data
-  pub None : ℕ → Type 0
-  None q = (i : ℕ) → from ≤ i → i < q → data_at ws i ≡ false
+  pub NoData : ℕ → Type 0
+  NoData q = (i : ℕ) → from ≤ i → i < q → data_at ws i ≡ false
 
-  pub none_yet : None from
-  unfolding None
+  pub none_yet : NoData from
+  unfolding NoData
   none_yet i l h = absurd (omega arith)
 
   abbrev Is : ℕ → Type 0
   Is r = r ≡ first_in (data_at ws) (to - from) from
 
-  pub all_code : from ≤ to → (q : ℕ) → to ≤ q → None q → Is to
-  unfolding None
+  pub all_code : from ≤ to → (q : ℕ) → to ≤ q → NoData q → Is to
+  unfolding NoData
   all_code l q h N =
       (let e : to ≡ from + (to - from) = omega arith in e) ∙ first_none (data_at ws) (to - from) from (λ i m k. N i m (omega arith))
 
-  module _ (l : from ≤ to) (q : ℕ) (f : from ≤ q) (N : None q) (z : ℕ) (e : z ≡ first_zero (get_or ws (q / 64) 0) (q % 64)) where
+  module _ (l : from ≤ to) (q : ℕ) (f : from ≤ q) (N : NoData q) (z : ℕ) (e : z ≡ first_zero (get_or ws (q / 64) 0) (q % 64)) where
     -- none before the first zero of the word
-    pub none_before : None (q / 64 * 64 + z)
-    unfolding None
+    pub none_before : NoData (q / 64 * 64 + z)
+    unfolding NoData
     none_before i m h = by (ltb i q) refl
       where
         by : (b : Bool) → ltb i q ≡ b → data_at ws i ≡ false
         by true t = N i m (ltb-true i q t)
         by false t = quiet ws q i (ltb-false i q t) (omega arith)
 
-    pub found : z < 64 → q / 64 * 64 + z < to → Is (q / 64 * 64 + z)
-    unfolding None
+    found : z < 64 → q / 64 * 64 + z < to → Is (q / 64 * 64 + z)
+    unfolding NoData
     found h k =
         let g = hit_from ws q (omega arith) in
         first_is (data_at ws) (to - from) from (q / 64 * 64 + z) (omega arith) (omega arith) none_before (rw e (hit_data ws q (omega arith)))
 
-    pub past_to : to ≤ q / 64 * 64 + z → Is to
+    past_to : to ≤ q / 64 * 64 + z → Is to
     past_to h = all_code l (q / 64 * 64 + z) h none_before
 
+    -- the first of both
+    pub found_or_to : z < 64 → Is (min to (q / 64 * 64 + z))
+    found_or_to h = by (ltb (q / 64 * 64 + z) to) refl
+      where
+        by : (b : Bool) → ltb (q / 64 * 64 + z) to ≡ b → Is (min to (q / 64 * 64 + z))
+        by true t =
+            let k = ltb-true (q / 64 * 64 + z) to t in
+            let e : q / 64 * 64 + z ≡ min to (q / 64 * 64 + z) = omega arith in subst Is e (found h k)
+        by false t =
+            let k = ltb-false (q / 64 * 64 + z) to t in
+            let e : to ≡ min to (q / 64 * 64 + z) = omega arith in subst Is e (past_to k)
+
     -- none in the word, nor in what was skipped after it
-    pub none_skipped : 64 ≤ z → (r : ℕ) → Full ws to (q / 64 * 64 + 64) r → None r
-    unfolding None
+    pub none_skipped : 64 ≤ z → (r : ℕ) → Full ws to (q / 64 * 64 + 64) r → NoData r
+    unfolding NoData
     none_skipped h r s i m j = let k = zero_le ws q in by (ltb i (q / 64 * 64 + 64)) refl
       where
         by : (b : Bool) → ltb i (q / 64 * 64 + 64) ≡ b → data_at ws i ≡ false

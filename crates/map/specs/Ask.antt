@@ -1,11 +1,11 @@
 -- What is asked of a packed map. Document 02, W3, and refusals 1, 11, 17 in this order: the queries lend the image's length and the words.
 -- Assumes nothing.
-use Rattle.std.specs.Prelude.{ℕ, ◌-◌, Bool, true, false, ◌||◌, List, [], ◌∷◌, ltb, leb, pos, length}
+use Rattle.std.specs.Prelude.{ℕ, ◌-◌, Bool, ◌||◌, List, [], ◌∷◌, ltb, leb, pos, length, Result, Ok, Err}
 use Rattle.instruction.specs.Answer.{Answer, accepted, refused, Refusal, refuse, judge}
 use Rattle.map.specs.Bits.{bit, count_in, first_in}
 use Rattle.map.specs.Words.{words_for, code_at, data_at}
-use Rattle.map.specs.declared.ask.Asked.{Asked}
-use Rattle.map.specs.declared.ask.Asked.TheVariants.{Told, LongImage, NoRoom, Outside}
+use Rattle.map.specs.declared.ask.AskError.{AskError}
+use Rattle.map.specs.declared.ask.AskError.TheVariants.{LongImage, NoRoom, Outside}
 
 -- 1: image over 65,536; 11: too few words; 17: outside the image, or turned round
 abbrev pub ask_refusals : List ℕ → ℕ → Bool → ℕ → List Refusal
@@ -15,18 +15,20 @@ ask_refusals ws n outside p =
     ∷ refuse outside 17 (pos p ∷ [])
     ∷ []
 
-abbrev pub asked_of : Asked → Answer ℕ
-asked_of (Told v) = accepted v
-asked_of (LongImage n) = refused 1 (pos n ∷ [])
-asked_of (NoRoom k) = refused 11 (pos k ∷ [])
-asked_of (Outside p) = refused 17 (pos p ∷ [])
+-- one of them, as an answer of any query
+abbrev pub ask_refused : {A : Type 0} → AskError → Answer A
+ask_refused (LongImage n) = refused 1 (pos n ∷ [])
+ask_refused (NoRoom k) = refused 11 (pos k ∷ [])
+ask_refused (Outside p) = refused 17 (pos p ∷ [])
 
--- nothing was refused
-abbrev pub is_told : Asked → Bool
-is_told (Told v) = true
-is_told (LongImage n) = false
-is_told (NoRoom k) = false
-is_told (Outside p) = false
+-- what was asked for, or what refuses
+abbrev pub asked_of : Result ℕ AskError → Answer ℕ
+asked_of (Ok v) = accepted v
+asked_of (Err e) = ask_refused e
+
+abbrev pub allowed_of : Result (Unit {0}) AskError → Answer (Unit {0})
+allowed_of (Ok u) = accepted u
+allowed_of (Err e) = ask_refused e
 
 -- the bit of position p
 unfoldable pub test_answer : List ℕ → ℕ → ℕ → Answer ℕ

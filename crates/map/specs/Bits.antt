@@ -1,6 +1,6 @@
 -- The bits of a 64-bit word. Document 02, W3, 'A packed map beside the mask': bit 0 is the lowest.
 -- Assumes nothing.
-use Rattle.std.specs.Prelude.{ℕ, zero, suc, ◌+◌, ◌*◌, ◌/◌, ◌%◌, ◌^◌, Bool, true, false, cond, not, ◌&&◌, ◌||◌, eqb, ltb, leb}
+use Rattle.std.specs.Prelude.{ℕ, zero, suc, ◌+◌, ◌*◌, ◌/◌, ◌%◌, ◌^◌, Bool, cond, not, ◌&&◌, ◌||◌, eqb, ltb, leb}
 pub use Rattle.views.specs.Positions.{bit}
 
 -- bit i of w is 1

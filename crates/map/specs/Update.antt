@@ -1,23 +1,25 @@
 -- The map kept up after a step. Document 02, W3, and refusals 1, 2, 6, 11, 17 in this order: 17 for a position that is not inside the image or
 -- is untraced. Damage is that of a view, anywhere.
 -- Assumes nothing.
-use Rattle.std.specs.Prelude.{ℕ, not, List, [], ◌∷◌, ◌++◌, ltb, pos, length}
+use Rattle.std.specs.Prelude.{ℕ, not, List, [], ◌∷◌, ◌++◌, ltb, pos, length, Result, Ok, Err}
 use Rattle.instruction.specs.Answer.{Answer, accepted, refused, Refusal, refuse, judge, after}
 use Rattle.targets.specs.At.{size_here}
 use Rattle.views.specs.Positions.{traced_at}
-use Rattle.views.specs.View.{view_refusals}
+use Rattle.views.specs.View.{view_refusals, view_refused}
 use Rattle.map.specs.Words.{words_for}
 use Rattle.map.specs.Packed.{covered}
-use Rattle.map.specs.declared.update.Updated.{Updated}
-use Rattle.map.specs.declared.update.Updated.TheVariants.{Set, LongImage, ShortMarks, Damaged, NoRoom, Outside}
+use Rattle.map.specs.declared.update.UpdateError.{UpdateError}
+use Rattle.map.specs.declared.update.UpdateError.TheVariants.{View, Outside}
 
-abbrev pub updated_of : Updated → Answer ℕ
-updated_of (Set k) = accepted k
-updated_of (LongImage n) = refused 1 (pos n ∷ [])
-updated_of (ShortMarks n) = refused 2 (pos n ∷ [])
-updated_of (Damaged q) = refused 6 (pos q ∷ [])
-updated_of (NoRoom k) = refused 11 (pos k ∷ [])
-updated_of (Outside p) = refused 17 (pos p ∷ [])
+-- one of the refusals, as an answer of any call
+abbrev pub update_refused : {A : Type 0} → UpdateError → Answer A
+update_refused (View e) = view_refused e
+update_refused (Outside p) = refused 17 (pos p ∷ [])
+
+-- how many bits were set, or what refuses
+abbrev pub updated_of : Result ℕ UpdateError → Answer ℕ
+updated_of (Ok k) = accepted k
+updated_of (Err e) = update_refused e
 
 -- 11: too few words; 17: not inside, or untraced
 abbrev pub lent_refusals : List ℕ → List ℕ → List ℕ → ℕ → List Refusal

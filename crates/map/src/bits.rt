@@ -1,6 +1,14 @@
 // The bits of a word, from 0, the lowest, to 63. A stretch of bits excludes its end.
 ghost use Rattle.std.specs.Prelude.{◌≡◌, ◌+◌, ◌<◌};
 ghost use Rattle.map.specs.Bits.{one, lows, between, digits, ones_between, first_zero, with_ones};
+ghost use Rattle.map.specs.Words.{words_for};
+
+// How many words have a bit for each of so many positions.
+pub fn words_for(length: usize) -> usize
+    ensures { result ≡ words_for length }
+{
+    length.div_ceil(64)
+}
 
 // Whether bit i is 1; no bit from 64 on is.
 pub fn is_one(w: u64, i: u32) -> bool
@@ -17,7 +25,7 @@ fn low(to: u32) -> u64
     ensures { result ≡ digits (lows to) 64 0 }
 {
     if 64 <= to {
-        return 0xFFFF_FFFF_FFFF_FFFF;
+        return u64::MAX;
     }
     (1 << to) - 1
 }

@@ -6,36 +6,27 @@ ghost use Rattle.views.specs.View.{viewed_of, damaged_here};
 ghost use Rattle.map.specs.Build.{build_answer, build_words};
 ghost use Rattle.map.specs.Packed.{packed};
 
-use crate::cover;
-use views::Viewed;
+use crate::{bits, cover};
+use views::ViewError;
 
 fn write_map(image: &[u8], marks: &[u8], words: &mut [u64], need: usize)
     requires { (length image.now ≤ length marks.now) × (length image.now ≤ 65536) × (need ≡ words_for (length image.now))
         × (need ≤ length words.old) × ((p : ℕ) → p < length image.now → damaged_here image.now marks.now p ≡ false) }
     ensures { words.new ≡ packed (mask_of image.now marks.now) ++ drop need words.old }
 {
-    let n = image.len();
-    cover::clear(words, need);
-    let mut p: usize = 0;
-    while p < n {
+    words[..need].fill(0);
+    for p in 0..image.len() {
         cover::cover_at(image, marks, words, p);
-        p += 1;
     }
 }
 
 // One bit for each image byte, 1 on each byte of a traced instruction.
-pub fn build_map(image: &[u8], marks: &[u8], words: &mut [u64]) -> Viewed
+pub fn build_map(image: &[u8], marks: &[u8], words: &mut [u64]) -> Result<usize, ViewError>
     ensures result_value { viewed_of result ≡ build_answer image.now marks.now words.old }
     ensures words_after { words.new ≡ build_words image.now marks.now words.old }
 {
-    let v = views::check(image, marks);
-    if !v.is_written() {
-        return v;
-    }
-    let need = (image.len() + 63) / 64;
-    if words.len() < need {
-        return Viewed::NoRoom(need);
-    }
+    let need = bits::words_for(image.len());
+    views::check_room(image, marks, words.len(), need)?;
     write_map(image, marks, words, need);
-    Viewed::Written(need)
+    Ok(need)
 }

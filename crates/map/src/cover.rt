@@ -1,5 +1,5 @@
 // The bits of instructions set in lent words.
-ghost use Rattle.std.specs.Prelude.{◌≡◌, false, cond, ◌++◌, ◌+◌, ◌*◌, ◌≤◌, ◌<◌, length, get_or, replicate, drop};
+ghost use Rattle.std.specs.Prelude.{◌≡◌, false, cond, ◌+◌, ◌*◌, ◌≤◌, ◌<◌, length, get_or};
 ghost use Rattle.reach.specs.Mark.{traced_mark};
 ghost use Rattle.targets.specs.At.{size_here};
 ghost use Rattle.views.specs.View.{damaged_here};
@@ -7,18 +7,6 @@ ghost use Rattle.map.specs.Packed.{covered};
 
 use crate::bits;
 use instruction::first;
-
-// So many words cleared; the rest stays.
-pub fn clear(words: &mut [u64], need: usize)
-    requires { need ≤ length words.old }
-    ensures { words.new ≡ replicate need 0 ++ drop need words.old }
-{
-    let mut j: usize = 0;
-    while j < need {
-        words[j] = 0;
-        j += 1;
-    }
-}
 
 // The bits of the positions from p on, so many, set: they reach into the next word at most.
 pub fn cover(words: &mut [u64], p: u32, size: u32)

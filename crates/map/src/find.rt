@@ -17,18 +17,15 @@ fn skip_full(words: &[u64], q: u32, to: u32) -> u32
     requires { (q % 64 ≡ 0) × (to ≤ 64 * length words.now) × (to ≤ 65536) × (q < to + 64) }
     ensures { Full words.now to q result }
 {
-    let end = (to / 64) as usize;
-    let mut j = (q / 64) as usize;
-    while j < end {
-        if words[j] != 0xFFFF_FFFF_FFFF_FFFF {
-            return j as u32 * 64;
-        }
-        j += 1;
-    }
-    j as u32 * 64
+    let first = q / 64;
+    let end = to / 64;
+    (first..end)
+        .find(|j| words[*j as usize] != u64::MAX)
+        .unwrap_or(first.max(end))
+        * 64
 }
 
-// The first position from `from` on and before `to` that is data, or else `to`.
+// The first position from `from` on and before `to` that is data, or else `to`. How far a step goes is told by the words that it passes.
 pub fn next_data(words: &[u64], from: u32, to: u32) -> u32
     requires { (from ≤ to) × (to ≤ 64 * length words.now) × (to ≤ 65536) }
     ensures { result ≡ first_in (data_at words.now) (to - from) from }
@@ -38,10 +35,7 @@ pub fn next_data(words: &[u64], from: u32, to: u32) -> u32
         let base = q / 64 * 64;
         let i = bits::first_zero(words[(q / 64) as usize], q % 64);
         if i < 64 {
-            if base + i < to {
-                return base + i;
-            }
-            return to;
+            return to.min(base + i);
         }
         q = skip_full(words, base + 64, to);
     }

@@ -9,6 +9,6 @@ mod find;
 mod tell;
 pub mod update;
 
-pub use ask::{Asked, count, first_data, test};
+pub use ask::{AskError, count, first_data, test};
 pub use build::build_map;
-pub use update::{Updated, as_updated, update_map};
+pub use update::{UpdateError, update_map};

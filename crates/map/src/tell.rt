@@ -9,11 +9,7 @@ use crate::bits;
 fn ones_at(words: &[u64], j: u32, from: u32, to: u32) -> u32
     ensures { result ≡ ones_between (get_or words.now j 0) from to }
 {
-    let at = j as usize;
-    if words.len() <= at {
-        return bits::ones_between(0, from, to);
-    }
-    bits::ones_between(words[at], from, to)
+    bits::ones_between(words.get(j as usize).copied().unwrap_or(0), from, to)
 }
 
 // The ones of whole words, from the first on and before the last.
@@ -21,11 +17,9 @@ fn whole(words: &[u64], first: u32, last: u32) -> u32
     requires { (first ≤ last) × (last ≤ length words.now) × (last ≤ 1024) }
     ensures { result ≡ count_in (code_at words.now) (64 * (last - first)) (64 * first) }
 {
-    let mut n: u32 = 0;
-    let mut j = first;
-    while j < last {
-        n += u64::count_ones(words[j as usize]);
-        j += 1;
+    let mut n = 0;
+    for w in &words[first as usize..last as usize] {
+        n += w.count_ones();
     }
     n
 }
