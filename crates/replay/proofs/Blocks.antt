@@ -4,28 +4,30 @@ use Prim.Native.Nat.{ℕ}
 use mathlib.Core.Path.{◌≡◌, refl, sym, ap, ◌∙◌}
 use mathlib.Core.Bool.{true, false}
 use mathlib.Core.List.{List}
+use Rattle.std.specs.Prelude.{Result, is_err}
 use borrow.Author.Tests.{eq-eqb, ne_eqb}
 use Rattle.instruction.specs.Answer.{accepted, refused, judge}
 use Rattle.instruction.specs.declared.mode.Mode.{Mode}
-use Rattle.replay.specs.Answers.{is_told, replayed_of, no_totals, lent_refusals, lent_answer, told_of}
+use Rattle.replay.specs.Answers.{replayed_of, no_totals, lent_refusals, lent_answer, told_of}
 use Rattle.replay.specs.Block.{fed, block_answer, block_log, block_counts}
 use Rattle.replay.specs.Take.{State, state}
 use Rattle.replay.specs.declared.log.Log.{Log}
-use Rattle.replay.specs.declared.answer.Replayed.{Replayed}
+use Rattle.replay.specs.declared.answer.Totals.{Totals}
+use Rattle.replay.specs.declared.answer.ReplayError.{ReplayError}
 use Rattle.replay.proofs.Lent.{told_is, refused_is}
 
 module _ (l : Log) (mode : Mode) (text image m entries counts : List ℕ) where
-  abbrev Leaves : Replayed → Log → List ℕ → Type 0
+  abbrev Leaves : Result Totals ReplayError → Log → List ℕ → Type 0
   Leaves a r cs =
       (replayed_of a ≡ block_answer l mode text image m entries counts)
       × ((r ≡ block_log l mode text image m entries counts) × (cs ≡ block_counts l mode text image m entries counts))
 
-  pub block_held : (l.refusal ≡ 0 → ⊥) → (a : Replayed) → replayed_of a ≡ told_of l → Leaves a l counts
+  pub block_held : (l.refusal ≡ 0 → ⊥) → (a : Result Totals ReplayError) → replayed_of a ≡ told_of l → Leaves a l counts
   unfolding block_answer block_log block_counts
   block_held d a e = let f = ne_eqb l.refusal 0 d in (e ∙ rw f refl, (rw f refl, rw f refl))
 
-  module _ (z : l.refusal ≡ 0) (c : Replayed) (e : replayed_of c ≡ judge (lent_refusals image m counts) no_totals) where
-    pub block_lent : is_told c ≡ false → Leaves c l counts
+  module _ (z : l.refusal ≡ 0) (c : Result Totals ReplayError) (e : replayed_of c ≡ judge (lent_refusals image m counts) no_totals) where
+    pub block_lent : is_err c ≡ true → Leaves c l counts
     unfolding block_answer block_log block_counts lent_answer
     block_lent f =
         let b = eq-eqb l.refusal 0 z in
@@ -33,7 +35,7 @@ module _ (l : Log) (mode : Mode) (text image m entries counts : List ℕ) where
         let g : judge (lent_refusals image m counts) no_totals ≡ refused w.0 w.1 = sym e ∙ w.2 in
         (w.2 ∙ rw (b, g) refl, (rw (b, g) refl, rw (b, g) refl))
 
-    pub block_fed : is_told c ≡ true → (r : Log) (cs : List ℕ) → state r cs ≡ fed l mode text image m entries counts → (a : Replayed) → replayed_of a ≡ told_of r
+    pub block_fed : is_err c ≡ false → (r : Log) (cs : List ℕ) → state r cs ≡ fed l mode text image m entries counts → (a : Result Totals ReplayError) → replayed_of a ≡ told_of r
         → Leaves a r cs
     unfolding block_answer block_log block_counts lent_answer
     block_fed f r cs s a h =

@@ -1,37 +1,25 @@
 -- What a replay answers. Document 02, W10 and W11: the lines, interrupts and free moves; 1, 2, 6 and 11 before the first line, then 18 to 21
 -- with the line's number, from 1.
 -- Assumes nothing.
-use Rattle.std.specs.Prelude.{ℕ, min, Bool, true, false, cond, not, ◌&&◌, List, [], ◌∷◌, ◌++◌, eqb, ltb, pos, length}
+use Rattle.std.specs.Prelude.{ℕ, min, cond, not, ◌&&◌, Result, Ok, Err, List, [], ◌∷◌, ◌++◌, eqb, ltb, pos, length}
 use Rattle.instruction.specs.Answer.{Answer, accepted, refused, Refusal, refuse, judge}
-use Rattle.views.specs.View.{view_refusals}
+use Rattle.views.specs.View.{view_refusals, view_refused}
 use Rattle.replay.specs.Log.{highest, one_more}
 use Rattle.replay.specs.declared.log.Log.{Log}
 use Rattle.replay.specs.declared.answer.Totals.{Totals}
-use Rattle.replay.specs.declared.answer.Replayed.{Replayed}
-use Rattle.replay.specs.declared.answer.Replayed.TheVariants.{Told, LongImage, ShortMarks, Damaged, NoRoom, Malformed, Untraced, Forbidden, Full}
+use Rattle.replay.specs.declared.answer.ReplayError.{ReplayError}
+use Rattle.replay.specs.declared.answer.ReplayError.TheVariants.{View, Malformed, Untraced, Forbidden, Full}
 
-abbrev pub replayed_of : Replayed → Answer Totals
-replayed_of (Told t) = accepted t
-replayed_of (LongImage n) = refused 1 (pos n ∷ [])
-replayed_of (ShortMarks n) = refused 2 (pos n ∷ [])
-replayed_of (Damaged p) = refused 6 (pos p ∷ [])
-replayed_of (NoRoom n) = refused 11 (pos n ∷ [])
-replayed_of (Malformed n) = refused 18 (pos n ∷ [])
-replayed_of (Untraced n) = refused 19 (pos n ∷ [])
-replayed_of (Forbidden n) = refused 20 (pos n ∷ [])
-replayed_of (Full n) = refused 21 (pos n ∷ [])
+abbrev pub replay_refused : {A : Type 0} → ReplayError → Answer A
+replay_refused (View e) = view_refused e
+replay_refused (Malformed n) = refused 18 (pos n ∷ [])
+replay_refused (Untraced n) = refused 19 (pos n ∷ [])
+replay_refused (Forbidden n) = refused 20 (pos n ∷ [])
+replay_refused (Full n) = refused 21 (pos n ∷ [])
 
--- nothing was refused
-abbrev pub is_told : Replayed → Bool
-is_told (Told t) = true
-is_told (LongImage n) = false
-is_told (ShortMarks n) = false
-is_told (Damaged p) = false
-is_told (NoRoom n) = false
-is_told (Malformed n) = false
-is_told (Untraced n) = false
-is_told (Forbidden n) = false
-is_told (Full n) = false
+abbrev pub replayed_of : Result Totals ReplayError → Answer Totals
+replayed_of (Ok t) = accepted t
+replayed_of (Err e) = replay_refused e
 
 abbrev pub no_totals : Totals
 no_totals = record { lines = 0; interrupts = 0; free = 0 }

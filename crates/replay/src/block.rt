@@ -3,16 +3,16 @@ ghost use Rattle.std.specs.Prelude.{◌≡◌};
 ghost use Rattle.replay.specs.Answers.{replayed_of};
 ghost use Rattle.replay.specs.Block.{block_answer, block_log, block_counts};
 
-use crate::answer::Replayed;
+use crate::answer::{ReplayError, Totals};
 use crate::log::Log;
 use crate::{answer, feed};
 use instruction::Mode;
 
 // The record after a block, and what the block is answered with.
-#[derive(Clone, Copy)]
+#[derive(Clone, Copy, Debug, PartialEq, Eq)]
 pub struct Fed {
     pub log: Log,
-    pub answer: Replayed,
+    pub answer: Result<Totals, ReplayError>,
 }
 
 // A block of a log, of any bytes or none.
@@ -36,8 +36,8 @@ pub fn take_block(
         let answer = log.told();
         return Fed { log, answer };
     }
-    let answer = answer::check(image, marks, counts);
-    if !answer.is_told() {
+    if let Err(e) = answer::check(image, marks, counts) {
+        let answer = Err(ReplayError::View(e));
         return Fed { log, answer };
     }
     let log = feed::feed(log, mode, text, image, marks, entries, counts);

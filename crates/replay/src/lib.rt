@@ -14,7 +14,7 @@ mod next;
 mod take;
 pub mod whole;
 
-pub use answer::{Replayed, Totals};
+pub use answer::{ReplayError, Totals};
 pub use block::{Fed, take_block};
 pub use log::Log;
 pub use whole::replay;

@@ -4,7 +4,7 @@ ghost use Rattle.replay.specs.Answers.{replayed_of};
 ghost use Rattle.replay.specs.Back.{taken_back, Counted};
 ghost use Rattle.replay.specs.Replay.{replay_answer, replay_counts};
 
-use crate::answer::Replayed;
+use crate::answer::{ReplayError, Totals};
 use crate::log::Log;
 use crate::{answer, feed, line};
 use instruction::Mode;
@@ -28,19 +28,16 @@ pub fn replay(
     marks: &[u8],
     entries: &[u32],
     counts: &mut [u64],
-) -> Replayed
+) -> Result<Totals, ReplayError>
     ensures result_value { replayed_of result
         ≡ replay_answer mode text.now image.now marks.now entries.now counts.old }
     ensures counts_after { counts.new
         ≡ replay_counts mode text.now image.now marks.now entries.now counts.old }
 {
-    let answer = answer::check(image, marks, counts);
-    if !answer.is_told() {
-        return answer;
-    }
+    answer::check(image, marks, counts)?;
     let log = feed::feed(Log::new(), mode, text, image, marks, entries, counts);
     let answer = log.close();
-    if !answer.is_told() {
+    if answer.is_err() {
         take_back(text, log.lines as usize, counts);
     }
     answer
