@@ -17,22 +17,22 @@ use Rattle.marks.specs.Tracer.{exempt_here, tracer_of}
 use Rattle.marks.specs.Taken.{going_to, TakenUp}
 use Rattle.marks.specs.declared.take.Taken.{Taken}
 
-module _ (image ts m : List ℕ) (p : ℕ) (r : Taken) (m' : List ℕ) where
-  pub under : exempt_here image m p ≡ true → (r.mark ≡ 3) × (r.noted ≡ Nothing) → m' ≡ set m p 3 → TakenUp (going_to image ts) m p r m'
-  under e k q =
+module _ (image ts m : List ℕ) (p : ℕ) (m' : List ℕ) where
+  pub under : exempt_here image m p ≡ true → m' ≡ set m p 3 → TakenUp (going_to image ts) m p (record { mark = 3; noted = Nothing }) m'
+  under e q =
       record {
-        mark_is = k.0 ∙ sym (mark_exempt (going_to image ts) m p e);
-        noted_are = ap places_in k.1 ∙ sym (found_exempt (going_to image ts) m p e);
+        mark_is = sym (mark_exempt (going_to image ts) m p e);
+        noted_are = sym (found_exempt (going_to image ts) m p e);
         marks_are = q ∙ sym (took_exempt (going_to image ts) m p e);
       }
 
-  pub plainly : exempt_here image m p ≡ false → (ps : Places) → (r.mark ≡ 2) × (r.noted ≡ ps) → (m₁ : List ℕ) → m₁ ≡ set m p 2
-      → (places_in ps ≡ fresh (length image) ts m₁) × (m' ≡ note (length image) ts m₁) → TakenUp (going_to image ts) m p r m'
-  plainly e ps k m₁ s q =
+  pub plainly : exempt_here image m p ≡ false → (ps : Places) (m₁ : List ℕ) → m₁ ≡ set m p 2 → places_in ps ≡ fresh (length image) ts m₁
+      → m' ≡ note (length image) ts m₁ → TakenUp (going_to image ts) m p (record { mark = 2; noted = ps }) m'
+  plainly e ps m₁ s f g =
       record {
-        mark_is = k.0 ∙ sym (mark_plain (going_to image ts) m p e);
-        noted_are = ap places_in k.1 ∙ q.0 ∙ ap (fresh (length image) ts) s ∙ sym (found_plain (going_to image ts) m p e);
-        marks_are = q.1 ∙ ap (note (length image) ts) s ∙ sym (took_plain (going_to image ts) m p e);
+        mark_is = sym (mark_plain (going_to image ts) m p e);
+        noted_are = f ∙ ap (fresh (length image) ts) s ∙ sym (found_plain (going_to image ts) m p e);
+        marks_are = g ∙ ap (note (length image) ts) s ∙ sym (took_plain (going_to image ts) m p e);
       }
 
 -- where these are the targets of the instruction at p, it is the image's own tracer that took p up

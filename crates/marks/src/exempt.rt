@@ -10,11 +10,5 @@ use crate::mark::Mark;
 pub fn is_exempt(image: &[u8], marks: &[u8], p: u32) -> bool
     ensures { result ≡ exempt_here image.now marks.now p }
 {
-    if flash::is_flash(image, p) {
-        let before = p as usize - 2;
-        if before < marks.len() {
-            return Mark::is_traced(marks[before]);
-        }
-    }
-    false
+    flash::is_flash(image, p) && Mark::is_traced(Mark::at(marks, p - 2))
 }

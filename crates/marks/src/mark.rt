@@ -1,5 +1,5 @@
 // Marks, one byte for each position.
-ghost use Rattle.std.specs.Prelude.{◌≡◌};
+ghost use Rattle.std.specs.Prelude.{◌≡◌, set, slice_index};
 ghost use Rattle.reach.specs.Mark.{traced_mark};
 
 #[derive(Clone, Copy)]
@@ -19,13 +19,27 @@ impl Mark {
 
     pub const HIGHEST: u8 = 4;
 
+    // The mark of a position; one that is missing counts as untouched.
+    pub fn at(marks: &[u8], p: u32) -> u8
+        ensures { result ≡ slice_index marks.now p }
+    {
+        marks.get(p as usize).copied().unwrap_or(Self::UNTOUCHED)
+    }
+
+    // Sets the mark of a position; past the end there is none.
+    pub fn put(marks: &mut [u8], p: u32, mark: u8)
+        ensures { marks.new ≡ set marks.old p mark }
+    {
+        let at = p as usize;
+        if at < marks.len() {
+            marks[at] = mark;
+        }
+    }
+
     // Whether a mark says traced.
     pub fn is_traced(mark: u8) -> bool
         ensures { result ≡ traced_mark mark }
     {
-        if mark == Self::TRACED {
-            return true;
-        }
-        mark == Self::FLASH
+        matches!(mark, Self::TRACED | Self::FLASH)
     }
 }

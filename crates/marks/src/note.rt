@@ -1,24 +1,18 @@
 // Noting positions in marks.
-ghost use Rattle.std.specs.Prelude.{◌≡◌, [], ◌∷◌, length};
-ghost use Rattle.reach.specs.Note.{note, fresh};
+ghost use Rattle.std.specs.Prelude.{◌≡◌, [], ◌∷◌};
+ghost use Rattle.reach.specs.Note.{note, is_open};
 
 use crate::mark::Mark;
 
-// Notes one position of an image of n bytes: how many became waiting, 0 or 1. One past the marks counts, and changes nothing.
-pub fn note_one(marks: &mut [u8], n: usize, t: u32) -> usize
-    ensures value { result ≡ length (fresh n (t ∷ []) marks.old) }
+// Notes one position of an image of n bytes, which the marks may be longer or shorter than: whether it became waiting. One past the marks
+// did, and changes nothing.
+pub fn note_one(marks: &mut [u8], n: usize, t: u32) -> bool
+    ensures value { result ≡ is_open n marks.old t }
     ensures marks_after { marks.new ≡ note n (t ∷ []) marks.old }
 {
-    let at = t as usize;
-    if n <= at {
-        return 0;
+    if n <= t as usize || Mark::at(marks, t) != Mark::UNTOUCHED {
+        return false;
     }
-    if marks.len() <= at {
-        return 1;
-    }
-    if marks[at] != Mark::UNTOUCHED {
-        return 0;
-    }
-    marks[at] = Mark::WAITING;
-    1
+    Mark::put(marks, t, Mark::WAITING);
+    true
 }

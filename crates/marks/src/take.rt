@@ -1,5 +1,5 @@
 // One position taken up.
-ghost use Rattle.std.specs.Prelude.{◌≡◌, set, [], ◌∷◌};
+ghost use Rattle.std.specs.Prelude.{◌≡◌, [], ◌∷◌};
 ghost use Rattle.reach.specs.Note.{note, fresh};
 ghost use Rattle.targets.specs.Ways.{places_in};
 ghost use Rattle.marks.specs.Taken.{going_to, TakenUp};
@@ -15,20 +15,12 @@ pub struct Taken {
     pub noted: Places,
 }
 
-impl Taken {
-    pub fn new(mark: u8, noted: Places) -> Self
-        ensures { (result.mark ≡ mark) × (result.noted ≡ noted) }
-    {
-        Self { mark, noted }
-    }
-}
-
 // Notes one position: it, where it became waiting.
 pub fn note_place(marks: &mut [u8], n: usize, t: u32) -> Places
     ensures result_value { places_in result ≡ fresh n (t ∷ []) marks.old }
     ensures marks_after { marks.new ≡ note n (t ∷ []) marks.old }
 {
-    if note::note_one(marks, n, t) == 1 {
+    if note::note_one(marks, n, t) {
         return Places::First(t);
     }
     Places::Nothing
@@ -39,18 +31,12 @@ fn note_both(marks: &mut [u8], n: usize, s: u32, t: u32) -> Places
     ensures result_value { places_in result ≡ fresh n (s ∷ t ∷ []) marks.old }
     ensures marks_after { marks.new ≡ note n (s ∷ t ∷ []) marks.old }
 {
-    let a = note::note_one(marks, n, s);
-    let b = note::note_one(marks, n, t);
-    if a == 1 {
-        if b == 1 {
-            return Places::Both(s, t);
-        }
-        return Places::First(s);
+    match (note::note_one(marks, n, s), note::note_one(marks, n, t)) {
+        (true, true) => Places::Both(s, t),
+        (true, false) => Places::First(s),
+        (false, true) => Places::First(t),
+        (false, false) => Places::Nothing,
     }
-    if b == 1 {
-        return Places::First(t);
-    }
-    Places::Nothing
 }
 
 // These positions noted, in their order.
@@ -65,26 +51,21 @@ fn note_all(marks: &mut [u8], n: usize, ps: Places) -> Places
     }
 }
 
-// A mark set; past the end there is none.
-fn set_mark(marks: &mut [u8], p: u32, mark: u8)
-    ensures { marks.new ≡ set marks.old p mark }
-{
-    let at = p as usize;
-    if marks.len() <= at {
-        return;
-    }
-    marks[at] = mark;
-}
-
 // Takes up p, where these are the targets: it is traced, and they are noted. What became waiting is answered.
 pub fn take_up(image: &[u8], marks: &mut [u8], p: u32, to: Places) -> Taken
     ensures { TakenUp (going_to image.now (places_in to)) marks.old p result marks.new }
 {
     if exempt::is_exempt(image, marks, p) {
-        set_mark(marks, p, Mark::FLASH);
-        return Taken::new(Mark::FLASH, Places::Nothing);
+        Mark::put(marks, p, Mark::FLASH);
+        return Taken {
+            mark: Mark::FLASH,
+            noted: Places::Nothing,
+        };
     }
-    set_mark(marks, p, Mark::TRACED);
+    Mark::put(marks, p, Mark::TRACED);
     let noted = note_all(marks, image.len(), to);
-    Taken::new(Mark::TRACED, noted)
+    Taken {
+        mark: Mark::TRACED,
+        noted,
+    }
 }

@@ -1,5 +1,5 @@
 // Damaged marks that a step would read.
-ghost use Rattle.std.specs.Prelude.{◌≡◌, ◌&&◌, [], ◌∷◌, ◌≤◌, ◌<◌, ltb, length, get_or};
+ghost use Rattle.std.specs.Prelude.{◌≡◌, ◌&&◌, [], ◌∷◌, ltb, length, get_or};
 ghost use Rattle.instruction.specs.Answer.{judge};
 ghost use Rattle.marks.specs.Refusals.{damaged};
 ghost use Rattle.trace.specs.Step.{damages, damage_refusals, damage_of};
@@ -12,15 +12,12 @@ use targets::Places;
 
 // Whether a position is inside and its mark is damaged.
 fn is_damaged_mark(marks: &[u8], n: usize, t: u32) -> bool
-    requires { n ≤ length marks.now }
     ensures { result ≡ (ltb t n && damaged (get_or marks.now t 0)) }
 {
-    let at = t as usize;
-    at < n && Mark::HIGHEST < marks[at]
+    (t as usize) < n && Mark::HIGHEST < Mark::at(marks, t)
 }
 
 fn check_one(marks: &[u8], n: usize, t: u32) -> Result<(), u32>
-    requires { n ≤ length marks.now }
     ensures { damage_of result ≡ judge (damages n marks.now (t ∷ [])) tt }
 {
     if is_damaged_mark(marks, n, t) {
@@ -31,7 +28,6 @@ fn check_one(marks: &[u8], n: usize, t: u32) -> Result<(), u32>
 
 // The first of these positions that is damaged is refused.
 fn check_all(marks: &[u8], n: usize, ps: Places) -> Result<(), u32>
-    requires { n ≤ length marks.now }
     ensures { damage_of result ≡ judge (damages n marks.now (places_in ps)) tt }
 {
     match ps {
@@ -46,14 +42,13 @@ fn check_all(marks: &[u8], n: usize, ps: Places) -> Result<(), u32>
 
 // Refuses the first damaged mark, by its position, that a step at p would read besides p's own, where these are the targets.
 pub fn check(image: &[u8], marks: &[u8], p: u32, to: Places) -> Result<(), u32>
-    requires { (p < length image.now) × (length image.now ≤ length marks.now) }
     ensures { damage_of result
         ≡ judge
         (damage_refusals image.now marks.now p (targets (going_to image.now (places_in to)) marks.now p))
         tt }
 {
     if marks::is_flash(image, p) {
-        let before = marks[p as usize - 2];
+        let before = Mark::at(marks, p - 2);
         if Mark::HIGHEST < before {
             return Err(p - 2);
         }

@@ -62,7 +62,7 @@ fn take_next(
     p: u32,
     tail: usize,
 ) -> Result<usize, CutOff>
-    requires p_in_bounds { (p < length image.now) × (length image.now ≤ 65536) × (length image.now ≤ length marks.old) }
+    requires p_in_bounds { (p < length image.now) × (length image.now ≤ 65536) }
     requires p_in_bounds_2 { tail + length (found (tracer_of mode image.now) marks.old p) ≤ length order.old }
     ensures { NextTaken mode image.now marks.old order.old p tail result marks.new order.new }
 {

@@ -8,13 +8,14 @@ use marks::SizeError;
 
 // Notes the entries in their order: how many became waiting.
 fn note_entries(marks: &mut [u8], n: usize, entries: &[u32]) -> usize
-    requires { n ≤ length marks.old }
     ensures value { result ≡ length (fresh n entries.now marks.old) }
     ensures marks_after { marks.new ≡ note n entries.now marks.old }
 {
     let mut set: usize = 0;
     for t in entries {
-        set += marks::note_one(marks, n, *t);
+        if marks::note_one(marks, n, *t) {
+            set += 1;
+        }
     }
     set
 }

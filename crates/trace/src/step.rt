@@ -61,7 +61,6 @@ fn count(noted: Places) -> u32
 
 // A step at a waiting position with these targets.
 fn step_whole(image: &[u8], marks: &mut [u8], p: u32, to: Places) -> Result<Advance, StepError>
-    requires { (p < length image.now) × (length image.now ≤ length marks.old) }
     ensures result_value { stepped_of result ≡ whole_answer (going_to image.now (places_in to)) image.now marks.old p }
     ensures marks_after { marks.new ≡ whole_marks (going_to image.now (places_in to)) image.now marks.old p }
 {

@@ -1,8 +1,10 @@
--- What is not found of `pins::pin`: one position pinned more.
+-- What is not found of `pins::pin`: one position pinned more, or one outside.
 -- Assumes nothing.
-use Rattle.std.proofs.Common.{ap, sym, ◌∙◌}
-use Rattle.reach.proofs.Table.{pin_one, pin_next, pin_none, pin_alone}
+use Rattle.std.proofs.Common.{◌∙◌}
+use Rattle.reach.proofs.Table.{pin_none}
+use Rattle.marks.proofs.Pinning.{one_pinned, none_pinned}
 use Rattle.marks.proofs.pins.pin.Goals as goal
+use Rattle.marks.proofs.pins.pin.Goals.{then-q-n, else-q-n}
 
 pub loop-q-init : goal.loop-q-init
 loop-q-init c = pin_none c.args.n c.args.marks.now
@@ -11,4 +13,7 @@ pub loop-q-preserved : goal.loop-q-preserved
 loop-q-preserved c =
     let a = c.args in
     let l = c.loop-q in
-    c.pin_one.ensures ∙ sym (pin_alone a.n _ l.marks) ∙ ap (pin_one a.n _) l.invariant ∙ sym (pin_next a.n a.pins.now a.marks.now l.q-index c.loop-q-test.true)
+    elim c.if-q-n.branch [
+      | then-q-n w ↦ one_pinned a.n a.pins.now a.marks.now l.marks l.q-index c.loop-q-test.true l.invariant w.if-q-n.true _ (w.marks-is ∙ w.put.ensures)
+      | else-q-n w ↦ none_pinned a.n a.pins.now a.marks.now l.marks l.q-index c.loop-q-test.true l.invariant w.if-q-n.false _ w.marks-is
+    ]

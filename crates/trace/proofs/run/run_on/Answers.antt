@@ -29,7 +29,7 @@ take_next-requires-clause-p_in_bounds c =
     let a = c.args in
     let B = begun_of a.mode _ _ _ _ _ _ _ _ _ c.requires c.begin.ensures c.put_entries-tail.ensures in
     let l = c.loop-head in
-    (stand_inside B.marks_fit B.order_fits l.invariant c.loop-head-test.true, B.small, omega (arith, B.marks_fit, l.invariant.marks_long))
+    (stand_inside B.marks_fit B.order_fits l.invariant c.loop-head-test.true, B.small)
 
 pub take_next-requires-clause-p_in_bounds_2 : goal.take_next-requires-clause-p_in_bounds_2
 take_next-requires-clause-p_in_bounds_2 c =
