@@ -16,8 +16,9 @@ use Rattle.instruction.proofs.Sign.{never}
 use Rattle.map.specs.Ask.{asked_of, first_answer}
 use Rattle.map.specs.Bits.{first_in}
 use Rattle.map.specs.Words.{words_for, data_at}
-use Rattle.map.specs.declared.ask.Asked.{Asked}
-use Rattle.map.specs.declared.ask.Asked.TheVariants.{Told, LongImage, NoRoom, Outside}
+use Rattle.map.specs.declared.ask.AskError.{AskError}
+use Rattle.map.specs.declared.ask.AskError.TheVariants.{LongImage, NoRoom, Outside}
+use Rattle.std.specs.Prelude.{Result, Ok, Err}
 use Rattle.map.proofs.Runs.{first_in_lem, first_before, first_hit}
 use Rattle.marks.specs.Clear.{wiped}
 use Rattle.marks.proofs.Clearing.{wiped_is}
@@ -57,15 +58,15 @@ module _ (ws : List ℕ) (n q : ℕ) (w : length ws ≡ 1024) (h : n ≤ 65536) 
       by true f = absurd (never (ap is_accepted f))
       by false f = ap (value_in r) f
 
-  pub next_none : (x : Asked) → asked_of x ≡ first_answer ws n q → ((r : ℕ) → x ≡ Told r → ⊥) → n ≡ first
+  pub next_none : (x : Result ℕ AskError) → asked_of x ≡ first_answer ws n q → ((r : ℕ) → x ≡ Ok r → ⊥) → n ≡ first
   unfolding first_in
   next_none x e f = by (leb n q) refl
     where
-      told : (x : Asked) → asked_of x ≡ accepted first → ((r : ℕ) → x ≡ Told r → ⊥) → ⊥
-      told (Told r) e f = f r refl
-      told (LongImage j) e f = never (sym (ap is_accepted e))
-      told (NoRoom j) e f = never (sym (ap is_accepted e))
-      told (Outside j) e f = never (sym (ap is_accepted e))
+      told : (x : Result ℕ AskError) → asked_of x ≡ accepted first → ((r : ℕ) → x ≡ Ok r → ⊥) → ⊥
+      told (Ok r) e f = f r refl
+      told (Err (LongImage j)) e f = never (sym (ap is_accepted e))
+      told (Err (NoRoom j)) e f = never (sym (ap is_accepted e))
+      told (Err (Outside j)) e f = never (sym (ap is_accepted e))
 
       by : (b : Bool) → leb n q ≡ b → n ≡ first
       by true g = let l = leb-true n q g in let z : n - q ≡ 0 = omega arith in rw z (omega arith)

@@ -20,8 +20,10 @@ use Rattle.listing.specs.Line.{fields_text}
 use Rattle.listing.specs.Lines.{instr_text, code_by, code_line}
 use Rattle.targets.specs.Here.{here_of}
 use Rattle.targets.specs.Targets.{next_of}
-use Rattle.targets.specs.declared.here.Here.{Here}
-use Rattle.targets.specs.declared.here.Here.TheVariants.{Whole, Cut, Outside}
+use Rattle.std.specs.Prelude.{Result, Ok, Err}
+use Rattle.instruction.specs.declared.instr.Instr.{Instr}
+use Rattle.targets.specs.declared.not_whole.NotWhole.{NotWhole}
+use Rattle.targets.specs.declared.not_whole.NotWhole.TheVariants.{Cut, Outside}
 use Rattle.read_back.specs.Line.{is_label, is_found, is_data, is_code}
 use Rattle.read_back.specs.Offsets.{are_places, is_label_rest, is_found_rest, is_data_rest}
 use Rattle.read_back.proofs.Lines.{few, five}
@@ -119,14 +121,14 @@ pub seventh : (mode : Mode) (p : ℕ) (bytes : List ℕ) → 0 < length (code_li
 unfolding code_line instr_text fields_text hex4 hex3 hex2
 seventh mode p bytes h = by (here_of bytes 0) h
   where
-    by : (x : Here) → 0 < length (code_by mode p bytes x) → get_or (code_by mode p bytes x) 6 0 ≡ 9
-    by (Whole i) h = is (ltb 65536 (next_of p i)) h
+    by : (x : Result Instr NotWhole) → 0 < length (code_by mode p bytes x) → get_or (code_by mode p bytes x) 6 0 ≡ 9
+    by (Ok i) h = is (ltb 65536 (next_of p i)) h
       where
         is : (b : Bool) → 0 < length (cond b [] (instr_text mode p i bytes)) → get_or (cond b [] (instr_text mode p i bytes)) 6 0 ≡ 9
         is true h = absurd (omega arith)
         is false h = refl
-    by (Cut c) h = absurd (omega arith)
-    by Outside h = absurd (omega arith)
+    by (Err (Cut c)) h = absurd (omega arith)
+    by (Err Outside) h = absurd (omega arith)
 
 pub not_code : (mode : Mode) (p : ℕ) (bytes : List ℕ) (c t a b d e x : ℕ) (r : List ℕ) → eqb x 9 ≡ false
     → is_code mode p bytes (c ∷ t ∷ a ∷ b ∷ d ∷ e ∷ x ∷ r) ≡ false

@@ -5,7 +5,7 @@ ghost use Rattle.map.specs.Words.{data_at};
 ghost use Rattle.read_back.specs.Noted.{noted_by, marks_in};
 
 use crate::place::Record;
-use map::{Asked, bits};
+use map::bits;
 use marks::Mark;
 
 pub const WORDS: usize = 1_024;
@@ -34,7 +34,7 @@ fn next(table: &[u64], n: usize, q: usize) -> usize
     requires { (length table.now ≡ 1024) × (n ≤ 65536) × (q ≤ n) }
     ensures { result ≡ first_in (data_at table.now) (n - q) q }
 {
-    let Asked::Told(r) = map::first_data(table, n, q as u32) else {
+    let Ok(r) = map::first_data(table, n, q as u32) else {
         return n;
     };
     r as usize
@@ -47,6 +47,7 @@ pub fn put_marks(table: &[u64], n: usize, marks: &mut [u8])
 {
     marks::clear(marks, n);
     let mut i = next(table, n, 0);
+    // A `while`, since what is found says where the search goes on.
     while i < n {
         marks[i] = Mark::TRACED;
         i = next(table, n, i + 1);

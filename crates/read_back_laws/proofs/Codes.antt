@@ -20,7 +20,7 @@ use Rattle.instruction.proofs.Decoding.{found}
 use Rattle.instruction.specs.declared.mode.Mode.{Mode}
 use Rattle.targets.specs.At.{form_here, size_here, fits_here, instr_here}
 use Rattle.targets.specs.Here.{here_of}
-use Rattle.targets.specs.declared.here.Here.TheVariants.{Whole}
+use Rattle.std.specs.Prelude.{Ok}
 use Rattle.targets.proofs.HereIs.{answer, whole_here}
 use Rattle.targets.proofs.Within.{Within, within, form_is, form_here_lem}
 use Rattle.listing.specs.Hex.{hex4, hexes}
@@ -61,7 +61,7 @@ module _ (mode : Mode) (image : List ℕ) (B : Bytes image) (p : ℕ) (h : p < l
   first : get_or bytes 0 0 ≡ get_or image p 0
   first = get_or-take (size_here image p) (drop p image) 0 0 there.least ∙ get_or-drop p image 0 0 ∙ ap (λ (n : ℕ). get_or image n 0) (add-zero p)
 
-  whole_own : Whole instr ≡ here_of bytes 0
+  whole_own : Ok instr ≡ here_of bytes 0
   unfolding instr_here
   whole_own =
       whole_here bytes 0 (omega (arith, bytes_size, there.least)) instr
