@@ -3,14 +3,15 @@
 use mathlib.Core.Path.{◌≡◌, refl, sym, ap, subst, ◌∙◌}
 use mathlib.Core.Bool.{true, false, not}
 use mathlib.Core.List.{List, [], ◌∷◌, ◌++◌, append_assoc}
-use Prim.Native.Nat.{ℕ}
+use Prim.Native.Nat.{ℕ, ◌≤◌}
 use lib.IntN.{pos}
 use lib.ListN.{length}
+use borrow.Author.Tests.{le-ltb}
 use Rattle.instruction.specs.Answer.{Answer, accepted, refused, Refusal, refuse, judge, after}
 use Rattle.instruction.proofs.Judging.{pass, stop, done, past_all}
 use Rattle.targets.specs.At.{size_here}
 use Rattle.views.specs.Positions.{traced_at}
-use Rattle.views.specs.View.{view_refused, view_refusals, room_refusals}
+use Rattle.views.specs.View.{Sound, view_refused, view_refusals, room_refusals}
 use Rattle.views.specs.declared.view.ViewError.{ViewError}
 use Rattle.views.proofs.Viewing.{Judged, refused_first, refused_after}
 use Rattle.map.specs.Words.{words_for}
@@ -30,6 +31,11 @@ module _ (image m ws : List ℕ) (p : ℕ) where
   -- k is how many words are asked for
   pub as_roomed : (k : ℕ) → k ≡ words_for (length image) → (r : Answer (Unit {0})) → Judged (room_refusals image m (length ws) k) r → Judged roomed r
   as_roomed k e r f = subst (λ (j : ℕ). Judged (room_refusals image m (length ws) j) r) e f
+
+  -- nothing is damaged, and there is room
+  pub room_left : Sound image m → words_for (length image) ≤ length ws → Judged roomed (accepted tt)
+  room_left s h =
+      sym (past_all _ 0 tt (view_refusals image m) s ∙ pass _ _ _ (le-ltb (length ws) (words_for (length image)) h) ∙ done tt)
 
   whole : judge (roomed ++ untraced) (size_here image p) ≡ update_answer image m ws p
   unfolding update_answer

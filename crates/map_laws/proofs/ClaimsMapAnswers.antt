@@ -13,7 +13,7 @@ use Rattle.map.specs.Bits.{bit, count_in, first_in}
 use Rattle.map.proofs.Digits.{first_same}
 use Rattle.map.specs.Words.{words_for, code_at, data_at}
 use Rattle.map.specs.Ask.{test_answer, count_answer, first_answer}
-use Rattle.map.proofs.Asking.{told}
+use Rattle.map.proofs.Asking.{allowed, told_all}
 use Rattle.views.specs.Mask.{masked, mask_of}
 use Rattle.views.proofs.Masking.{mask_length}
 use Rattle.views.proofs.Ups.{up_at}
@@ -62,10 +62,10 @@ module _ (image m : List ℕ) where
     answers : Answers mask ws n
     unfolding test_answer count_answer first_answer
     answers = record {
-      test = λ p h. sym (told ws n (leb n p) p (bit (code_at ws p)) fits room _ (inside p h) (lt-leb n p h));
-      count = λ b e l h. sym (told ws n (ltb e b || ltb n e) b (count_in (code_at ws) (e - b) b) fits room _ (sym (counted b e l h))
-          (ap₂ (λ (x y : Bool). x || y) (le-ltb e b l) (le-ltb n e h)));
-      first = λ p h. sym (told ws n (leb n p) p (first_in (data_at ws) (n - p) p) fits room _ (firsts p h) (lt-leb n p h));
+      test = λ p h. sym (told_all ws n (leb n p) p (bit (code_at ws p)) (allowed ws n (leb n p) p fits room (lt-leb n p h)) _ (inside p h));
+      count = λ b e l h. sym (told_all ws n (ltb e b || ltb n e) b (count_in (code_at ws) (e - b) b)
+          (allowed ws n (ltb e b || ltb n e) b fits room (ap₂ (λ (x y : Bool). x || y) (le-ltb e b l) (le-ltb n e h))) _ (sym (counted b e l h)));
+      first = λ p h. sym (told_all ws n (leb n p) p (first_in (data_at ws) (n - p) p) (allowed ws n (leb n p) p fits room (lt-leb n p h)) _ (firsts p h));
     }
       where
         counted : (b e : ℕ) → b ≤ e → e ≤ n → count_in (code_at ws) (e - b) b ≡ sum (take (e - b) (drop b mask))

@@ -23,7 +23,8 @@ use Rattle.map.specs.Update.{update_answer, update_words}
 use Rattle.map.proofs.Packing.{map_same, stretch_more, covered_append}
 use Rattle.map.proofs.Marking.{packed_mask, packed_length}
 use Rattle.map.proofs.Sounding.{undamaged, fits_within}
-use Rattle.map.proofs.Updating.{set_all}
+use Rattle.views.proofs.TracedAt.{by_mark}
+use Rattle.map.proofs.Updating.{room_left, set_all}
 use Rattle.map_laws.specs.ClaimsMap.{KeptUp, UpdatedIsBuilt}
 use Rattle.map_laws.proofs.Built.{Done, built, builds}
 use Rattle.map_laws.proofs.Stepped.{masked_more, traced_here, sound_after}
@@ -81,7 +82,8 @@ module _ (mode : Mode) (image m ws : List ℕ) (p : ℕ) (d : Done image m ws) (
 
   holds : Holds m'
   holds =
-      let u = set_all image m' (build_words image m ws) p after_sound long inside (traced_here mode image m p w.room w.ready) size refl _ refl in
+      let u = set_all image m' (build_words image m ws) p (room_left image m' (build_words image m ws) p after_sound long)
+      (sym (by_mark image m' p inside) ∙ traced_here mode image m p w.room w.ready) size refl _ refl in
       ((builds image m' ws after_sound d.room).0, sym u.0, sym u.1 ∙ kept_up)
 
   pub keeps : KeptUp mode image m ws p

@@ -21,6 +21,7 @@ use Rattle.views.specs.Mask.{under, covers, masked}
 use Rattle.views.specs.Positions.{up_from, some}
 use Rattle.views.specs.View.{Sound, damaged_here}
 use Rattle.views.proofs.Refusing.{left_from_lem, sound}
+use Rattle.views.proofs.Viewing.{is_sound}
 use Rattle.views_laws.proofs.ClaimsSoundRun.{step_good}
 use Rattle.map.proofs.Packing.{begins, begins_none}
 
@@ -114,5 +115,5 @@ module _ (mode : Mode) (image m : List ℕ) (p : ℕ) (room : length image ≤ l
 
   pub sound_after : n ≤ 65536 → ((q : ℕ) → q < n → damaged_here image m q ≡ false) → Sound image m'
   sound_after fits g =
-      sym (sound image m' fits (let e = length_took (tracer_of mode image) m p in omega arith) n (omega arith)
+      is_sound image m' (sound image m' fits (let e = length_took (tracer_of mode image) m p in omega arith) n (omega arith)
       (left_from_lem image m' n (omega arith) (undamaged_after g)))

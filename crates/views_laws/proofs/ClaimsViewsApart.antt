@@ -5,32 +5,34 @@ use mathlib.Core.Path.{◌≡◌, refl}
 use mathlib.Core.Bool.{cond}
 use mathlib.Core.List.{List, [], ◌∷◌}
 use lib.Dec.{eqb}
+use Rattle.std.proofs.Common.{Result, Ok, Err}
+use Rattle.marks.specs.declared.sizes.SizeError.TheVariants.{LongImage, ShortMarks}
 use Rattle.instruction.specs.Answer.{Answer, accepted, refused}
 use Rattle.instruction_laws.proofs.Undone.{undone, number_at}
 use Rattle.targets.specs.Ways.{places_in, places_named}
 use Rattle.targets.specs.declared.place.Places.{Places}
 use Rattle.targets.specs.declared.place.Places.TheVariants.{Nothing, First, Both}
 use Rattle.views.specs.View.{viewed_of}
-use Rattle.views.specs.declared.view.Viewed.{Viewed}
-use Rattle.views.specs.declared.view.Viewed.TheVariants.{Written, LongImage, ShortMarks, Damaged, NoRoom}
+use Rattle.views.specs.declared.view.ViewError.{ViewError}
+use Rattle.views.specs.declared.view.ViewError.TheVariants.{Size, Damaged, NoRoom}
 use Rattle.views.specs.Overlaps.{overlaps_in}
 use Rattle.views.specs.declared.overlaps.Overlaps.{Overlaps}
 use Rattle.views.specs.declared.overlaps.Overlaps.TheVariants as over
 use Rattle.views_laws.specs.ClaimsViews.{ViewedApart, OverlapsApart, PlacesApart}
 
-abbrev answered : Answer ℕ → Viewed
-answered (accepted n) = Written n
+abbrev answered : Answer ℕ → Result ℕ ViewError
+answered (accepted n) = Ok n
 answered (refused n vs) =
-    cond (eqb n 1) (LongImage (number_at vs 0))
-    (cond (eqb n 2) (ShortMarks (number_at vs 0))
-    (cond (eqb n 6) (Damaged (number_at vs 0)) (NoRoom (number_at vs 0))))
+    cond (eqb n 1) (Err (Size (LongImage (number_at vs 0))))
+    (cond (eqb n 2) (Err (Size (ShortMarks (number_at vs 0))))
+    (cond (eqb n 6) (Err (Damaged (number_at vs 0))) (Err (NoRoom (number_at vs 0)))))
 
-back : (r : Viewed) → answered (viewed_of r) ≡ r
-back (Written n) = refl
-back (LongImage n) = refl
-back (ShortMarks n) = refl
-back (Damaged p) = refl
-back (NoRoom n) = refl
+back : (r : Result ℕ ViewError) → answered (viewed_of r) ≡ r
+back (Ok n) = refl
+back (Err (Size (LongImage n))) = refl
+back (Err (Size (ShortMarks n))) = refl
+back (Err (Damaged p)) = refl
+back (Err (NoRoom n)) = refl
 
 pub viewed_apart : ViewedApart
 viewed_apart = undone viewed_of answered back
