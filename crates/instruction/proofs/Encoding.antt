@@ -1,8 +1,11 @@
 -- The one answer of encode and the one content of its room, from the tests of the code.
 -- Assumes nothing.
-use Rattle.std.proofs.Common.{◌≡◌, ℕ, ◌<◌, ◌≤◌, Bool, true, false, leb, List, [], ◌∷◌, ◌++◌, length, get_or, drop, ℤ, pos, sym, refl, ap, ◌∙◌, le-ltb, lt-ltb, leb-false, leb-true}
+use Rattle.std.proofs.Common.{◌≡◌, ℕ, ◌<◌, ◌≤◌, Bool, true, false, leb, cond, List, [], ◌∷◌, ◌++◌, length, get_or, drop, ℤ, pos, sym, refl, ap, ◌∙◌, le-ltb, lt-ltb, leb-false, leb-true}
 use Rattle.instruction.specs.Answer.{Answer, accepted, refused, after}
-use Rattle.instruction.specs.Encode.{form_in, misfits, fit_answer, encode_answer, encode_room, instr_bytes}
+use Rattle.std.specs.Prelude.{Result, Ok, Err}
+use Rattle.instruction.specs.declared.encode.EncodeError.{EncodeError}
+use Rattle.instruction.specs.declared.encode.EncodeError.TheVariants.{NoRoom}
+use Rattle.instruction.specs.Encode.{encoded_of, form_in, misfits, fit_answer, encode_answer, encode_room, instr_bytes}
 use Rattle.instruction.specs.Range.{unfit}
 use Rattle.instruction.specs.Forms.{form_at, bits, size_of}
 use Rattle.instruction.specs.Kinds.{kind_at, three_of}
@@ -103,26 +106,36 @@ module _ (i : Instr) (room : List ℕ) where
 
   -- the same of what the code wrote by the shape
   module _ (v : Parts) (apart : v ≡ parts_of i) (t : Shape) (shape : t ≡ (form_at v.form).shape) (u : ℕ)
-      (fixed : u ≡ value (get_or (bits (form_at v.form)) 0 []) []) (fit : accepted tt ≡ fit_answer i) (n : ℕ) (size : n ≡ length (blank t)) where
+      (fixed : u ≡ value (get_or (bits (form_at v.form)) 0 []) []) (fit : accepted tt ≡ fit_answer i) where
     abbrev room' : List ℕ
     room' = written_room u t v.a v.b v.c room
 
     needed : length (blank t) ≡ need
     needed = sized v.form t (form_small i apart) shape ∙ ap (λ (w : Parts). size_of (form_at w.form)) apart
 
-    pub short : leb (length (blank t)) (length room) ≡ false → (s : List ℕ) → s ≡ room'
-        → (refused 11 (pos n ∷ []) ≡ encode_answer i room) × (s ≡ encode_room i room)
+    short : leb (length (blank t)) (length room) ≡ false → (s : List ℕ) → s ≡ room'
+        → (refused 11 (pos (length (blank t)) ∷ []) ≡ encode_answer i room) × (s ≡ encode_room i room)
     unfolding written_room
     short h s e =
         let l : length room < need = rw (← needed) (leb-false (length (blank t)) (length room) h) in
         let o : s ≡ room = e ∙ rw h refl in
-        rw (size ∙ needed, o) (no_room_lem fit l)
+        rw (needed, o) (no_room_lem fit l)
 
-    pub wrote : leb (length (blank t)) (length room) ≡ true → (s : List ℕ) → s ≡ room' → (accepted n ≡ encode_answer i room) × (s ≡ encode_room i room)
+    wrote : leb (length (blank t)) (length room) ≡ true → (s : List ℕ) → s ≡ room' → (accepted (length (blank t)) ≡ encode_answer i room) × (s ≡ encode_room i room)
     unfolding written_room instr_bytes
     wrote h s e =
         let l : need ≤ length room = rw (← needed) (leb-true (length (blank t)) (length room) h) in
         let ns : List ℕ = code_of v.a ∷ code_of v.b ∷ code_of v.c ∷ [] in
         let b : bytes_by u t ns ≡ instr_bytes i = by_shape v.form t (form_small i apart) shape u fixed ns ∙ rw apart refl in
         let o : instr_bytes i ++ drop need room ≡ s = sym (e ∙ rw (h, b, needed) refl) in
-        rw (size ∙ needed) (writes fit l s o)
+        rw needed (writes fit l s o)
+
+    -- as the writing answers
+    pub written : (r : Result ℕ EncodeError)
+        → r ≡ cond (leb (length (blank t)) (length room)) (Ok (length (blank t))) (Err (NoRoom (length (blank t)))) → (s : List ℕ) → s ≡ room'
+        → (encoded_of r ≡ encode_answer i room) × (s ≡ encode_room i room)
+    written r e s f = by (leb (length (blank t)) (length room)) refl
+      where
+        by : (x : Bool) → leb (length (blank t)) (length room) ≡ x → (encoded_of r ≡ encode_answer i room) × (s ≡ encode_room i room)
+        by true h = let p = wrote h s f in let g : r ≡ Ok (length (blank t)) = rw h at e in (rw g p.0, p.1)
+        by false h = let p = short h s f in let g : r ≡ Err (NoRoom (length (blank t))) = rw h at e in (rw g p.0, p.1)

@@ -2,13 +2,17 @@
 ghost use Rattle.std.specs.Prelude.{◌≡◌, ◌<◌};
 ghost use Rattle.instruction.specs.Parts.{made_of};
 
-use crate::instr::Instr;
+use crate::instr::{Instr, Parts};
 
-pub fn build(form: u8, a: i32, b: i32, c: i32) -> Instr
-    requires { form < 70 }
-    ensures { result ≡ made_of (record { form = form; a = a; b = b; c = c }) }
+#[tactic(auto, unfolding(crate::specs::Parts::made_of, crate::specs::Forms::form_at, crate::specs::Forms::forms))]
+pub fn build(v: Parts) -> Instr
+    requires { v.form < 70 }
+    ensures { result ≡ made_of v }
 {
-    match form {
+    let a = v.a;
+    let b = v.b;
+    let c = v.c;
+    match v.form {
         0 => Instr::Add_i8(a),
         1 => Instr::Add_d9(a),
         2 => Instr::Add_Ri(a),

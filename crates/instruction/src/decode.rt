@@ -45,7 +45,6 @@ impl Instr {
     pub fn decode(bytes: &[u8]) -> Result<Instr, DecodeError>
         ensures { decoded_of result ≡ decode_answer bytes.now }
     {
-        let v = Parts::decode(bytes)?;
-        Ok(build::build(v.form, v.a, v.b, v.c))
+        Ok(build::build(Parts::decode(bytes)?))
     }
 }

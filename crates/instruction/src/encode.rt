@@ -6,7 +6,7 @@ ghost use Rattle.instruction.specs.Encode.{fit_of, fit_answer, encoded_of, encod
 
 use crate::answer::Misfit;
 use crate::instr::Instr;
-use crate::{form, layout, write};
+use crate::{form, write};
 
 // Why an instruction is not written.
 #[derive(Clone, Copy, Debug, PartialEq, Eq)]
@@ -46,10 +46,6 @@ impl Instr {
         self.fit()?;
         let v = self.apart();
         let shape = form::shape_of(v.form);
-        let n = layout::size(shape);
-        if write::write(out, shape, form::fixed_of(v.form), v.a, v.b, v.c) {
-            return Ok(n);
-        }
-        Err(EncodeError::NoRoom(n))
+        write::write(out, shape, form::fixed_of(v.form), v)
     }
 }

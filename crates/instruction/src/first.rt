@@ -42,6 +42,7 @@ fn bits(first: u8) -> u32
 }
 
 // Where control goes, by the upper two bits.
+#[tactic(auto, unfolding(crate::specs::FirstBits::flow_at))]
 fn flow_by(upper: u32) -> Flow
     ensures { result ≡ flow_at upper }
 {
@@ -53,6 +54,7 @@ fn flow_by(upper: u32) -> Flow
     }
 }
 
+#[tactic(auto, using(crate::proofs::FirstBytes::sized))]
 pub fn size_by(first: u8) -> u32
     ensures { result ≡ size_of (form_at (form_of first)) }
 {
@@ -66,17 +68,14 @@ pub struct FirstByte {
 }
 
 impl FirstByte {
-    pub fn new(size: u32, flow: Flow) -> Self
-        ensures { result ≡ record { size = size; flow = flow } }
-    {
-        Self { size, flow }
-    }
-
     // What this first byte says.
     pub fn read(first: u8) -> Self
         ensures { result ≡ first_says first }
     {
         let said = bits(first);
-        Self::new(said % 4, flow_by(said / 4))
+        Self {
+            size: said % 4,
+            flow: flow_by(said / 4),
+        }
     }
 }

@@ -22,26 +22,20 @@ fn flow_of(form: u8) -> Flow
     requires { form < 70 }
     ensures { result ≡ flow_of form }
 {
-    if form < 42 {
-        return Flow::Next;
+    match form {
+        0..=41 => Flow::Next,
+        42..=45 => Flow::Jump,
+        46..=61 => Flow::Branch,
+        62..=63 => Flow::Stop,
+        _ => Flow::Next,
     }
-    if form < 46 {
-        return Flow::Jump;
-    }
-    if form < 62 {
-        return Flow::Branch;
-    }
-    if form < 64 {
-        return Flow::Stop;
-    }
-    Flow::Next
 }
 
 impl Instr {
+    #[tactic(auto, using(crate::proofs::Known::form_small))]
     pub fn flow(self) -> Flow
         ensures { result ≡ flow_of (parts_of self).form }
     {
-        let v = self.apart();
-        flow_of(v.form)
+        flow_of(self.apart().form)
     }
 }

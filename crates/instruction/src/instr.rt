@@ -101,6 +101,7 @@ impl Parts {
     }
 
     // A number that no form has has no operands and no bytes.
+    #[tactic(auto, using(crate::proofs::NoForm::no_kinds))]
     pub fn kinds(self) -> Kinds
         ensures { result ≡ three_of (form_at self.form).shape }
     {
@@ -112,6 +113,7 @@ impl Parts {
     }
 
     // The number of bytes.
+    #[tactic(auto, using(crate::proofs::NoForm::no_bytes, crate::proofs::Shapes::sized))]
     pub fn size(self) -> usize
         ensures { result ≡ size_of (form_at self.form) }
     {
@@ -131,6 +133,7 @@ impl Instr {
     pub const FORMS: u8 = 70;
 
     // One of the three functions that go through all forms: the instruction taken apart.
+    #[tactic(auto, unfolding(crate::specs::Parts::parts_of, crate::specs::Forms::form_named, crate::specs::Forms::forms))]
     pub fn apart(self) -> Parts
         ensures { result ≡ parts_of self }
     {
@@ -212,7 +215,7 @@ impl Instr {
     pub fn with_first(first: u8, a: i32, b: i32, c: i32) -> Instr
         ensures { result ≡ made_of (record { form = rule_of first; a = a; b = b; c = c }) }
     {
-        build::build(form::lookup(first), a, b, c)
+        build::build(Parts::new(form::lookup(first), a, b, c))
     }
 
     pub fn kinds(self) -> Kinds

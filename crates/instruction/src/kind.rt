@@ -28,17 +28,7 @@ impl Kind {
     pub fn is_given(self) -> bool
         ensures { result ≡ is_given self }
     {
-        match self {
-            Kind::Absent => false,
-            Kind::Immediate => true,
-            Kind::Direct => true,
-            Kind::Register => true,
-            Kind::BitNumber => true,
-            Kind::Page => true,
-            Kind::Far => true,
-            Kind::Short => true,
-            Kind::Long => true,
-        }
+        !matches!(self, Kind::Absent)
     }
 }
 
@@ -91,6 +81,7 @@ fn two(a: Kind, b: Kind) -> Kinds
 }
 
 impl Shape {
+    #[tactic(auto, unfolding(crate::specs::Kinds::kinds_of))]
     pub fn kinds(self) -> Kinds
         ensures { result ≡ three_of self }
     {

@@ -12,6 +12,7 @@ pub struct Fields {
     pub c: i32,
 }
 
+#[tactic(auto, unfolding(crate::specs::Layout::blank))]
 pub fn size(shape: Shape) -> usize
     ensures { result ≡ length (blank shape) }
 {

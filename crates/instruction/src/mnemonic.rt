@@ -86,6 +86,7 @@ fn letters(form: u8) -> u64
 
 impl Parts {
     // A number that no form has has no letters.
+    #[tactic(auto, using(crate::proofs::NoForm::no_letters))]
     pub fn mnemonic(self) -> u64
         ensures { result ≡ packed_letters (mnemonic_of self.form) }
     {

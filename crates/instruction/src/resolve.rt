@@ -3,7 +3,7 @@
 ghost use Rattle.std.specs.Prelude.{◌≡◌};
 ghost use Rattle.instruction.specs.Resolve.{resolved_of, resolve_answer};
 
-use crate::instr::Instr;
+use crate::instr::{Instr, Parts};
 use crate::mode::Mode;
 use crate::resolve_operand::ResolveError;
 use crate::{build, resolve_operand};
@@ -15,7 +15,7 @@ impl Instr {
     {
         let v = self.apart();
         let k = self.kinds();
-        let f = resolve_operand::resolve(mode, k, v.a, v.b, v.c, base)?;
-        Ok(build::build(v.form, f.a, f.b, f.c))
+        let f = resolve_operand::resolve(mode, k, v, base)?;
+        Ok(build::build(Parts::new(v.form, f.a, f.b, f.c)))
     }
 }

@@ -10,7 +10,7 @@ ghost use Rattle.instruction.specs.declared.resolve_operand.ResolveError.TheVari
 ghost use Rattle.instruction.specs.ResolveOperand.{no_address, nearest, difference, operand_refusals, field_of, operand_answer, resolution_of, fields_answer};
 
 use crate::answer::{Misfit, Tops};
-use crate::instr::Instr;
+use crate::instr::{Instr, Parts};
 use crate::kind::{Kind, Kinds};
 use crate::layout::Fields;
 use crate::mode::Mode;
@@ -53,6 +53,14 @@ impl From<OperandError> for ResolveError {
     }
 }
 
+// The address after an instruction, which may be the end of memory, and the mode in which its operands are resolved from there.
+#[derive(Clone, Copy)]
+struct Base {
+    mode: Mode,
+    address: u32,
+    ghost in_memory: { address ≤ 65536 },
+}
+
 // A number that is its own field: immediate, d9, bit, Ri, and the address of Jmpf and Callf.
 fn plain(n: u8, kind: Kind, z: i32) -> Result<i32, OperandError>
     ensures { operand_answer result ≡ judge (refuse (unfit kind z) 7 (pos n ∷ z ∷ []) ∷ []) z }
@@ -60,110 +68,106 @@ fn plain(n: u8, kind: Kind, z: i32) -> Result<i32, OperandError>
     Ok(kind.held(n, z)?)
 }
 
-// The address of Jmp and Call: on the base's page, of which the field keeps twelve bits. The modes do not differ here.
-fn page(n: u8, z: i32, base: u32) -> Result<i32, OperandError>
-    ensures { operand_answer result ≡ judge (operand_refusals Unwrapped base n Page z) (field_of Unwrapped base Page z) }
-{
-    let address = signed::code(Kind::Far.held(n, z)?);
-    let there = address / 4096 % 16;
-    let here = base / 4096 % 16;
-    if there != here {
-        return Err(OperandError::OtherPage(Tops {
-            base: here as u8,
-            address: there as u8,
-        }));
+impl Base {
+    // The address of Jmp and Call: on the base's page, of which the field keeps twelve bits. The modes do not differ here.
+    fn page(self, n: u8, z: i32) -> Result<i32, OperandError>
+        ensures { operand_answer result ≡ judge (operand_refusals Unwrapped self.address n Page z) (field_of Unwrapped self.address Page z) }
+    {
+        let address = signed::code(Kind::Far.held(n, z)?);
+        let there = address / 4096 % 16;
+        let here = self.address / 4096 % 16;
+        if there != here {
+            return Err(OperandError::OtherPage(Tops {
+                base: here as u8,
+                address: there as u8,
+            }));
+        }
+        Ok(signed::num(address % 4096))
     }
-    Ok(signed::num(address % 4096))
+
+    // An address less the base, brought to -32,768 to 32,767 modulo 65,536.
+    fn nearest(self, address: i32) -> i32
+        requires { no_address address ≡ false }
+        ensures { result ≡ nearest (address -ℤ pos self.address) }
+    {
+        let there = (signed::code(address) % 65536) as u16;
+        let up = std::num::wrapping_sub_u16(there, (self.address % 65536) as u16);
+        if up < 32_768 {
+            up as i32
+        } else {
+            up as i32 - 65_536
+        }
+    }
+
+    // How far an address lies from the base, as the mode has it.
+    fn difference(self, address: i32) -> i32
+        requires { no_address address ≡ false }
+        ensures { result ≡ difference self.mode address self.address }
+    {
+        match self.mode {
+            Mode::Unwrapped => signed::minus(address, self.address),
+            Mode::Wrapping => self.nearest(address),
+        }
+    }
+
+    // The address of a short branch, as a signed offset from the base.
+    fn short(self, address: i32) -> Result<i32, OperandError>
+        ensures { operand_answer result ≡ judge (operand_refusals self.mode self.address 0 Short address) (field_of self.mode self.address Short address) }
+    {
+        if range::is_outside(0, Instr::HIGHEST_ADDRESS, address) {
+            return Err(OperandError::NoAddress(address));
+        }
+        let offset = self.difference(address);
+        if range::is_outside(-128, 127, offset) {
+            return Err(OperandError::TooFar(offset));
+        }
+        Ok(offset)
+    }
+
+    // The address of Brf and Callr, as an offset from the byte before the base that wraps at sixteen bits, in either mode.
+    fn long(self, z: i32) -> Result<i32, OperandError>
+        ensures { operand_answer result ≡ judge (operand_refusals Unwrapped self.address 0 Long z) (field_of Unwrapped self.address Long z) }
+    {
+        if range::is_outside(0, Instr::HIGHEST_ADDRESS, z) {
+            return Err(OperandError::NoAddress(z));
+        }
+        let address = (signed::code(z) % 65536) as u16;
+        let back = std::num::wrapping_sub_u16(address, (self.address % 65536) as u16);
+        let offset = std::num::wrapping_add_u16(back, 1);
+        Ok(signed::num(offset as u32))
+    }
+
+    // Operand n, counted from 1.
+    fn operand(self, n: u8, kind: Kind, z: i32) -> Result<i32, OperandError>
+        ensures { operand_answer result ≡ judge (operand_refusals self.mode self.address n kind z) (field_of self.mode self.address kind z) }
+    {
+        match kind {
+            Kind::Absent => Ok(z),
+            Kind::Immediate => plain(n, kind, z),
+            Kind::Direct => plain(n, kind, z),
+            Kind::Register => plain(n, kind, z),
+            Kind::BitNumber => plain(n, kind, z),
+            Kind::Page => self.page(n, z),
+            Kind::Far => plain(n, kind, z),
+            Kind::Short => self.short(z),
+            Kind::Long => self.long(z),
+        }
+    }
 }
 
-// An address less the base, brought to -32,768 to 32,767 modulo 65,536.
-fn nearest(address: i32, base: u32) -> i32
-    requires { (no_address address ≡ false) × (base ≤ 65536) }
-    ensures { result ≡ nearest (address -ℤ pos base) }
-{
-    let there = (signed::code(address) % 65536) as u16;
-    let up = std::num::wrapping_sub_u16(there, (base % 65536) as u16);
-    if up < 32_768 {
-        up as i32
-    } else {
-        up as i32 - 65_536
-    }
-}
-
-// How far an address lies from the base, as the mode has it.
-fn difference(mode: Mode, address: i32, base: u32) -> i32
-    requires { (no_address address ≡ false) × (base ≤ 65536) }
-    ensures { result ≡ difference mode address base }
-{
-    match mode {
-        Mode::Unwrapped => signed::minus(address, base),
-        Mode::Wrapping => nearest(address, base),
-    }
-}
-
-// The address of a short branch, as a signed offset from the base.
-fn short(mode: Mode, address: i32, base: u32) -> Result<i32, OperandError>
-    requires { base ≤ 65536 }
-    ensures { operand_answer result ≡ judge (operand_refusals mode base 0 Short address) (field_of mode base Short address) }
-{
-    if range::is_outside(0, Instr::HIGHEST_ADDRESS, address) {
-        return Err(OperandError::NoAddress(address));
-    }
-    let offset = difference(mode, address, base);
-    if range::is_outside(-128, 127, offset) {
-        return Err(OperandError::TooFar(offset));
-    }
-    Ok(offset)
-}
-
-// The address of Brf and Callr, as an offset from the byte before the base that wraps at sixteen bits, in either mode.
-fn long(z: i32, base: u32) -> Result<i32, OperandError>
-    requires { base ≤ 65536 }
-    ensures { operand_answer result ≡ judge (operand_refusals Unwrapped base 0 Long z) (field_of Unwrapped base Long z) }
-{
-    if range::is_outside(0, Instr::HIGHEST_ADDRESS, z) {
-        return Err(OperandError::NoAddress(z));
-    }
-    let address = (signed::code(z) % 65536) as u16;
-    let back = std::num::wrapping_sub_u16(address, (base % 65536) as u16);
-    let offset = std::num::wrapping_add_u16(back, 1);
-    Ok(signed::num(offset as u32))
-}
-
-// Operand n, counted from 1.
-fn operand(mode: Mode, n: u8, kind: Kind, z: i32, base: u32) -> Result<i32, OperandError>
-    requires { base ≤ 65536 }
-    ensures { operand_answer result ≡ judge (operand_refusals mode base n kind z) (field_of mode base kind z) }
-{
-    match kind {
-        Kind::Absent => Ok(z),
-        Kind::Immediate => plain(n, kind, z),
-        Kind::Direct => plain(n, kind, z),
-        Kind::Register => plain(n, kind, z),
-        Kind::BitNumber => plain(n, kind, z),
-        Kind::Page => page(n, z, base),
-        Kind::Far => plain(n, kind, z),
-        Kind::Short => short(mode, z, base),
-        Kind::Long => long(z, base),
-    }
-}
-
-// The fields of three operands as written, or the first failure.
-pub fn resolve(
-    mode: Mode,
-    kinds: Kinds,
-    a: i32,
-    b: i32,
-    c: i32,
-    base: u32,
-) -> Result<Fields, ResolveError>
-    ensures { resolution_of result ≡ fields_answer mode kinds a b c base }
+// The fields of the operands of an instruction as written, or the first failure.
+pub fn resolve(mode: Mode, kinds: Kinds, v: Parts, base: u32) -> Result<Fields, ResolveError>
+    ensures { resolution_of result ≡ fields_answer mode kinds v.a v.b v.c base }
 {
     if Instr::HIGHEST_BASE < base {
         return Err(ResolveError::FarBase(base));
     }
-    let x = operand(mode, 1, kinds.a, a, base)?;
-    let y = operand(mode, 2, kinds.b, b, base)?;
-    let z = operand(mode, 3, kinds.c, c, base)?;
-    Ok(Fields { a: x, b: y, c: z })
+    let from = Base {
+        mode,
+        address: base,
+    };
+    let a = from.operand(1, kinds.a, v.a)?;
+    let b = from.operand(2, kinds.b, v.b)?;
+    let c = from.operand(3, kinds.c, v.c)?;
+    Ok(Fields { a, b, c })
 }

@@ -23,12 +23,10 @@ pub fn code(z: i32) -> u32
     ensures { result ≡ code_of z }
 {
     if z < 0 {
-        if z < -256 {
-            return 0;
-        }
-        return (z + 256) as u32;
+        (z + 256).max(0) as u32
+    } else {
+        z as u32
     }
-    z as u32
 }
 
 // An address less the base.

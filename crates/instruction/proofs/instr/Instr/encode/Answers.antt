@@ -1,9 +1,8 @@
 -- What `Instr::encode` answers, and its room afterwards: the definition's, by the tests that led there.
 -- Assumes nothing.
-use Rattle.std.proofs.Common.{◌≡◌, ℤ, sym, ◌∙◌, w32, to_z, of_z, rules}
+use Rattle.std.proofs.Common.{◌≡◌, ℤ, w32, to_z, of_z}
 use Rattle.std.proofs.lemmas.Result.{err_from_is_err_and}
-use Rattle.instruction.specs.declared.instr.Parts.{Parts}
-use Rattle.instruction.proofs.Encoding.{refuses, short, wrote}
+use Rattle.instruction.proofs.Encoding.{refuses, written}
 use Rattle.instruction.proofs.Known.{form_small}
 use Rattle.instruction.proofs.instr.Instr.encode.Goals as goal
 
@@ -22,24 +21,9 @@ shape_of-shape-requires c = form_small c.args.self c.apart-v.ensures
 pub fixed_of-requires : goal.fixed_of-requires
 fixed_of-requires c = form_small c.args.self c.apart-v.ensures
 
-pub returns-then-write : goal.returns-then-write
-returns-then-write c =
-    let v : Parts = c.apart-v.result in
-    let a : Read v.a = search rules in
-    let b : Read v.b = search rules in
-    let d : Read v.c = search rules in
-    let left = rw (a, b, d) at c.write.ensures.out_after in
-    let q = wrote c.args.self c.args.out.now v c.apart-v.ensures c.shape_of-shape.result c.shape_of-shape.ensures c.fixed_of.result
-        c.fixed_of.ensures c.in_ok-fit.ensures c.size-n.result c.size-n.ensures (sym c.write.ensures.value ∙ c.if-write.true) _ left in
-    record { result_value = q.0; out_after = q.1 }
-
 pub returns : goal.returns
 returns c =
-    let v : Parts = c.apart-v.result in
-    let a : Read v.a = search rules in
-    let b : Read v.b = search rules in
-    let d : Read v.c = search rules in
-    let left = rw (a, b, d) at c.write.ensures.out_after in
-    let q = short c.args.self c.args.out.now v c.apart-v.ensures c.shape_of-shape.result c.shape_of-shape.ensures c.fixed_of.result
-        c.fixed_of.ensures c.in_ok-fit.ensures c.size-n.result c.size-n.ensures (sym c.write.ensures.value ∙ c.if-write.false) _ left in
+    let q =
+    written c.args.self c.args.out.now c.apart-v.result c.apart-v.ensures c.shape_of-shape.result c.shape_of-shape.ensures c.fixed_of.result
+    c.fixed_of.ensures c.in_ok-fit.ensures c.write.result c.write.ensures.value _ c.write.ensures.out_after in
     record { result_value = q.0; out_after = q.1 }

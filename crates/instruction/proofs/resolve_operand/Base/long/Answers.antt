@@ -7,12 +7,12 @@ use Rattle.instruction.specs.declared.mode.Mode.TheVariants.{Unwrapped}
 use Rattle.instruction.specs.ResolveOperand.{no_address}
 use Rattle.instruction.proofs.Resolving.{wraps_is, long_no, long_is}
 use Rattle.instruction.proofs.Sign.{back}
-use Rattle.instruction.proofs.resolve_operand.long.Goals as goal
+use Rattle.instruction.proofs.resolve_operand.Base.long.Goals as goal
 
 pub returns-then-is_outside : goal.returns-then-is_outside
 returns-then-is_outside c =
     let e = rw (back c.ranges.z) at c.is_outside.ensures in
-    rw (back c.ranges.z) (long_no Unwrapped c.args.base 0 c.args.z (sym e ∙ c.if-is_outside.true))
+    rw (back c.ranges.z) (long_no Unwrapped c.args.self.address 0 c.args.z (sym e ∙ c.if-is_outside.true))
 
 pub returns : goal.returns
 returns c =
@@ -23,6 +23,6 @@ returns c =
     let h : r < 65536 = search rules in
     let f : to_z w32 (of_z w32 c.num.result) ≡ c.num.result = search rules in
     ap accepted (f ∙ c.num.ensures)
-    ∙ long_is Unwrapped c.args.base 0 c.args.z inside c.wrapping_add_u16-offset.result
+    ∙ long_is Unwrapped c.args.self.address 0 c.args.z inside c.wrapping_add_u16-offset.result
     (c.wrapping_add_u16-offset.ensures.value
-    ∙ wraps_is c.args.z c.args.base r inside c.requires h (c.wrapping_sub_u16-back.ensures.value ∙ ap (λ (m : ℕ). m % 65536) x))
+    ∙ wraps_is c.args.z c.args.self.address r inside c.args.self.in_memory h (c.wrapping_sub_u16-back.ensures.value ∙ ap (λ (m : ℕ). m % 65536) x))

@@ -9,7 +9,7 @@ use Rattle.instruction.specs.declared.mode.Mode.{Mode}
 use Rattle.instruction.proofs.Judging.{done}
 use Rattle.instruction.proofs.Resolving.{answer_of}
 use Rattle.instruction.proofs.Sign.{back}
-use Rattle.instruction.proofs.resolve_operand.operand.Goals as goal
+use Rattle.instruction.proofs.resolve_operand.Base.operand.Goals as goal
 
 -- an answer at the arm's kind, to the number read back, is the answer at the operand's kind to its number
 at : (o : Mode) (b n : ℕ) {k k' : Kind} {y z : ℤ} {r : Answer ℤ} → k' ≡ k → y ≡ z → r ≡ answer_of o b n k y → r ≡ answer_of o b n k' z
