@@ -7,9 +7,7 @@ pub mod Bits
 pub mod FieldSign
 pub mod FieldReading
 pub mod FieldWriting
-pub mod Over
 pub mod Laid
-pub mod Named
 pub mod Resolving
 pub mod FieldResolved
 pub mod Every

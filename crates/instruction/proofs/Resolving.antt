@@ -122,9 +122,6 @@ module _ (z : ℤ) (b r : ℕ) (inside : no_address z ≡ false) (high : b ≤ 6
   less : sub_ℕ number b ≡ z -ℤ pos b
   less = sym (diff number b) ∙ ap (λ (y : ℤ). y -ℤ pos b) (sym (natural 65535 z inside).is)
 
-  pub wraps_down : r ≡ wrapped (z -ℤ pos b)
-  wraps_down = wraps_to number b r most high low sum ∙ ap wrapped less
-
   pub wraps_is : (r + 1) % 65536 ≡ wrapped ((z -ℤ pos b) +ℤ pos 1)
   wraps_is = wraps number b r most high low sum ∙ ap (λ (y : ℤ). wrapped (y +ℤ pos 1)) less
 

@@ -10,6 +10,5 @@ pub mod WaysAre
 pub mod Naming
 pub mod Openings
 pub mod Falling
-pub mod ShortPlace
 pub mod AddressBytes
 pub mod AskedPlace

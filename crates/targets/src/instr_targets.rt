@@ -4,7 +4,7 @@
 ghost use Rattle.std.specs.Prelude.{◌≡◌};
 ghost use Rattle.targets.specs.Targets.{targets_of, targets_answer};
 
-use crate::address;
+use crate::address::Next;
 use crate::target::{Targets, TargetsError};
 use instruction::{Instr, Mode};
 
@@ -17,5 +17,9 @@ pub fn targets(mode: Mode, position: u32, instr: Instr) -> Result<Targets, Targe
         return Err(TargetsError::PastEnd(next));
     }
     instr.fit()?;
-    Ok(address::ways(mode, next as u32, instr))
+    let from = Next {
+        mode,
+        at: next as u32,
+    };
+    Ok(from.ways(instr))
 }

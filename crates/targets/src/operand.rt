@@ -11,29 +11,37 @@ ghost use Rattle.targets.specs.Ways.{is_naming};
 use crate::image::Image;
 use instruction::Mode;
 
-// Twelve bits of a first byte and the byte after it, on next's page.
-fn page(next: u32, first: u8, low: u8) -> u32
-    requires { next ≤ 65536 }
-    ensures { result ≡ next / 4096 % 16 * 4096 + ((first / 16 % 2 * 8 + first % 8) * 256 + low) }
+// Twelve bits on next's page.
+pub fn on_page(next: u32, field: u32) -> u32
+    requires { field ≤ 4095 }
+    ensures { (result ≡ next / 4096 % 16 * 4096 + field) × (result ≤ 65535) }
 {
-    next / 4096 % 16 * 4096 + ((first / 16 % 2 * 8 + first % 8) as u32 * 256 + low as u32)
+    next / 4096 % 16 * 4096 + field
+}
+
+// The byte before next plus an offset, wrapped at sixteen bits.
+pub fn behind(next: u32, offset: u32) -> u32
+    requires { (1 ≤ next) × (next ≤ 65536) × (offset ≤ 65535) }
+    ensures { (result ≡ (next - 1 + offset) % 65536) × (result ≤ 65535) }
+{
+    (next - 1 + offset) % 65_536
+}
+
+// The twelve bits of a first byte and the byte after it.
+fn twelve(first: u8, low: u8) -> u32
+    ensures { (result ≡ (first / 16 % 2 * 8 + first % 8) * 256 + low) × (result ≤ 4095) }
+{
+    (first / 16 % 2 * 8 + first % 8) as u32 * 256 + low as u32
 }
 
 fn pair(high: u8, low: u8) -> u32
-    ensures { result ≡ high * 256 + low }
+    ensures { (result ≡ high * 256 + low) × (result ≤ 65535) }
 {
     high as u32 * 256 + low as u32
 }
 
-// The byte before next plus an offset of two bytes, wrapped at sixteen bits.
-fn long(next: u32, high: u8, low: u8) -> u32
-    requires { (1 ≤ next) × (next ≤ 65536) }
-    ensures { result ≡ (next - 1 + (high * 256 + low)) % 65536 }
-{
-    (next - 1 + pair(high, low)) % 65_536
-}
-
-// Next plus a byte's offset, -128 to 127. The sum is taken with 128 more, so that it is not below 0.
+// Next plus a byte's offset, -128 to 127. The sum is taken with 128 more, so that it is not below 0. It stays beside `Next::short`, since
+// a run reads most of its targets here, and no signed number is made on the way.
 fn short(mode: Mode, next: u32, offset: u8) -> u32
     requires { next ≤ 65536 }
     ensures { result ≡ place_of (in_mode mode (pos next +ℤ short_of offset)) }
@@ -61,13 +69,13 @@ pub fn place_at(mode: Mode, image: &[u8], p: u32, next: u32) -> u32
     let first = image[at];
     if first < 0x40 {
         if 8 <= first % 16 {
-            return page(next, first, image[at + 1]);
+            return on_page(next, twelve(first, image[at + 1]));
         }
         if first / 2 == 0x10 {
             return pair(image[at + 1], image[at + 2]);
         }
         if first / 2 == 0x08 {
-            return long(next, image[at + 2], image[at + 1]);
+            return behind(next, pair(image[at + 2], image[at + 1]));
         }
     }
     short(mode, next, image[next as usize - 1])

@@ -23,15 +23,12 @@ pub enum Places {
 pub fn place(t: i32) -> u32
     ensures { result ≡ place_of t }
 {
-    if t < 0 {
-        return Image::NOWHERE;
-    }
-    t as u32
+    if t < 0 { Image::NOWHERE } else { t as u32 }
 }
 
 // Where an instruction ends, as a target: in wrapping mode the end of memory is its beginning.
-fn next_place(mode: Mode, next: u32) -> u32
-    ensures { result ≡ place_of (in_mode mode (pos next)) }
+pub fn next_place(mode: Mode, next: u32) -> u32
+    ensures { (pos result ≡ in_mode mode (pos next)) × (result ≤ next) }
 {
     match mode {
         Mode::Unwrapped => next,

@@ -3,7 +3,7 @@
 use mathlib.Core.Path.{◌≡◌, refl, sym, ◌∙◌}
 use mathlib.Core.Bool.{Bool, true, false, cond, ◌&&◌, ◌||◌}
 use mathlib.Core.List.{List}
-use Prim.Native.Nat.{ℕ, zero, suc, ◌+◌, ◌-◌, ◌*◌, ◌/◌, ◌%◌, ◌≤◌, ◌<◌}
+use Prim.Native.Nat.{ℕ, suc, ◌+◌, ◌-◌, ◌*◌, ◌/◌, ◌%◌, ◌≤◌, ◌<◌}
 use native.Mathlib.Numerals.{add-one}
 use native.Mathlib.Omega.{arith}
 use lib.Dec.{leb}
@@ -65,31 +65,6 @@ value_none b e = rw e
 
 pub value_some : (b : ℕ) → is_digit b ≡ true → digit_of b ≡ value_of b
 value_some b e = rw e
-
--- what is known after an arm for each of the k numbers from a on, besides R
-abbrev Past : Type 0 → ℕ → ℕ → ℕ → Type 0
-Past R a zero x = R
-Past R a (suc k) x = Past R a k x × (x ≡ a + k → ⊥)
-
-past_none : (R : Type 0) (a k x : ℕ) → Past R a k x → a ≤ x → x < a + k → ⊥
-past_none R a zero x r g h = omega arith
-past_none R a (suc k) x r g h = past_none R a k x r.0 g (let n : x ≡ a + k → ⊥ = r.1 in omega arith)
-
-past_first : (R : Type 0) (a k x : ℕ) → Past R a k x → R
-past_first R a zero x r = r
-past_first R a (suc k) x r = past_first R a k x r.0
-
--- after an arm for each digit
-abbrev pub Sixteen : ℕ → Type 0
-Sixteen b = Past (Past (Unit {0}) 48 10 b) 65 6 b
-
-pub value_rest : (b : ℕ) → Sixteen b → 65536 ≡ value_of b
-value_rest b r = by (within 48 57 b) refl (within 65 70 b) refl
-  where
-    by : (t : Bool) → within 48 57 b ≡ t → (u : Bool) → within 65 70 b ≡ u → 65536 ≡ cond (t || u) (digit_of b) 65536
-    by true e u f = absurd (let h = between 48 57 b e in past_none (Unit {0}) 48 10 b (past_first _ 65 6 b r) h.0 (omega (arith, h.1)))
-    by false e true f = absurd (let h = between 65 70 b f in past_none (Past (Unit {0}) 48 10 b) 65 6 b r h.0 (omega (arith, h.1)))
-    by false e false f = refl
 
 -- a digit by its low four bits: 9 more for a letter
 pub digit_by_bits : (b : ℕ) → is_digit b ≡ true → (b % 16 + 9 * (b / 64) ≡ digit_of b) × (b % 16 + 9 * (b / 64) < 16)

@@ -31,7 +31,10 @@ returns-in_err-fit c =
     rw (p.1, p.2) (unfitting a.mode a.position a.instr (rw c.size.ensures at c.if-next.false) 7 _ c.in_err-fit.ensures)
 
 pub ways-requires : goal.ways-requires
-ways-requires c = (omega (arith, c.size.ensures, (size_small c.args.instr).0), c.if-next.false, sym c.in_ok-fit.ensures)
+ways-requires c = sym c.in_ok-fit.ensures
+
+pub invariant_of-from : goal.invariant_of-from
+invariant_of-from c = record { in_memory = (omega (arith, c.size.ensures, (size_small c.args.instr).0), c.if-next.false) }
 
 pub returns : goal.returns
 returns c =

@@ -1,6 +1,7 @@
 -- What `falls_to` answers, by what the first byte says.
 -- Assumes nothing.
-use Rattle.std.proofs.Common.{sym, ◌∙◌}
+use Rattle.std.proofs.Common.{sym, ap, ◌∙◌}
+use Rattle.targets.specs.At.{place_of}
 use Rattle.targets.proofs.Falling.{falls_none, falls_not, falls_so}
 use Rattle.targets.proofs.Openings.{whole_says, not_whole_says}
 use Rattle.targets.proofs.place.falls_to.Goals as goal
@@ -9,7 +10,7 @@ pub returns-then-goes_on : goal.returns-then-goes_on
 returns-then-goes_on c =
     let a = c.args in
     let w = whole_says a.image.now a.q c.in-Ok.o c.in-Ok.ensures in
-    falls_so a.mode a.image.now a.q a.p _ w (sym c.if-goes_on.ensures) _ c.next_place.ensures
+    falls_so a.mode a.image.now a.q a.p _ w (sym c.if-goes_on.ensures) _ (ap place_of c.next_place.ensures.0)
 
 pub returns-else-goes_on : goal.returns-else-goes_on
 returns-else-goes_on c =

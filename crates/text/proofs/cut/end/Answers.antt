@@ -13,6 +13,9 @@ returns-then-text-at c = omega (arith, ap length (first_end c.args.s c.args.text
 pub returns : goal.returns
 returns c =
     let t : List ℕ = drop c.args.at c.args.text.now in
-    let all : take (length c.args.text.now - c.args.at) t ≡ t = take_all (length c.args.text.now - c.args.at) t (omega (arith, length-drop c.args.at c.args.text.now)) in
-    let r = position_from_yields_List {all = take (length c.args.text.now - c.args.at) t} (λ b. eqb b c.args.s) _ _ c.position.result c.position.ensures.ran (YieldsList-from_slice _ cc) (λ x b q k. search (rules, tests)) in
+    let n : ℕ = length c.args.text.now - c.args.at in
+    let all : take n t ≡ t = take_all n t (omega (arith, length-drop c.args.at c.args.text.now)) in
+    let given = YieldsList-from_slice (take n t) cc in
+    let r =
+        position_from_yields_List (λ b. eqb b c.args.s) _ _ c.position.result c.position.ensures.ran given (λ x b q k. search (rules, tests)) in
     ap (λ (n : ℕ). c.args.at + n) ((rw all at c.unwrap_or.ensures) ∙ found_at c.args.s t c.position.result (rw all at r))
