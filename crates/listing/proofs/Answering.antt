@@ -18,7 +18,7 @@ use Rattle.views.proofs.Labelling.{labels_length}
 use Rattle.views.specs.Mask.{mask_of}
 use Rattle.arrivals.specs.Index.{index_of}
 use Rattle.arrivals.proofs.Indexing.{index_length}
-use Rattle.listing.specs.Lent.{is_lent, text_of}
+use Rattle.listing.specs.Lent.{text_of}
 use Rattle.text.specs.Puts.{Puts, Needed}
 use Rattle.listing.specs.Walk.{is_chosen, walk, listing_of}
 use Rattle.listing.specs.declared.tabbed.Arrivals.{Arrivals}
@@ -59,29 +59,6 @@ module _ (image m : List ℕ) (text room : List ℕ) (s : Sound image m) where
       let z : sets room 0 text ≡ text ++ drop r room = sets-eq text room 0 l ∙ ap (λ (j : ℕ). text ++ drop j room) (sym p.next) in
       shown_as image m text room s r e (omega (arith, e, l)) new (p.wrote ∙ z)
 
--- where an index is lent there are arrivals; the one of an empty image has no cells, but then there is no text either
-pub index_text : (mode : Mode) (image m index : List ℕ) → index ≡ index_of mode image m → text_of mode image m (is_lent index) ≡ text_of mode image m true
-unfolding text_of walk
-index_text mode image m index e = by (is_lent index) refl
-  where
-    none : (b : Bool) → length image ≡ 0 → walk mode image m (mask_of image m) (labels_of mode image m) b (length image) 0 0 ≡ []
-    none b z = ap (λ (k : ℕ). walk mode image m (mask_of image m) (labels_of mode image m) b k 0 0) z
-
-    by : (b : Bool) → is_lent index ≡ b → text_of mode image m b ≡ text_of mode image m true
-    by true f = refl
-    by false f =
-        let z : length image ≡ 0 = omega (arith, ltb-false 0 (length index) f, ap length e, index_length mode image m) in
-        none false z ∙ sym (none true z)
-
 -- what is answered of a text is answered of one that is the same
 pub same_text : (image m room : List ℕ) {s t : List ℕ} → s ≡ t → {r : Answer ℕ} {new : List ℕ} → Is image m s room r new → Is image m t room r new
 same_text image m room e {r} {new} h = subst (λ (x : List ℕ). Is image m x room r new) e h
-
--- where such an index has no cells there are no positions, and no target marks
-pub no_labels : (mode : Mode) (image m index : List ℕ) → index ≡ index_of mode image m → is_lent index ≡ false → [] ≡ labels_of mode image m
-no_labels mode image m index e f =
-    empty (labels_of mode image m) (omega (arith, ltb-false 0 (length index) f, ap length e, index_length mode image m, labels_length mode image m))
-  where
-    empty : (l : List ℕ) → length l ≡ 0 → [] ≡ l
-    empty [] h = refl
-    empty (x ∷ l) h = absurd (omega arith)

@@ -112,17 +112,14 @@ found_length (Three a b c) = one_length a _ 11 (one_length b _ 6 (one_length c [
 
 -- ---- `A`
 
-module _ (p : ℕ) (chosen : Bool) (qs : List ℕ) where
-  pub not_chosen : chosen ≡ false → [] ≡ cond chosen (arrival_line p qs) []
-  not_chosen e = rw e
-
-  pub no_arrivals : chosen ≡ true → qs ≡ [] → [] ≡ cond chosen (arrival_line p qs) []
+module _ (p : ℕ) (qs : List ℕ) where
+  pub no_arrivals : qs ≡ [] → [] ≡ arrival_line p qs
   unfolding arrival_line
-  no_arrivals e f = rw (e, f)
+  no_arrivals f = rw f
 
-  pub arrivals : chosen ≡ true → (q : ℕ) (l : List ℕ) → qs ≡ q ∷ l → begin (code "A") p ++ fields_text (map hex4 qs) ≡ cond chosen (arrival_line p qs) []
+  pub arrivals : (q : ℕ) (l : List ℕ) → qs ≡ q ∷ l → begin (code "A") p ++ fields_text (map hex4 qs) ≡ arrival_line p qs
   unfolding arrival_line fields_text
-  arrivals e q l f = rw (e, f)
+  arrivals q l f = rw f
 
 -- ---- `I`
 

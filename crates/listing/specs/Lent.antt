@@ -1,30 +1,28 @@
 -- What inner functions are lent: serves them alone.
 -- Assumes nothing.
-use Rattle.std.specs.Prelude.{ℕ, Bool, true, false, cond, List, [], ◌≡◌, eqb, ltb, length, get_or}
+use Rattle.std.specs.Prelude.{ℕ, Bool, true, false, cond, List, [], eqb, length, get_or}
 use Rattle.instruction.specs.Answer.{Answer}
 use Rattle.instruction.specs.declared.mode.Mode.{Mode}
 use Rattle.views.specs.View.{view_answer, view_room}
 use Rattle.views.specs.DataRun.{data_run}
 use Rattle.views.specs.Labels.{labels_of}
 use Rattle.views.specs.Mask.{mask_of}
-use Rattle.arrivals.specs.Index.{index_of}
 use Rattle.listing.specs.Walk.{walk}
+use Rattle.listing.specs.declared.walk.Table.{Table}
+use Rattle.listing.specs.declared.walk.Table.TheVariants.{Labels, Index}
 
 -- the data run at p; none where p is masked
 abbrev pub run_at : List ℕ → List ℕ → ℕ → List ℕ
 run_at image m p = cond (eqb (get_or (mask_of image m) p 0) 0) (data_run image (mask_of image m) p) []
 
--- an index of no cells is none
-abbrev pub is_lent : List ℕ → Bool
-is_lent index = ltb 0 (length index)
+-- what stands in a table, and whether it is an index
+abbrev pub cells_of : Table → List ℕ
+cells_of (Labels l) = l.now
+cells_of (Index x) = x.now
 
--- any other is the index of this image and these marks
-abbrev pub Indexed : Mode → List ℕ → List ℕ → List ℕ → Type 0
-Indexed mode image m index = is_lent index ≡ true → index ≡ index_of mode image m
-
--- target marks are lent where no index is
-abbrev pub Labelled : Mode → List ℕ → List ℕ → List ℕ → List ℕ → Type 0
-Labelled mode image m labels index = is_lent index ≡ false → labels ≡ labels_of mode image m
+abbrev pub has_index : Table → Bool
+has_index (Labels l) = false
+has_index (Index x) = true
 
 -- the listing, with arrivals or without
 unfoldable pub text_of : Mode → List ℕ → List ℕ → Bool → List ℕ

@@ -7,15 +7,15 @@ ghost use Rattle.instruction.specs.Parts.{made_of};
 ghost use Rattle.targets.specs.Here.{here_of};
 ghost use Rattle.arrivals.specs.Arrivals.{arrivals_of};
 ghost use Rattle.views.specs.Overlaps.{overlaps_in, overlaps_of};
-ghost use Rattle.arrivals.specs.Index.{index_of, next_held, next_fall};
+ghost use Rattle.arrivals.specs.Index.{next_held, next_fall};
 ghost use Rattle.listing.specs.Alone.{text_of, rest_alone};
 ghost use Rattle.listing.specs.Hex.{hex4};
-ghost use Rattle.listing.specs.Lent.{is_lent, Indexed};
 ghost use Rattle.listing.specs.Line.{fields_text};
 ghost use Rattle.listing.specs.Lines.{label_line, overlap_line, arrival_line, instr_text, here_line, all_zero, data_line};
 ghost use Rattle.text.specs.Puts.{Puts};
 
-use crate::{chain, operands, put};
+use crate::chain::Indexed;
+use crate::{operands, put};
 use instruction::{Mode, Parts};
 use views::Overlaps;
 
@@ -70,25 +70,16 @@ pub fn put_overlaps(image: &[u8], marks: &[u8], out: &mut [u8], at: usize, p: u3
 }
 
 // The arrivals at p as fields, and the end of the line, by the lowest that names it and the lowest from which control goes on to it.
-fn put_arrived(
-    mode: Mode,
-    image: &[u8],
-    marks: &[u8],
-    index: &[u16],
-    out: &mut [u8],
-    at: usize,
-    p: u32,
-    named: u32,
-    falls: u32,
-) -> usize
-    requires { (at < 2 ^ 55) × (length image.now ≤ 65536) × (index.now ≡ index_of mode image.now marks.now) × (p < length image.now)
-        × (named ≡ next_held mode image.now marks.now p 0) × (falls ≡ next_fall mode image.now marks.now p 0) }
+fn put_arrived(lent: &Indexed, out: &mut [u8], at: usize, p: u32, named: u32, falls: u32) -> usize
+    requires { (at < 2 ^ 55) × (p < length lent.now.image.now)
+        × (named ≡ next_held lent.now.mode lent.now.image.now lent.now.marks.now p 0)
+        × (falls ≡ next_fall lent.now.mode lent.now.image.now lent.now.marks.now p 0) }
     ensures puts { Puts
-        (fields_text (map hex4 (arrivals_of mode image.now marks.now p)))
+        (fields_text (map hex4 (arrivals_of lent.now.mode lent.now.image.now lent.now.marks.now p)))
         at out.old out.new result }
     ensures upper_bound { result ≤ at + 327681 }
 {
-    let n = image.len() as u32;
+    let n = lent.image.len() as u32;
     let mut a = at;
     let mut c = named;
     let mut f = falls;
@@ -96,40 +87,27 @@ fn put_arrived(
     // The next arrival is the lower of two that are looked up, so there is no range to go through.
     while q < n {
         a = put::put_place(out, a, q);
-        c = chain::held_past(mode, image, marks, index, p, c, q);
-        f = chain::fall_past(mode, image, marks, p, f, q);
+        c = lent.held_past(p, c, q);
+        f = lent.fall_past(p, f, q);
         q = c.min(f);
     }
     put::put_byte(out, a, b'\n')
 }
 
-// `A`, where an index is lent and there are any arrivals.
-pub fn put_arrivals(
-    mode: Mode,
-    image: &[u8],
-    marks: &[u8],
-    index: &[u16],
-    out: &mut [u8],
-    at: usize,
-    p: u32,
-) -> usize
-    requires { (at < 2 ^ 54) × (length image.now ≤ 65536) × (p < length image.now) × Indexed mode image.now marks.now index.now }
-    ensures puts { Puts
-        (cond (is_lent index.now) (arrival_line p (arrivals_of mode image.now marks.now p)) [])
-        at out.old out.new result }
+// `A`, where there are any arrivals.
+pub fn put_arrivals(lent: &Indexed, out: &mut [u8], at: usize, p: u32) -> usize
+    requires { (at < 2 ^ 54) × (p < length lent.now.image.now) }
+    ensures puts { Puts (arrival_line p (arrivals_of lent.now.mode lent.now.image.now lent.now.marks.now p)) at out.old out.new result }
     ensures upper_bound { result ≤ at + 2 ^ 20 }
 {
-    if index.len() == 0 {
-        return at;
-    }
-    let first = arrivals::first(index, p);
-    let named = chain::held_from(mode, image, marks, index, p, first);
-    let falls = arrivals::next_fall(mode, image, marks, p, 0);
-    if image.len() <= named.min(falls) as usize {
+    let first = arrivals::first(lent.index, p);
+    let named = lent.held_from(p, first);
+    let falls = arrivals::next_fall(lent.mode, lent.image, lent.marks, p, 0);
+    if lent.image.len() <= named.min(falls) as usize {
         return at;
     }
     let a = put::put_start(out, at, b'A', p);
-    put_arrived(mode, image, marks, index, out, a, p, named, falls)
+    put_arrived(lent, out, a, p, named, falls)
 }
 
 // `I`, of the parts that decode answers of these bytes.

@@ -6,6 +6,7 @@ ghost use Rattle.listing.specs.Lent.{text_of, text_answer, text_room};
 ghost use Rattle.listing.specs.Walk.{unchosen, listing_answer, listing_room};
 ghost use Rattle.listing.specs.declared.tabbed.Arrivals.TheVariants.{Declined};
 
+use crate::walk::{Lent, Table};
 use crate::{rooms, walk};
 use instruction::Mode;
 use views::ViewError;
@@ -29,7 +30,7 @@ impl Arrivals {
 }
 
 // The listing without arrivals, by the target marks: as much of it as the room holds is written; how many bytes it has.
-fn put_declined(mode: Mode, image: &[u8], marks: &[u8], room: &mut [u8]) -> usize
+fn put_declined<'a>(mode: Mode, image: &'a [u8], marks: &'a [u8], room: &mut [u8]) -> usize
     requires { Sound image.now marks.now }
     ensures { Puts (text_of mode image.now marks.now false) 0 room.old room.new result }
 {
@@ -37,20 +38,32 @@ fn put_declined(mode: Mode, image: &[u8], marks: &[u8], room: &mut [u8]) -> usiz
     let mut labels = rooms::bytes();
     // Sound marks are not refused, and the room is as long as any image.
     let _ = views::target_marks(mode, image, marks, &mut labels);
-    let none = [0u16; 1];
-    walk::put_walk(mode, image, marks, &labels[0..n], &none[0..0], room)
+    let table = Table::Labels(&labels[..n]);
+    let lent = Lent {
+        mode,
+        image,
+        marks,
+        table,
+    };
+    walk::put_walk(&lent, room)
 }
 
 // The same with arrivals, by an index, which tells the target marks too.
-fn put_chosen(mode: Mode, image: &[u8], marks: &[u8], room: &mut [u8]) -> usize
+fn put_chosen<'a>(mode: Mode, image: &'a [u8], marks: &'a [u8], room: &mut [u8]) -> usize
     requires { Sound image.now marks.now }
     ensures { Puts (text_of mode image.now marks.now true) 0 room.old room.new result }
 {
     let n = 2 * image.len();
     let mut index = rooms::cells();
     arrivals::index_into(mode, image, marks, &mut index[..n]);
-    let none = [0u8; 1];
-    walk::put_walk(mode, image, marks, &none[0..0], &index[..n], room)
+    let table = Table::Index(&index[..n]);
+    let lent = Lent {
+        mode,
+        image,
+        marks,
+        table,
+    };
+    walk::put_walk(&lent, room)
 }
 
 // The text, with arrivals or without. Either has a function of its own for its table.
