@@ -94,6 +94,7 @@ pub struct Parts {
 }
 
 impl Parts {
+    // The 70 arms of `Instr::apart` call it, where a literal would take four lines each.
     pub fn new(form: u8, a: i32, b: i32, c: i32) -> Self
         ensures { result ≡ record { form = form; a = a; b = b; c = c } }
     {

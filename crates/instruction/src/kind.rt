@@ -40,6 +40,7 @@ pub struct Kinds {
 }
 
 impl Kinds {
+    // The arms of `Shape::kinds` call it, where a literal would take three lines each.
     pub fn new(a: Kind, b: Kind, c: Kind) -> Self
         ensures { result ≡ record { a = a; b = b; c = c } }
     {

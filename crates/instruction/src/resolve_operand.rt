@@ -143,14 +143,12 @@ impl Base {
     {
         match kind {
             Kind::Absent => Ok(z),
-            Kind::Immediate => plain(n, kind, z),
-            Kind::Direct => plain(n, kind, z),
-            Kind::Register => plain(n, kind, z),
-            Kind::BitNumber => plain(n, kind, z),
             Kind::Page => self.page(n, z),
-            Kind::Far => plain(n, kind, z),
             Kind::Short => self.short(z),
             Kind::Long => self.long(z),
+            Kind::Immediate | Kind::Direct | Kind::Register | Kind::BitNumber | Kind::Far => plain(
+                n, kind, z,
+            ),
         }
     }
 }

@@ -59,20 +59,6 @@ module _ (image : List ℕ) (p : ℕ) where
         by true f = let g = here_is (Ok i) e true f in (f, cc)
         by false f = let g = here_is (Ok i) e false f in absurd (let z : ◌≡◌ {A = ℕ} 0 1 = cc in omega arith)
 
-    pub here_cut : (c : CutOff) → Err (Cut c) ≡ here_of image p → (fits_here image p ≡ false) × (c ≡ cut_at image p)
-    here_cut c e = by (fits_here image p) refl
-      where
-        by : (t : Bool) → fits_here image p ≡ t → (fits_here image p ≡ false) × (c ≡ cut_at image p)
-        by true f = let g = here_is (Err (Cut c)) e true f in absurd (let z : ◌≡◌ {A = ℕ} 0 1 = cc in omega arith)
-        by false f = let g = here_is (Err (Cut c)) e false f in (f, cc)
-
-    here_inside : Err Outside ≡ here_of image p → ⊥
-    here_inside e = by (fits_here image p) refl
-      where
-        by : (t : Bool) → fits_here image p ≡ t → ⊥
-        by true f = let g = here_is (Err Outside) e true f in let z : ◌≡◌ {A = ℕ} 0 1 = cc in omega arith
-        by false f = let g = here_is (Err Outside) e false f in let z : ◌≡◌ {A = ℕ} 0 1 = cc in omega arith
-
   -- an instruction, whole or cut off, stands inside
   stands_inside : (h : Result Instr NotWhole) → h ≡ here_of image p → (h ≡ Err Outside → ⊥) → p < length image
   unfolding here_of
@@ -84,13 +70,6 @@ module _ (image : List ℕ) (p : ℕ) where
 
   pub whole_inside : (i : Instr) → Ok i ≡ here_of image p → p < length image
   whole_inside i e = stands_inside (Ok i) e (λ f. let z : ◌≡◌ {A = ℕ} 0 1 = cc in omega arith)
-
-  pub here_outside : Err Outside ≡ here_of image p → ltb p (length image) ≡ false
-  here_outside e = by (ltb p (length image)) refl
-    where
-      by : (b : Bool) → ltb p (length image) ≡ b → ltb p (length image) ≡ false
-      by true f = absurd (here_inside (ltb-true p (length image) f) e)
-      by false f = f
 
 module _ (mode : Mode) (image : List ℕ) (p : ℕ) (inside : p < length image) (small : length image ≤ 65536) where
   ways_is : (w : Result Places NotWhole) → w ≡ ways_of mode image p → (t : Bool) → fits_here image p ≡ t

@@ -77,15 +77,15 @@ impl Next {
         ensures { result ≡ address_of self.mode self.at kind z }
     {
         match kind {
-            Kind::Absent => z,
-            Kind::Immediate => z,
-            Kind::Direct => z,
-            Kind::Register => z,
-            Kind::BitNumber => z,
             Kind::Page => self.page(z),
-            Kind::Far => z,
             Kind::Short => self.short(z),
             Kind::Long => self.long(z),
+            Kind::Absent
+            | Kind::Immediate
+            | Kind::Direct
+            | Kind::Register
+            | Kind::BitNumber
+            | Kind::Far => z,
         }
     }
 

@@ -8,7 +8,7 @@ use crate::place;
 use instruction::{Instr, Kind, Mode};
 
 // Of an operand of an instruction that ends at next. A position outside every image where no instruction ends there, or where the number
-// does not fit its field.
+// does not fit its field: the number that the definition `operand_place` answers there.
 pub fn operand_place(mode: Mode, next: u64, kind: Kind, z: i32) -> u32
     ensures { result ≡ operand_place mode next kind z }
 {

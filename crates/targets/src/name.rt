@@ -17,7 +17,8 @@ pub fn is_naming(flow: Flow) -> bool
     matches!(flow, Flow::Jump | Flow::Branch)
 }
 
-// By what the first byte of the instruction at p says.
+// By what the first byte of the instruction at p says. That it says so of this image and position stands in the contract, here and where
+// places are asked for, since the opening holds neither.
 fn name_by(mode: Mode, image: &[u8], p: u32, opening: Opening) -> u32
     requires p_in_bounds { (p < length image.now) × (length image.now ≤ 65536) }
     requires p_value { (fits_here image.now p ≡ true) × (opening.next ≡ p + size_here image.now p) × (opening.flow ≡ flow_of (form_here image.now p)) }
@@ -29,7 +30,7 @@ fn name_by(mode: Mode, image: &[u8], p: u32, opening: Opening) -> u32
     Image::NOWHERE
 }
 
-// The position that the instruction at p names, or a position outside every image.
+// The position that the instruction at p names, or a position outside every image, which is the number that `name_of` answers there.
 pub fn name_at(mode: Mode, image: &[u8], p: u32) -> u32
     ensures { result ≡ name_of mode image.now p }
 {

@@ -19,7 +19,7 @@ pub enum Places {
     Both(u32, u32),
 }
 
-// The position that a target names; one below 0 lies outside every image.
+// The position that a target names; one below 0 lies outside every image, and `place_of` answers a number for it.
 pub fn place(t: i32) -> u32
     ensures { result ≡ place_of t }
 {

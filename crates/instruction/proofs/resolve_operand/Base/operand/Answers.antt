@@ -1,10 +1,12 @@
 -- What `operand` answers, kind by kind.
 -- Assumes nothing.
 use Rattle.std.proofs.Common.{◌≡◌, ℕ, [], ◌∷◌, ℤ, pos, sym, refl, ◌∙◌}
+use mathlib.Core.Logic.{◌⊎◌, inl, inr}
 use Rattle.instruction.specs.Answer.{Answer, refuse, judge}
 use Rattle.instruction.specs.Range.{unfit}
 use Rattle.instruction.specs.ResolveOperand.{operand_refusals, field_of}
 use Rattle.instruction.specs.declared.kind.Kind.{Kind}
+use Rattle.instruction.specs.declared.kind.Kind.TheVariants.{Immediate, Direct, Register, BitNumber, Far}
 use Rattle.instruction.specs.declared.mode.Mode.{Mode}
 use Rattle.instruction.proofs.Judging.{done}
 use Rattle.instruction.proofs.Resolving.{answer_of}
@@ -21,29 +23,23 @@ own : (o : Mode) (b n : ℕ) {k k' : Kind} {y z : ℤ} {r : Answer ℤ} → k' �
     → r ≡ answer_of o b n k' z
 own o b n e f g h = at o b n e f ((rw e at h) ∙ g)
 
+-- whichever of the five kinds it is of
+any_own : (o : Mode) (b n : ℕ) {k : Kind} {y z : ℤ} {r : Answer ℤ}
+    → (k ≡ Immediate) ⊎ ((k ≡ Direct) ⊎ ((k ≡ Register) ⊎ ((k ≡ BitNumber) ⊎ (k ≡ Far)))) → y ≡ z
+    → r ≡ judge (refuse (unfit k y) 7 (pos n ∷ y ∷ []) ∷ []) y → r ≡ answer_of o b n k z
+unfolding operand_refusals field_of unfit
+any_own o b n (inl e) f h = own o b n e f refl h
+any_own o b n (inr (inl e)) f h = own o b n e f refl h
+any_own o b n (inr (inr (inl e))) f h = own o b n e f refl h
+any_own o b n (inr (inr (inr (inl e)))) f h = own o b n e f refl h
+any_own o b n (inr (inr (inr (inr e)))) f h = own o b n e f refl h
+
 pub returns-in-Absent : goal.returns-in-Absent
 unfolding operand_refusals field_of
 returns-in-Absent c = at _ _ _ c.in-Absent.is (back c.ranges.z) (sym (done _))
 
 pub returns-in-Immediate : goal.returns-in-Immediate
-unfolding operand_refusals field_of unfit
-returns-in-Immediate c = own _ _ _ c.in-Immediate.is (back c.ranges.z) refl c.plain.ensures
-
-pub returns-in-Direct : goal.returns-in-Direct
-unfolding operand_refusals field_of unfit
-returns-in-Direct c = own _ _ _ c.in-Direct.is (back c.ranges.z) refl c.plain-in-Direct.ensures
-
-pub returns-in-Register : goal.returns-in-Register
-unfolding operand_refusals field_of unfit
-returns-in-Register c = own _ _ _ c.in-Register.is (back c.ranges.z) refl c.plain-in-Register.ensures
-
-pub returns-in-BitNumber : goal.returns-in-BitNumber
-unfolding operand_refusals field_of unfit
-returns-in-BitNumber c = own _ _ _ c.in-BitNumber.is (back c.ranges.z) refl c.plain-in-BitNumber.ensures
-
-pub returns-in-Far : goal.returns-in-Far
-unfolding operand_refusals field_of unfit
-returns-in-Far c = own _ _ _ c.in-Far.is (back c.ranges.z) refl c.plain-in-Far.ensures
+returns-in-Immediate c = any_own _ _ _ c.in-Immediate.is (back c.ranges.z) c.plain.ensures
 
 pub returns-in-Page : goal.returns-in-Page
 unfolding operand_refusals field_of
