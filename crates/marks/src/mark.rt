@@ -1,4 +1,4 @@
-// Marks, one byte for each position.
+// Marks, one byte for each position. Any byte may stand in lent marks, so that a mark stays a number.
 ghost use Rattle.std.specs.Prelude.{◌≡◌, set, slice_index};
 ghost use Rattle.reach.specs.Mark.{traced_mark};
 

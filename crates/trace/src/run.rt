@@ -72,6 +72,7 @@ fn take_next(
             Ok(queue::put(order, tail, taken.noted))
         }
         Err(NotWhole::Cut(c)) => Err(c),
+        // A position of the queue is inside, so that this is never met.
         Err(NotWhole::Outside) => Ok(tail),
     }
 }

@@ -3,9 +3,12 @@
 use mathlib.Core.Path.{◌≡◌, refl, ap, sym, ◌∙◌}
 use mathlib.Core.Bool.{Bool, true, false, cond}
 use mathlib.Core.List.{List, [], ◌∷◌}
-use Prim.Native.Nat.{ℕ}
+use Prim.Native.Nat.{ℕ, ◌≤◌}
+use native.Mathlib.Omega.{arith}
 use lib.Dec.{ltb}
-use lib.IntN.{ℤ, pos, ◌+ℤ◌}
+use lib.IntN.{ℤ, pos, negsuc, ◌+ℤ◌}
+use lib.Signed.{lt_z}
+use borrow.Author.Tests.{ltb-false}
 use Rattle.instruction.specs.Answer.{refuse, judge}
 use Rattle.instruction.specs.Decode.{decode_answer, fields_in}
 use Rattle.instruction.specs.Encode.{form_in, misfits}
@@ -22,10 +25,13 @@ use Rattle.instruction.specs.declared.instr.Instr.{Instr}
 use Rattle.instruction.specs.declared.kind.Kind.{Kind}
 use Rattle.instruction.specs.declared.kind.Kind.TheVariants.{Absent, Immediate, Direct, Register, BitNumber, Page, Far, Short, Long}
 use Rattle.instruction.specs.declared.mode.Mode.TheVariants.{Unwrapped, Wrapping}
-use Rattle.instruction.proofs.Sign.{inside}
+use Rattle.instruction.proofs.Sign.{inside, never}
 use Rattle.targets.specs.Targets.{next_of, address_of, address_in, by_flow, targets_in, targets_answer}
-use Rattle.targets.proofs.Wrapping.{between}
 use Rattle.trace_laws.specs.ClaimsModes.{TargetsAsBefore, Inside, TargetsAlike, ModesTargets}
+
+between : (z : ℤ) → lt_z z (pos 0) ≡ false → lt_z (pos 65535) z ≡ false → z ≡ pos (wrapped z)
+between (pos n) e f = let k : n ≤ 65535 = ltb-false 65535 n f in ap pos (omega arith)
+between (negsuc n) e f = absurd (never e)
 
 pub unmoved : (z : ℤ) → no_address z ≡ false → pos (wrapped z) ≡ z
 unmoved z e = let h = inside (pos 0) (pos 65535) z e in sym (between z h.0 h.1)
