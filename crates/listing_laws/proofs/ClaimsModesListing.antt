@@ -8,6 +8,7 @@ use Prim.Native.Nat.{ℕ, zero, suc, ◌+◌}
 use lib.Dec.{ltb}
 use lib.IntN.{ℤ}
 use lib.ListN.{length, take, drop}
+use Rattle.std.specs.Prelude.{Ok, Err}
 use Rattle.instruction.specs.Answer.{Answer}
 use Rattle.instruction.specs.Bytes.{Bytes}
 use Rattle.instruction.specs.Decode.{cut_at}
@@ -20,7 +21,7 @@ use Rattle.instruction.specs.declared.mode.Mode.TheVariants.{Unwrapped, Wrapping
 use Rattle.targets.specs.At.{fits_here, instr_here}
 use Rattle.targets.specs.Here.{here_of}
 use Rattle.targets.specs.Targets.{targets_in}
-use Rattle.targets.specs.declared.here.Here.TheVariants.{Whole, Cut, Outside}
+use Rattle.targets.specs.declared.not_whole.NotWhole.TheVariants.{Cut, Outside}
 use Rattle.targets.proofs.Within.{size_here_lem}
 use Rattle.trace_laws.specs.ClaimsModes.{Inside}
 use Rattle.trace_laws.specs.ClaimsModesAlike.{Stays}
@@ -59,8 +60,8 @@ module _ (image : List ℕ) (B : Bytes image) (S : Stays image) (p : ℕ) where
   here_same = by (ltb p (length image)) (fits_here image p) instr_same
     where
       by : (a b : Bool) → (b ≡ true → instr_line Wrapping image p instr ≡ instr_line Unwrapped image p instr)
-          → here_line Wrapping image p (cond a (cond b (Whole instr) (Cut (cut_at image p))) Outside)
-          ≡ here_line Unwrapped image p (cond a (cond b (Whole instr) (Cut (cut_at image p))) Outside)
+          → here_line Wrapping image p (cond a (cond b (Ok instr) (Err (Cut (cut_at image p)))) (Err Outside))
+          ≡ here_line Unwrapped image p (cond a (cond b (Ok instr) (Err (Cut (cut_at image p)))) (Err Outside))
       by false b e = refl
       by true false e = refl
       by true true e = e refl
