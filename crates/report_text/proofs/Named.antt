@@ -18,45 +18,23 @@ use Rattle.report_text.specs.Image.{input_lines, input_answer, image_answer}
 use Rattle.report_text.specs.Name.{is_name, is_name_line, name_in, name_length}
 use Rattle.report_text.specs.declared.figures.Figures.{Figures}
 
--- a name has a letter or a digit at least
-named_long : (l : List ℕ) → is_name_line l ≡ true → 1 ≤ length l - 2
-unfolding is_name_line is_name
-named_long l e =
-    let n = second_part (eqb (get_or l 1 0) 9) (is_name (name_in l)) (second_part (eqb (get_or l 0 0) 78) _ e) in
-    let h = leb-true 1 (length (name_in l)) (first_part (leb 1 (length (name_in l))) _ n) in
-    omega (arith, length-drop 2 l)
-
-bad_name : (l : List ℕ) → name_length l ≡ 0 → is_name_line l ≡ false
-bad_name l e = by (is_name_line l) refl e
-  where
-    by : (t : Bool) → is_name_line l ≡ t → cond t (length l - 2) 0 ≡ 0 → t ≡ false
-    by true f g = let h = named_long l f in absurd (omega arith)
-    by false f g = refl
-
-good_name : (l : List ℕ) → (name_length l ≡ 0 → ⊥) → is_name_line l ≡ true
-good_name l n = by (is_name_line l) n
-  where
-    by : (t : Bool) → (cond t (length l - 2) 0 ≡ 0 → ⊥) → t ≡ true
-    by true g = refl
-    by false g = absurd (g refl)
-
--- the first line ends at e, and the name has k bytes
-module _ (t : List ℕ) (e : ℕ) (p : e ≡ 0 + length (up_to 10 (drop 0 t))) (k : ℕ) (n : k ≡ name_length (take (e - 0) (drop 0 t))) where
-  answered : (b : Bool) → is_name_line (take (e - 0) (drop 0 t)) ≡ b
+-- the first line ends at e
+module _ (t : List ℕ) (e : ℕ) (p : e ≡ 0 + length (up_to 10 (drop 0 t))) where
+  answered : (b : Bool) → is_name_line (take e t) ≡ b
       → cond b (input_answer (input_lines (others (lines t)))) (refused 13 []) ≡ image_answer (lines t)
   unfolding image_answer
   answered b f =
-      sym (ap (λ (x : Bool). cond x (input_answer (input_lines (others (lines t)))) (refused 13 [])) (ap is_name_line (split t e p).0 ∙ f))
+      sym (ap (λ (x : Bool). cond x (input_answer (input_lines (others (lines t)))) (refused 13 [])) (ap is_name_line (split t e p).0 ∙ ap (λ (n : ℕ). is_name_line (take n t)) (let z : e - 0 ≡ e = omega arith in z) ∙ f))
 
-  pub unnamed : k ≡ 0 → refused 13 [] ≡ image_answer (lines t)
-  unnamed z = answered false (bad_name _ (sym n ∙ z))
+  pub unnamed : is_name_line (take e t) ≡ false → refused 13 [] ≡ image_answer (lines t)
+  unnamed = answered false
 
   -- the second line begins at i, and in the text from there on the input's lines at j
-  pub named : (k ≡ 0 → ⊥) → (i : ℕ) → lines (drop i t) ≡ others (lines t) → (rest : List ℕ) → rest ≡ take (length t - i) (drop i t)
+  pub named : is_name_line (take e t) ≡ true → (i : ℕ) → lines (drop i t) ≡ others (lines t) → (rest : List ℕ) → rest ≡ take (length t - i) (drop i t)
       → (j : ℕ) → input_answer (lines (drop j rest)) ≡ input_answer (input_lines (lines rest))
       → (r : Answer Figures) → r ≡ input_answer (lines (take (length rest - j) (drop j rest))) → r ≡ image_answer (lines t)
   named z i f rest g j h r q =
       q ∙ ap (λ (s : List ℕ). input_answer (lines s)) (to_end rest j) ∙ h
       ∙ ap (λ (s : List ℕ). input_answer (input_lines (lines s))) (g ∙ to_end t i)
       ∙ ap (λ (ls : List (List ℕ)). input_answer (input_lines ls)) f
-      ∙ answered true (good_name _ (λ y. z (n ∙ y)))
+      ∙ answered true z

@@ -1,100 +1,92 @@
 -- Names: each test of the code is one of the definition.
 -- Assumes nothing.
-use mathlib.Core.Path.{◌≡◌, refl, sym, ap}
+use mathlib.Core.Path.{◌≡◌, refl, sym, ap, ap₂, ◌∙◌}
 use mathlib.Core.Bool.{Bool, true, false, ◌&&◌, ◌||◌}
 use mathlib.Core.List.{List, [], ◌∷◌}
 use Prim.Native.Nat.{ℕ, ◌+◌, ◌-◌, ◌≤◌, ◌<◌}
-use native.Mathlib.Numerals.{add-one}
 use native.Mathlib.Omega.{arith}
 use lib.Dec.{eqb, leb}
-use lib.ListN.{length, get_or, take, drop, length-drop, drop_of_length-le}
-use lib.Seq.{drop-cons, take_all}
-use borrow.Author.Tests.{le-leb, lt-leb, eq-eqb, ne_eqb, leb-true}
+use lib.ListN.{length, get_or, take, drop, length-drop}
+use lib.Pointwise.{pointwise}
+use borrow.Author.Tests.{le-leb, lt-leb, leb-true}
+use Rattle.std.specs.List.{list_all}
+use Rattle.std.specs.Char.{is_ascii_alphanumeric}
 use Rattle.instruction.proofs.Ands.{not_first, not_second, first_part, second_part}
-use Rattle.report_text.specs.Name.{is_letter_or_digit, all_named, is_name, is_name_line, name_in, name_of, name_length}
+use Rattle.report_text.specs.Name.{is_letter_or_digit, all_named, is_name, is_name_line, name_in, name_of}
 
-or_none : (t : Bool) → t ≡ (t || (false || false))
-or_none true = refl
-or_none false = refl
+-- the library's test, and ours
+all_as : (n : List ℕ) → list_all is_ascii_alphanumeric n ≡ all_named n
+unfolding all_named
+all_as [] = refl
+all_as (b ∷ n) =
+    ap₂ (λ (x y : Bool). x && y) (by (leb 48 b && leb b 57) (leb 65 b && leb b 90) (leb 97 b && leb b 122)) (all_as n)
+  where
+    by : (x y z : Bool) → ((x || y) || z) ≡ (x || (y || z))
+    by true y z = refl
+    by false y z = refl
 
-module _ (b : ℕ) where
-  pub before_0 : b < 65 → b < 48 → leb 48 b ≡ is_letter_or_digit b
-  before_0 h k = rw (lt-leb 48 b k, lt-leb 65 b h, lt-leb 97 b (omega arith))
+-- a line that begins with `N` and a tab, and one that does not
+pub unstarted : (l : List ℕ) → pointwise eqb (take 2 l) (78 ∷ 9 ∷ []) ≡ false → is_name_line l ≡ false
+unfolding is_name_line
+unstarted [] h = refl
+unstarted (x ∷ []) h = not_second (eqb x 78) _ refl
+unstarted (x ∷ y ∷ t) h = by (eqb x 78) (eqb y 9) (is_name t) h
+  where
+    by : (p q r : Bool) → (p && (q && true)) ≡ false → (p && (q && r)) ≡ false
+    by true true r g = cc
+    by true false r g = refl
+    by false q r g = refl
 
-  pub from_0 : b < 65 → 48 ≤ b → leb b 57 ≡ is_letter_or_digit b
-  from_0 h k = rw (le-leb 48 b k, lt-leb 65 b h, lt-leb 97 b (omega arith)) (or_none (leb b 57))
+started : (l : List ℕ) → pointwise eqb (take 2 l) (78 ∷ 9 ∷ []) ≡ true → is_name_line l ≡ is_name (name_in l)
+unfolding is_name_line
+started [] h = cc
+started (x ∷ []) h = by (eqb x 78) h
+  where
+    by : (p : Bool) → (p && false) ≡ true → is_name_line (x ∷ []) ≡ is_name (name_in (x ∷ []))
+    by true g = cc
+    by false g = cc
+started (x ∷ y ∷ t) h = by (eqb x 78) (eqb y 9) (is_name t) h
+  where
+    by : (p q r : Bool) → (p && (q && true)) ≡ true → (p && (q && r)) ≡ r
+    by true true r g = refl
+    by true false r g = cc
+    by false q r g = cc
 
-  pub upper : 65 ≤ b → b ≤ 90 → true ≡ is_letter_or_digit b
-  upper h k = rw (le-leb 48 b (omega arith), lt-leb b 57 (omega arith), le-leb 65 b h, le-leb b 90 k)
+-- what follows, and is no name
+module _ (n : List ℕ) where
+  no_letter : length n ≡ 0 → is_name n ≡ false
+  unfolding is_name
+  no_letter h = not_first _ _ (lt-leb 1 (length n) (omega arith))
 
-  pub before_a : 90 < b → b < 97 → leb 97 b ≡ is_letter_or_digit b
-  before_a h k = rw (le-leb 48 b (omega arith), lt-leb b 57 (omega arith), le-leb 65 b (omega arith), lt-leb b 90 h, lt-leb 97 b k)
+  too_long : 32 < length n → is_name n ≡ false
+  unfolding is_name
+  too_long h = not_second (leb 1 (length n)) _ (not_first _ _ (lt-leb (length n) 32 h))
 
-  pub from_a : 90 < b → 97 ≤ b → leb b 122 ≡ is_letter_or_digit b
-  from_a h k = rw (le-leb 48 b (omega arith), lt-leb b 57 (omega arith), le-leb 65 b (omega arith), lt-leb b 90 h, le-leb 97 b k)
+  other_byte : list_all is_ascii_alphanumeric n ≡ false → is_name n ≡ false
+  unfolding is_name
+  other_byte e = not_second (leb 1 (length n)) _ (not_second (leb (length n) 32) _ (sym (all_as n) ∙ e))
 
--- all letters and digits, from a place on
-module _ (s : List ℕ) (i : ℕ) where
-  pub named_stop : i < length s → is_letter_or_digit (get_or s i 0) ≡ false → all_named (drop i s) ≡ false
-  unfolding all_named
-  named_stop h e = rw (drop-cons s i 0, e)
+  all_letters : (length n ≡ 0 → ⊥) → length n ≤ 32 → list_all is_ascii_alphanumeric n ≡ true → is_name n ≡ true
+  unfolding is_name
+  all_letters g h e = rw (le-leb 1 (length n) (omega arith), le-leb (length n) 32 h, sym (all_as n) ∙ e)
 
-  pub named_more : i < length s → is_letter_or_digit (get_or s i 0) ≡ true → all_named (drop i s) ≡ all_named (drop (i + 1) s)
-  unfolding all_named
-  named_more h e = rw (add-one, drop-cons s i 0, e)
+module _ (l n : List ℕ) (s : pointwise eqb (take 2 l) (78 ∷ 9 ∷ []) ≡ true) (e : n ≡ name_in l) where
+  from_name : (b : Bool) → is_name n ≡ b → is_name_line l ≡ b
+  from_name b h = started l s ∙ ap is_name (sym e) ∙ h
 
-  pub named_end : length s ≤ i → all_named (drop i s) ≡ true
-  unfolding all_named
-  named_end h = rw (drop_of_length-le s h)
+  pub line_empty : length n ≡ 0 → is_name_line l ≡ false
+  line_empty h = from_name false (no_letter n h)
 
--- a line that names an image, and one that does not
+  pub line_long : 32 < length n → is_name_line l ≡ false
+  line_long h = from_name false (too_long n h)
+
+  pub line_other : list_all is_ascii_alphanumeric n ≡ false → is_name_line l ≡ false
+  line_other h = from_name false (other_byte n h)
+
+  pub line_named : (length n ≡ 0 → ⊥) → length n ≤ 32 → list_all is_ascii_alphanumeric n ≡ true → is_name_line l ≡ true
+  line_named g h k = from_name true (all_letters n g h k)
+
 module _ (l : List ℕ) where
-  -- what stands after the first two bytes
-  pub after_two : take (length l - 2) (name_in l) ≡ name_in l
-  after_two = take_all (length l - 2) (name_in l) (omega (arith, length-drop 2 l))
-
-  refuses : is_name_line l ≡ false → 0 ≡ name_length l
-  refuses e = rw e
-
-  tabless : (eqb (get_or l 1 0) 9 && is_name (name_in l)) ≡ false → 0 ≡ name_length l
-  unfolding is_name_line
-  tabless e = refuses (not_second (eqb (get_or l 0 0) 78) _ e)
-
-  unnamed : is_name (name_in l) ≡ false → 0 ≡ name_length l
-  unnamed e = tabless (not_second (eqb (get_or l 1 0) 9) _ e)
-
-  unmeasured : (leb (length (name_in l)) 32 && all_named (name_in l)) ≡ false → 0 ≡ name_length l
-  unfolding is_name
-  unmeasured e = unnamed (not_second (leb 1 (length (name_in l))) _ e)
-
-  pub too_short_lem : length l < 3 → 0 ≡ name_length l
-  unfolding is_name
-  too_short_lem h = unnamed (not_first _ _ (lt-leb 1 (length (name_in l)) (omega (arith, length-drop 2 l))))
-
-  pub too_long : 34 < length l → 0 ≡ name_length l
-  too_long h = unmeasured (not_first _ _ (lt-leb (length (name_in l)) 32 (omega (arith, length-drop 2 l))))
-
-  pub no_n : (get_or l 0 0 ≡ 78 → ⊥) → 0 ≡ name_length l
-  unfolding is_name_line
-  no_n h = refuses (not_first _ _ (ne_eqb (get_or l 0 0) 78 h))
-
-  pub no_tab : (get_or l 1 0 ≡ 9 → ⊥) → 0 ≡ name_length l
-  no_tab h = tabless (not_first _ _ (ne_eqb (get_or l 1 0) 9 h))
-
-  pub other_byte : all_named (name_in l) ≡ false → 0 ≡ name_length l
-  other_byte e = unmeasured (not_second (leb (length (name_in l)) 32) _ e)
-
-  name_line : 3 ≤ length l → length l ≤ 34 → get_or l 0 0 ≡ 78 → get_or l 1 0 ≡ 9 → all_named (name_in l) ≡ true → is_name_line l ≡ true
-  unfolding is_name_line is_name
-  name_line h k n t e =
-      let d = length-drop 2 l in
-      let a = le-leb 1 (length (name_in l)) (omega (arith, d)) in
-      let b = le-leb (length (name_in l)) 32 (omega (arith, d)) in
-      rw (eq-eqb (get_or l 0 0) 78 n, eq-eqb (get_or l 1 0) 9 t, a, b, e)
-
-  pub good_name : 3 ≤ length l → length l ≤ 34 → get_or l 0 0 ≡ 78 → get_or l 1 0 ≡ 9 → all_named (name_in l) ≡ true → length l - 2 ≡ name_length l
-  good_name h k n t e = rw (name_line h k n t e)
-
   -- a name has 1 to 32 bytes
   pub name_sized : is_name_line l ≡ true → (3 ≤ length l) × (length l ≤ 34)
   unfolding is_name_line is_name
@@ -105,20 +97,9 @@ module _ (l : List ℕ) where
       let b = leb-true (length (name_in l)) 32 (first_part _ _ (second_part (leb 1 (length (name_in l))) _ s)) in
       (omega (arith, a, d), omega (arith, b, d))
 
-  pub has_name : (name_length l ≡ 0 → ⊥) → is_name_line l ≡ true
-  has_name h = by (is_name_line l) refl
-    where
-      by : (t : Bool) → is_name_line l ≡ t → is_name_line l ≡ true
-      by true e = e
-      by false e = absurd (h (sym (refuses e)))
-
-  pub no_name : name_length l ≡ 0 → name_of l ≡ 45 ∷ []
+  pub no_name : is_name_line l ≡ false → name_of l ≡ 45 ∷ []
   unfolding name_of
-  no_name h = by (is_name_line l) refl
-    where
-      by : (t : Bool) → is_name_line l ≡ t → name_of l ≡ 45 ∷ []
-      by true e = let z : length l - 2 ≡ 0 = rw e at h in absurd (omega (arith, (name_sized e).0, z))
-      by false e = rw e
+  no_name e = rw e
 
   pub is_name_lem : is_name_line l ≡ true → name_of l ≡ name_in l
   unfolding name_of
@@ -129,4 +110,4 @@ module _ (l : List ℕ) where
     where
       by : (t : Bool) → is_name_line l ≡ t → length (name_of l) ≤ 32
       by true e = omega (arith, ap length (is_name_lem e), length-drop 2 l, (name_sized e).1)
-      by false e = omega (arith, ap length (no_name (sym (refuses e))))
+      by false e = omega (arith, ap length (no_name e))

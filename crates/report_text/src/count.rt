@@ -38,15 +38,13 @@ pub fn count_bytes(image: &[u8], marks: &[u8]) -> Tally
     let mut shared: usize = 0;
     let mut here: usize = 0;
     let mut next: usize = 0;
-    let mut p: usize = 0;
-    while p < image.len() {
+    for p in 0..image.len() {
         let size = size_of(image, marks, p);
         let under = here + (0 < size) as usize;
         code += (0 < under) as usize;
         shared += (1 < under) as usize;
         here = next + (1 < size) as usize;
         next = (2 < size) as usize;
-        p += 1;
     }
     Tally { code, shared }
 }
@@ -56,10 +54,8 @@ fn set_in(room: &[u8]) -> usize
     ensures { result ≡ count is_set room.now }
 {
     let mut n: usize = 0;
-    let mut i: usize = 0;
-    while i < room.len() {
-        n += (room[i] != 0) as usize;
-        i += 1;
+    for b in room {
+        n += (*b != 0) as usize;
     }
     n
 }

@@ -19,25 +19,23 @@ fn in_part(part: &[u8]) -> u8
     ensures { result ≡ empty_lines part.now }
 {
     let mut n: u8 = 0;
-    let mut i: usize = 1;
-    while i < part.len() {
+    for i in 1..part.len() {
         n += ends_empty(part[i - 1], part[i]) as u8;
-        i += 1;
     }
     n
 }
 
-// The same of a text, part by part. Each begins with the last byte of the one before.
+// The same of a text, part by part. Each begins with the last byte of the one before, as no iterator over parts has it.
 pub fn empty_lines(text: &[u8]) -> usize
     ensures { result ≡ empty_lines text.now }
 {
     let mut n: usize = 0;
-    let mut from: usize = 0;
-    while PART < text.len() - from {
-        n += in_part(&text[from..from + PART]) as usize;
-        from += PART - 1;
+    let mut left = text;
+    while PART < left.len() {
+        n += in_part(&left[..PART]) as usize;
+        left = &left[PART - 1..];
     }
-    n + in_part(&text[from..]) as usize
+    n + in_part(left) as usize
 }
 
 // Whether no empty line ends in a part; it begins a line if `fresh` says so.

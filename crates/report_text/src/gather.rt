@@ -37,16 +37,14 @@ fn gather_bytes(held: usize, fresh: bool, text: &[u8], m: usize, room: &mut [u8]
 {
     let mut held = held;
     let mut fresh = fresh;
-    let mut at: usize = 0;
-    while at < m {
+    for at in 0..m {
         let b = text[at];
-        at += 1;
         if fresh && b == cut::LINE_END {
             if held != 0 {
                 return Gathered {
                     held,
                     fresh,
-                    used: at,
+                    used: at + 1,
                     complete: true,
                 };
             }
@@ -58,7 +56,7 @@ fn gather_bytes(held: usize, fresh: bool, text: &[u8], m: usize, room: &mut [u8]
     Gathered {
         held,
         fresh,
-        used: at,
+        used: m,
         complete: false,
     }
 }
@@ -83,18 +81,7 @@ fn gather_part(held: usize, fresh: bool, text: &[u8], m: usize, room: &mut [u8])
     }
 }
 
-// How long the next part is of a text that is so long.
-fn part_of(n: usize) -> usize
-    requires { 0 < n }
-    ensures { (0 < result) × (result ≤ n) × (result ≤ 256) }
-{
-    if n < empty::PART {
-        return n;
-    }
-    empty::PART
-}
-
-// Part by part: an image's text is long, and few of its lines are empty.
+// Part by part: an image's text is long, and few of its lines are empty. How much a turn takes is told by the text, so no iterator counts them.
 pub fn gather(term: Term, text: &[u8], room: &mut [u8]) -> Gathered
     requires { (most ≤ length room.old) × (term.over ≡ false) }
     ensures { Gathering term text.now room.old room.new result }
@@ -103,7 +90,7 @@ pub fn gather(term: Term, text: &[u8], room: &mut [u8]) -> Gathered
     let mut fresh = term.fresh;
     let mut at: usize = 0;
     while at < text.len() {
-        let m = part_of(text.len() - at);
+        let m = empty::PART.min(text.len() - at);
         let g = gather_part(held, fresh, &text[at..], m, room);
         held = g.held;
         fresh = g.fresh;

@@ -109,9 +109,9 @@ pub fn report_image(text: &[u8]) -> Reported
     ensures { reported_of result ≡ image_answer (lines text.now) }
 {
     let e = cut::end(text, 0, cut::LINE_END);
-    if name::name_length(&text[0..e]) == 0 {
+    let Some(_) = name::name_in(&text[..e]) else {
         return Reported::Refused(13);
-    }
+    };
     let from = second_line(text, e);
     let rest = &text[from..];
     let start = input_start(rest);

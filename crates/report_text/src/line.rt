@@ -8,8 +8,8 @@ ghost use Rattle.report_text.specs.Report.{fields_of, told_of, image_line, total
 
 use crate::figures::Figures;
 use crate::image::Reported;
-use crate::name;
 use crate::sums::Sums;
+use crate::{copy, name};
 use list_text::decimal;
 use text::cut;
 
@@ -20,14 +20,12 @@ fn put_fields(numbers: &[u64], room: &mut [u8], at: usize) -> usize
     ensures upper_bound { result ≤ at + 21 * length numbers.now }
 {
     let mut to = at;
-    let mut i: usize = 0;
-    while i < numbers.len() {
-        let n = numbers[i] as usize;
+    for number in numbers {
+        let n = *number as usize;
         let k = decimal::width(n);
         room[to] = cut::TAB;
         decimal::put(n, k, room, to + 1);
         to += k + 1;
-        i += 1;
     }
     to
 }
@@ -69,12 +67,8 @@ fn put_name(name: &[u8], room: &mut [u8]) -> usize
     requires { length name.now ≤ length room.old }
     ensures { Puts name.now 0 room.old room.new result }
 {
-    let mut i: usize = 0;
-    while i < name.len() {
-        room[i] = name[i];
-        i += 1;
-    }
-    i
+    copy::copy(name, room, 0);
+    name.len()
 }
 
 // Writes the line of an image with this name: how long it is.
@@ -95,10 +89,10 @@ pub fn put_image(first: &[u8], image: Reported, room: &mut [u8]) -> usize
     ensures puts { Puts (image_line (name_of first.now) (reported_of image)) 0 room.old room.new result }
     ensures upper_bound { result ≤ 159 }
 {
-    if name::name_length(first) == 0 {
-        return put_named(b"-", image, room);
+    match name::name_in(first) {
+        Some(name) => put_named(name, image, room),
+        None => put_named(b"-", image, room),
     }
-    put_named(&first[2..], image, room)
 }
 
 // Writes the line of the refusal 22: how long it is.

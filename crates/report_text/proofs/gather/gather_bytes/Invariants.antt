@@ -1,0 +1,9 @@
+-- The bytes so far are held.
+use Rattle.std.proofs.Common.{◌≡◌, length}
+use Rattle.report_text.specs.Going.{going, Gone}
+use Rattle.report_text.specs.declared.sums.Sums.{Sums}
+use Rattle.report_text.proofs.gather.gather_bytes.Given as goal
+
+abbrev pub invariant-loop-at : goal.invariant-loop-at
+invariant-loop-at l =
+    (length l.room ≡ length l.fn.room) × ((s : Sums) → Gone (going s l.initial.held l.initial.fresh l.fn.room) l.text (going s l.held l.fresh l.room) l.at)
