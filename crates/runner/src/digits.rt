@@ -1,9 +1,10 @@
 // Numbers of a list, in digits.
-ghost use Rattle.std.specs.Prelude.{◌≡◌, ◌<◌, IfSome};
+ghost use Rattle.std.specs.Prelude.{◌≡◌};
+ghost use Rattle.runner.specs.Digits.{hex_digit_of, decimal_digit_of};
 
 // What an upper-case hex digit stands for.
 pub fn hex_digit(b: u8) -> Option<u8>
-    ensures { IfSome result (λ d. d < 16) }
+    ensures { result ≡ hex_digit_of b }
 {
     match b {
         b'0'..=b'9' => Some(b - b'0'),
@@ -14,9 +15,12 @@ pub fn hex_digit(b: u8) -> Option<u8>
 
 // What a decimal digit stands for.
 pub fn decimal_digit(b: u8) -> Option<u8>
-    ensures { IfSome result (λ d. d < 10) }
+    ensures { result ≡ decimal_digit_of b }
 {
-    hex_digit(b).filter(|d| *d < 10)
+    match b {
+        b'0'..=b'9' => Some(b - b'0'),
+        _ => None,
+    }
 }
 
 // A decimal number, whose digits are read by `digit`, and 0 for what is none; what is past twelve digits is not read.

@@ -1,90 +1,203 @@
-// What the lines of a case say, up to its last.
+// What the lines of a case say, and whether it holds.
 ghost use Rattle.std.specs.Prelude.{◌≤◌};
 
-use crate::wanted::Wanted;
-use crate::{counts, number, part};
+use crate::log::Lent;
+use crate::number;
 use instruction::Mode;
+use marks::SizeError;
+use replay::{ReplayError, Totals};
+use runner::{Entries, Tally};
+use text::{bytes, cut};
+use views::ViewError;
+
+// Where the marks begin in what is given, after the image, and more counts than any case has.
+pub const HALF: usize = 70_000;
+
+// A count before, where no other is told.
+pub const OLD: u64 = 7;
 
 #[derive(Clone, Copy)]
-pub struct Case {
+struct Case {
     // Where its log ends.
-    pub text: usize,
+    text: usize,
     // How long the image is, and how many marks, counts and entries are lent.
-    pub length: usize,
-    pub marks: usize,
-    pub counts: usize,
-    pub entries: usize,
-    pub wrapping: bool,
+    length: usize,
+    marks: usize,
+    counts: usize,
+    entries: usize,
+    mode: Mode,
 }
 
 impl Case {
-    pub fn new() -> Self {
+    // Before its first line.
+    const NEW: Self = Self {
+        text: 0,
+        length: 0,
+        marks: 0,
+        counts: 0,
+        entries: 0,
+        mode: Mode::Unwrapped,
+    };
+}
+
+// The case that is being read, its log, its image and marks, its entries, the counts before and those that are wanted.
+#[derive(Drop)]
+pub struct List<'a> {
+    case: Case,
+    text: &'a mut [u8],
+    given: &'a mut [u8],
+    entries: &'a mut [u32],
+    before: &'a mut [u64],
+    after: &'a mut [u64],
+}
+
+// A last line's letter says which answer is wanted, and its numbers what the answer holds.
+fn wanted(letter: u8, rest: &[u8]) -> Option<Result<Totals, ReplayError>> {
+    let a = number::of(rest);
+    let n = a as usize;
+    let k = u64::from(a);
+    let error = match letter {
+        b'w' => {
+            return Some(Ok(Totals {
+                lines: k,
+                interrupts: u64::from(number::of(number::after(rest, 8))),
+                free: u64::from(number::of(number::after(rest, 16))),
+            }));
+        }
+        b'l' => ReplayError::View(ViewError::Size(SizeError::LongImage(n))),
+        b's' => ReplayError::View(ViewError::Size(SizeError::ShortMarks(n))),
+        b'd' => ReplayError::View(ViewError::Damaged(a)),
+        b'r' => ReplayError::View(ViewError::NoRoom(n)),
+        b'm' => ReplayError::Malformed(k),
+        b'u' => ReplayError::Untraced(k),
+        b'f' => ReplayError::Forbidden(k),
+        b'o' => ReplayError::Full(k),
+        _ => return None,
+    };
+    Some(Err(error))
+}
+
+// Bytes in hex, at a place and as far as there is room: where they end.
+fn put_bytes(digits: &[u8], at: usize, room: &mut [u8]) -> usize {
+    bytes::put(digits, room, at);
+    at.saturating_add(digits.len() / 2).min(room.len().max(at))
+}
+
+fn set(counts: &mut [u64], at: usize, count: u64) {
+    if let Some(place) = counts.get_mut(at) {
+        *place = count;
+    }
+}
+
+impl<'a> List<'a> {
+    pub fn new(
+        text: &'a mut [u8],
+        given: &'a mut [u8],
+        entries: &'a mut [u32],
+        before: &'a mut [u64],
+        after: &'a mut [u64],
+    ) -> Self {
         Self {
-            text: 0,
-            length: 0,
-            marks: 0,
-            counts: 0,
-            entries: 0,
-            wrapping: false,
+            case: Case::NEW,
+            text,
+            given,
+            entries,
+            before,
+            after,
         }
     }
 
-    pub fn mode(self) -> Mode {
-        if self.wrapping {
-            Mode::Wrapping
-        } else {
-            Mode::Unwrapped
+    // A part of the image or of the marks, from a beginning on: four digits say where its bytes stand.
+    fn give(&mut self, from: usize, rest: &[u8])
+        requires { from ≤ 70000 }
+    {
+        bytes::put(
+            number::after(rest, 4),
+            self.given,
+            from + number::place(rest),
+        );
+    }
+
+    // A count at the place that four digits say. A count before is wanted too, as long as no other is told.
+    fn tell(&mut self, is_before: bool, rest: &[u8]) {
+        let at = number::place(rest);
+        let count = number::long_of(number::after(rest, 4));
+        if is_before {
+            set(self.before, at, count);
+        }
+        set(self.after, at, count);
+    }
+
+    // One entry more.
+    fn enter(&mut self, entry: u32) {
+        self.case.entries = runner::copy(&[entry], self.case.entries, self.entries);
+    }
+
+    // A line whose letter has no meaning says nothing.
+    fn read(&mut self, letter: u8, rest: &[u8]) {
+        let value = number::of(rest);
+        let number = value as usize;
+        match letter {
+            b'T' => {
+                let end = runner::copy(rest, self.case.text, self.text);
+                self.case.text = runner::copy(&[cut::LINE_END], end, self.text);
+            }
+            b'H' => self.case.text = put_bytes(rest, self.case.text, self.text),
+            b'B' => self.give(0, rest),
+            b'M' => self.give(HALF, rest),
+            b'E' => self.enter(value),
+            b'V' => self.tell(true, rest),
+            b'X' => self.tell(false, rest),
+            b'N' => {
+                self.case.length = number;
+                self.case.marks = number;
+                self.case.counts = number;
+            }
+            b'K' => self.case.marks = number,
+            b'C' => self.case.counts = number,
+            b'W' => self.case.mode = Mode::Wrapping,
+            _ => {}
         }
     }
-}
 
-// How many cases end with a line of this letter, which says what is answered.
-pub fn ended(letter: u8) -> u64
-    ensures { result ≤ 1 }
-{
-    match letter {
-        b'w' | b'l' | b's' | b'd' | b'r' | b'm' | b'u' | b'f' | b'o' => 1,
-        _ => 0,
+    // As much of what is given as the case lends.
+    fn lent(&self) -> Option<Lent<'_>> {
+        let c = self.case;
+        let (image, marks) = self.given.split_at_checked(HALF)?;
+        Some(Lent {
+            mode: c.mode,
+            text: self.text.get(..c.text)?,
+            image: image.get(..c.length)?,
+            marks: marks.get(..c.marks)?,
+            entries: self.entries.get(..c.entries)?,
+            before: self.before.get(..c.counts)?,
+            after: self.after.get(..c.counts)?,
+        })
+    }
+
+    fn holds(&self, wanted: Result<Totals, ReplayError>) -> bool {
+        let mut now: [u64; HALF] = runner::filled(0);
+        let Some(now) = now.get_mut(..self.case.counts) else {
+            return false;
+        };
+        self.lent().is_some_and(|lent| lent.holds(wanted, now))
     }
 }
 
-// What a last line wants.
-pub fn wanted(letter: u8, rest: &[u8]) -> Wanted {
-    Wanted {
-        letter,
-        a: number::of(rest),
-        b: number::of(number::after(rest, 8)),
-        c: number::of(number::after(rest, 16)),
-    }
-}
-
-// Puts what a line gives into its room.
-pub fn put(letter: u8, rest: &[u8], given: &mut [u8], all: &mut [u64]) {
-    match letter {
-        b'B' | b'M' => part::give(letter, rest, given),
-        b'V' | b'X' => counts::tell(letter, rest, all),
-        _ => return,
-    }
-}
-
-// A line whose letter has no meaning says nothing.
-pub fn read(before: Case, letter: u8, rest: &[u8], text: &mut [u8], entries: &mut [u32]) -> Case {
-    let value = number::of(rest);
-    let number = value as usize;
-    let mut c = before;
-    match letter {
-        b'T' => c.text = part::put_line(rest, before.text, text),
-        b'H' => c.text = part::put_bytes(rest, before.text, text),
-        b'E' => c.entries = part::enter(value, before.entries, entries),
-        b'N' => {
-            c.length = number;
-            c.marks = number;
-            c.counts = number;
+// How many cases of a list hold. After its last line a case begins anew, with nothing given and no count told.
+pub fn replay(list: &[u8], cases: &mut List) -> Tally {
+    let mut tally = Tally::default();
+    for (letter, rest) in Entries(list) {
+        match wanted(letter, rest) {
+            Some(wanted) => {
+                tally.count(cases.holds(wanted));
+                cases.given.fill(0);
+                cases.before.fill(OLD);
+                cases.after.fill(OLD);
+                cases.case = Case::NEW;
+            }
+            None => cases.read(letter, rest),
         }
-        b'K' => c.marks = number,
-        b'C' => c.counts = number,
-        b'W' => c.wrapping = true,
-        _ => return c,
     }
-    c
+    tally
 }

@@ -5,18 +5,14 @@ use text::four;
 
 // What is left after some digits.
 pub fn after(digits: &[u8], n: usize) -> &[u8] {
-    let all = digits.len();
-    if all < n {
-        return &digits[0..0];
-    }
-    &digits[n..all]
+    digits.get(n..).unwrap_or(&[])
 }
 
 // Four digits.
 fn four_of(digits: &[u8]) -> u64
     ensures { result < 65536 }
 {
-    (four::four_of(digits) % 65_536) as u64
+    u64::from(four::four_of(digits) % 65_536)
 }
 
 // The position in the first four digits.
@@ -27,15 +23,11 @@ pub fn place(digits: &[u8]) -> usize
 }
 
 // Eight digits.
-pub fn of(digits: &[u8]) -> u64 {
-    four_of(digits) * 65_536 + four_of(after(digits, 4))
+pub fn of(digits: &[u8]) -> u32 {
+    (four_of(digits) * 65_536 + four_of(after(digits, 4))) as u32
 }
 
 // Sixteen digits.
 pub fn long_of(digits: &[u8]) -> u64 {
-    let a = four_of(digits);
-    let b = four_of(after(digits, 4));
-    let c = four_of(after(digits, 8));
-    let d = four_of(after(digits, 12));
-    ((a * 65_536 + b) * 65_536 + c) * 65_536 + d
+    u64::from(of(digits)) * 0x1_0000_0000 + u64::from(of(after(digits, 8)))
 }
