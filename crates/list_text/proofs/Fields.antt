@@ -9,13 +9,12 @@ use native.Mathlib.Omega.{arith}
 use lib.Dec.{leb, ltb, eqb}
 use lib.ListN.{length, take, drop}
 use borrow.Author.Tests.{le-leb, lt-leb, ltb-true, ltb-false}
+use Rattle.std.specs.Prelude.{Option, Some, None}
 use Rattle.instruction.proofs.Ands.{not_second}
 use Rattle.text.specs.Cut.{before, cut, up_to, fields}
 use Rattle.text.specs.Four.{is_four, all_four}
 use Rattle.text.proofs.Cuts.{piece_inside, field_next, field_last}
 use Rattle.list_text.specs.Entries.{is_entries, entries_line}
-use Rattle.list_text.specs.declared.line.Line.{Line}
-use Rattle.list_text.specs.declared.line.Line.TheVariants.{Good, Bad}
 
 -- a field that does not end at the end of the line ends before it
 pub before_end : (l : List ℕ) (at e : ℕ) → e ≡ at + length (up_to 9 (drop at l)) → at ≤ length l → (e ≡ length l → ⊥) → e < length l
@@ -43,26 +42,26 @@ some_field (b ∷ l) = by (eqb b 9) (cut 9 ([] ∷ []) l)
     by false ls = many ls
 
 -- what n entries and these fields make
-unfoldable pub line_from : ℕ → List (List ℕ) → Line
-line_from n fs = cond (all_four fs && leb (n + length fs) 256) (Good (n + length fs)) Bad
+unfoldable pub line_from : ℕ → List (List ℕ) → Option ℕ
+line_from n fs = cond (all_four fs && leb (n + length fs) 256) (Some (n + length fs)) None
 
 from_good : (n : ℕ) (f : List ℕ) (fs : List (List ℕ)) → is_four f ≡ true → line_from n (f ∷ fs) ≡ line_from (n + 1) fs
 unfolding line_from all_four
 from_good n f fs e = let q : n + suc (length fs) ≡ n + 1 + length fs = omega arith in rw (e, q)
 
-from_bad : (n : ℕ) (f : List ℕ) (fs : List (List ℕ)) → is_four f ≡ false → line_from n (f ∷ fs) ≡ Bad
+from_bad : (n : ℕ) (f : List ℕ) (fs : List (List ℕ)) → is_four f ≡ false → line_from n (f ∷ fs) ≡ None
 unfolding line_from all_four
 from_bad n f fs e = rw e
 
-from_full : (n : ℕ) (fs : List (List ℕ)) → 256 ≤ n → 1 ≤ length fs → line_from n fs ≡ Bad
+from_full : (n : ℕ) (fs : List (List ℕ)) → 256 ≤ n → 1 ≤ length fs → line_from n fs ≡ None
 unfolding line_from
 from_full n fs h k = rw (lt-leb (n + length fs) 256 (omega arith), not_second (all_four fs) false refl)
 
-from_none : (n : ℕ) → n ≤ 256 → line_from n [] ≡ Good n
+from_none : (n : ℕ) → n ≤ 256 → line_from n [] ≡ Some n
 unfolding line_from all_four
 from_none n h = let q : n + 0 ≡ n = omega arith in rw (q, le-leb n 256 h)
 
-pub empty_line : (l : List ℕ) → length l ≡ 0 → Good 0 ≡ entries_line l
+pub empty_line : (l : List ℕ) → length l ≡ 0 → Some 0 ≡ entries_line l
 unfolding entries_line is_entries all_four
 empty_line [] h = refl
 empty_line (b ∷ l) h = absurd (omega arith)
@@ -91,22 +90,22 @@ module _ (l : List ℕ) where
     unfolding Left
     left_next h f s = sym (ap (line_from n) (field_next l at e p h) ∙ from_good n field _ f) ∙ s
 
-    pub left_last : e ≡ length l → n < 256 → is_four field ≡ true → Left at n → Good (n + 1) ≡ entries_line l
+    pub left_last : e ≡ length l → n < 256 → is_four field ≡ true → Left at n → Some (n + 1) ≡ entries_line l
     unfolding Left
     left_last h k f s =
         sym (ap (line_from n) (field_last l at e p h) ∙ from_good n field [] f ∙ from_none (n + 1) (omega arith)) ∙ s
 
-    pub left_bad : at ≤ length l → is_four field ≡ false → Left at n → Bad ≡ entries_line l
+    pub left_bad : at ≤ length l → is_four field ≡ false → Left at n → None ≡ entries_line l
     unfolding Left
     left_bad h f s = by (ltb e (length l)) refl
       where
-        by : (x : Bool) → ltb e (length l) ≡ x → Bad ≡ entries_line l
+        by : (x : Bool) → ltb e (length l) ≡ x → None ≡ entries_line l
         by true g = sym (ap (line_from n) (field_next l at e p (ltb-true e (length l) g)) ∙ from_bad n field _ f) ∙ s
         by false g =
             let i = piece_inside 9 l at e p h in
             let k = ltb-false e (length l) g in
             sym (ap (line_from n) (field_last l at e p (omega arith)) ∙ from_bad n field _ f) ∙ s
 
-  pub left_full : (at n : ℕ) → 256 ≤ n → Left at n → Bad ≡ entries_line l
+  pub left_full : (at n : ℕ) → 256 ≤ n → Left at n → None ≡ entries_line l
   unfolding Left
   left_full at n h s = sym (from_full n (fields_of (drop at l)) h (some_field (drop at l))) ∙ s

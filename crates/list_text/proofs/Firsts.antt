@@ -8,6 +8,8 @@ use native.Mathlib.Omega.{arith}
 use lib.IntN.{pos}
 use lib.ListN.{length, take, drop, length-map}
 use lib.Seq.{sets}
+use Rattle.std.specs.Prelude.{Option, Some, None}
+use Rattle.std.proofs.lemmas.Option.{cond_some}
 use Rattle.instruction.specs.Answer.{refused, judge, laid}
 use Rattle.instruction.proofs.Judging.{pass, stop}
 use Rattle.text.specs.Cut.{cut, up_to, lines, fields}
@@ -16,8 +18,6 @@ use Rattle.text.proofs.Cuts.{line_next}
 use Rattle.list_text.specs.Bytes.{bytes_in_lines}
 use Rattle.list_text.specs.Entries.{entries_in, is_entries, entries_line}
 use Rattle.list_text.specs.Text.{first, others, entry_line, image_lines, entries_of, image_of, counts, counts_of, image_refusals, input_refusals}
-use Rattle.list_text.specs.declared.line.Line.{Line}
-use Rattle.list_text.specs.declared.line.Line.TheVariants.{Good, Bad}
 use Rattle.list_text.proofs.LaidRooms.{laid_over}
 
 -- where line 1 ends at e
@@ -27,21 +27,17 @@ split [] e p = let z : e ≡ 0 = omega arith in rw z (refl, refl)
 split (b ∷ t) e p = let n = line_next (b ∷ t) 0 e p (omega arith) in (ap first n, ap others n)
 
 -- what a judged line tells
-bad_line : (l : List ℕ) → entries_line l ≡ Bad → is_entries l ≡ false
+bad_line : (l : List ℕ) → entries_line l ≡ None → is_entries l ≡ false
 unfolding entries_line
 bad_line l e = by (is_entries l) refl
   where
     by : (b : Bool) → is_entries l ≡ b → is_entries l ≡ false
-    by true f = let g : Good (length (fields l)) ≡ Bad = rw f at e in let z : ◌≡◌ {A = ℕ} 0 1 = cc in absurd (omega arith)
+    by true f = let g : Some (length (fields l)) ≡ None = rw f at e in cc
     by false f = f
 
-good_line : (l : List ℕ) (n : ℕ) → entries_line l ≡ Good n → (is_entries l ≡ true) × (length (fields l) ≡ n)
+good_line : (l : List ℕ) (n : ℕ) → entries_line l ≡ Some n → (is_entries l ≡ true) × (length (fields l) ≡ n)
 unfolding entries_line
-good_line l n e = by (is_entries l) refl
-  where
-    by : (b : Bool) → is_entries l ≡ b → (is_entries l ≡ true) × (length (fields l) ≡ n)
-    by true f = let g : Good (length (fields l)) ≡ Good n = rw f at e in (f, cc)
-    by false f = let g : Bad ≡ Good n = rw f at e in let z : ◌≡◌ {A = ℕ} 0 1 = cc in absurd (omega arith)
+good_line l n e = cond_some (is_entries l) (length (fields l)) n e
 
 module _ (t : List ℕ) (e : ℕ) (p : e ≡ 0 + length (up_to 10 (drop 0 t))) where
   abbrev line : List ℕ
@@ -50,13 +46,13 @@ module _ (t : List ℕ) (e : ℕ) (p : e ≡ 0 + length (up_to 10 (drop 0 t))) w
   abbrev rest : List (List ℕ)
   rest = lines (drop (e + 1) t)
 
-  pub first_bad : (r : Line) → r ≡ entries_line line → r ≡ Bad → refused 13 (pos 1 ∷ []) ≡ judge (input_refusals t) (counts_of t)
+  pub first_bad : (r : Option ℕ) → r ≡ entries_line line → r ≡ None → refused 13 (pos 1 ∷ []) ≡ judge (input_refusals t) (counts_of t)
   unfolding input_refusals
   first_bad r f g =
       let b : is_entries (entry_line t) ≡ false = ap is_entries (split t e p).0 ∙ bad_line line (sym f ∙ g) in
       sym (stop _ _ _ (rw b))
 
-  pub first_good : (r : Line) → r ≡ entries_line line → (n : ℕ) → r ≡ Good n → judge (image_refusals 2 0 rest) (counts n (length (bytes_in_lines rest)))
+  pub first_good : (r : Option ℕ) → r ≡ entries_line line → (n : ℕ) → r ≡ Some n → judge (image_refusals 2 0 rest) (counts n (length (bytes_in_lines rest)))
       ≡ judge (input_refusals t) (counts_of t)
   unfolding input_refusals counts_of
   first_good r f n g =

@@ -1,15 +1,18 @@
 -- What is listed of an image and entries: the listing of a run's marks, or the run's refusal.
 -- Assumes nothing.
-use mathlib.Core.Path.{◌≡◌, sym, ap, ap₂, subst, ◌∙◌}
+use mathlib.Core.Path.{◌≡◌, refl, sym, ap, ap₂, subst, ◌∙◌}
 use mathlib.Core.List.{List, []}
 use Prim.Native.Nat.{ℕ, ◌≤◌}
 use native.Mathlib.Omega.{arith}
 use lib.IntN.{ℤ}
 use lib.ListN.{length, length-replicate}
+use Rattle.std.specs.Prelude.{Ok}
 use Rattle.instruction.specs.Answer.{Answer, accepted, refused, judge}
 use Rattle.instruction.specs.declared.mode.Mode.{Mode}
 use Rattle.instruction.proofs.Judging.{accepts}
-use Rattle.trace.specs.Run.{RunResult, and_then, run_answer, run_marks}
+use Rattle.trace.specs.Run.{RunResult, and_then, ran_of, run_answer, run_marks}
+use Rattle.trace.specs.declared.run.Ran.{Ran}
+use Rattle.trace.specs.declared.run.Ran.TheVariants.{Finished, Stopped}
 use Rattle.views.specs.View.{Sound, view_refusals, view_answer, view_room, room_answer, room_after}
 use Rattle.views_laws.specs.ClaimsSound.{Undamaged}
 use Rattle.views_laws.proofs.ClaimsSoundRun.{run_undamaged}
@@ -90,3 +93,8 @@ module _ (mode : Mode) (image entries pins : List ℕ) where
         subst (λ (x : List ℕ). Listed x r t room) (sym q)
         (listed h s a (ap length (sym q) ∙ l ∙ ap length e) r t room
         (subst (λ (x : List ℕ). (r ≡ view_answer image x (listing x) room) × (t ≡ view_room image x (listing x) room)) q p))
+
+-- a run that ended at all
+pub ran_to : (r : Ran) → (s : RunResult) × (ran_of (Ok r) ≡ accepted s)
+ran_to (Finished c) = (_, refl)
+ran_to (Stopped c) = (_, refl)

@@ -7,11 +7,13 @@ pub mod Pairs
 pub mod ParsedApart
 pub mod Puts
 pub mod LaidRooms
+pub mod LentRooms
 pub mod Totals
 pub mod Turns
 pub mod Whole
 pub mod Sounding
 pub mod Texts
+pub mod Reading
 pub mod Images
 pub mod Parts
 pub mod ImageBytes

@@ -9,6 +9,7 @@ use native.Mathlib.Omega.{arith}
 use lib.IntN.{pos}
 use lib.ListN.{length, take, drop, length-append}
 use borrow.Author.Tests.{lt-ltb, le-ltb}
+use Rattle.std.specs.Prelude.{Option, Some, None}
 use Rattle.instruction.specs.Answer.{Answer, accepted, refused, judge}
 use Rattle.instruction.proofs.Judging.{pass, stop, done}
 use Rattle.text.specs.Bytes.{bytes_of, is_bytes}
@@ -17,8 +18,6 @@ use Rattle.text.proofs.Cuts.{line_next, lines_end}
 use Rattle.text.proofs.Pairs.{bytes_parts}
 use Rattle.list_text.specs.Bytes.{bytes_line, bytes_in_lines}
 use Rattle.list_text.specs.Text.{counts, image_refusals}
-use Rattle.list_text.specs.declared.line.Line.{Line}
-use Rattle.list_text.specs.declared.line.Line.TheVariants.{Good, Bad}
 use Rattle.list_text.specs.declared.parsed.Input.{Input}
 use Rattle.list_text.proofs.Pairs.{bad_line, good_line}
 
@@ -87,15 +86,15 @@ module _ (text : List ℕ) (from entries : ℕ) where
       here : said at k n ≡ judge (image_refusals k n (line ∷ lines (drop (e + 1) text))) all
       here = ap (λ (ls : List (List ℕ)). judge (image_refusals k n ls) all) next
 
-      pub judge_bad : (r : Line) → r ≡ bytes_line line → r ≡ Bad → refused 13 (pos k ∷ []) ≡ said from 2 0
+      pub judge_bad : (r : Option ℕ) → r ≡ bytes_line line → r ≡ None → refused 13 (pos k ∷ []) ≡ said from 2 0
       judge_bad r f g = sym (here ∙ first_bad k n line _ all (bad_line line (sym f ∙ g))) ∙ j.same
 
-      pub judge_over : (r : Line) → r ≡ bytes_line line → (m : ℕ) → r ≡ Good m → 16384 < n + m → refused 13 (pos k ∷ []) ≡ said from 2 0
+      pub judge_over : (r : Option ℕ) → r ≡ bytes_line line → (m : ℕ) → r ≡ Some m → 16384 < n + m → refused 13 (pos k ∷ []) ≡ said from 2 0
       judge_over r f m g o =
           let w = good_line line m (sym f ∙ g) in
           sym (here ∙ first_over k n line _ all w.0 (rw w.1 o)) ∙ j.same
 
-      pub judge_next : (r : Line) → r ≡ bytes_line line → (m : ℕ) → r ≡ Good m → n + m ≤ 16384 → Judging (e + 1) (k + 1) (n + m)
+      pub judge_next : (r : Option ℕ) → r ≡ bytes_line line → (m : ℕ) → r ≡ Some m → n + m ≤ 16384 → Judging (e + 1) (k + 1) (n + m)
       judge_next r f m g o =
           let w = good_line line m (sym f ∙ g) in
           let y = (bytes_parts 32 line w.0).1 in

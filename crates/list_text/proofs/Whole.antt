@@ -3,17 +3,19 @@
 use mathlib.Core.Path.{◌≡◌, refl, sym, ap, ◌∙◌}
 use mathlib.Core.Bool.{Bool, true, false, ◌||◌}
 use mathlib.Core.List.{List, [], ◌∷◌}
+use mathlib.Core.Logic.{◌⊎◌, inl, inr}
 use Prim.Native.Nat.{ℕ, ◌<◌, ◌≤◌}
 use lib.Dec.{ltb}
 use lib.IntN.{ℤ, pos}
 use lib.ListN.{length}
 use borrow.Author.Tests.{lt-ltb, le-ltb}
+use Rattle.std.specs.Prelude.{Ok, Err}
 use Rattle.instruction.specs.Answer.{Answer, accepted, refused, judge, after, laid}
 use Rattle.instruction.proofs.Judging.{pass, stop, done, first_of, past_all, accepts}
 use Rattle.list_text.specs.Text.{counts_of, entries_of, image_of, input_refusals, parsed_of, parse_answer, parse_entries, parse_image}
 use Rattle.list_text.specs.declared.parsed.Input.{Input}
-use Rattle.list_text.specs.declared.parsed.Parsed.{Parsed}
-use Rattle.list_text.specs.declared.parsed.Parsed.TheVariants.{Accepted, Malformed, NoRoom}
+use Rattle.list_text.specs.declared.parsed.ParseError.{ParseError}
+use Rattle.list_text.specs.declared.parsed.ParseError.TheVariants.{Malformed, NoRoom}
 
 or_true : (t : Bool) → (t || true) ≡ true
 or_true true = refl
@@ -36,18 +38,17 @@ module _ (text room image : List ℕ) where
   said n vs e = held (refused n vs) (first_of _ (counts_of text) (counts_of text) (input_refusals text) n vs (sym e))
 
   -- an answer other than that all lines are good
-  pub other : (v : Parsed) → ((c : Input) → v ≡ Accepted c → ⊥) → parsed_of v ≡ judged → Is (parsed_of v) room image
-  other (Accepted c) k e = absurd (k c refl)
-  other (Malformed l) k e = said 13 (pos l ∷ []) e
-  other (NoRoom c) k e = said 11 (pos c.entries ∷ pos c.bytes ∷ []) e
+  pub other : (d : ParseError) → parsed_of (Err d) ≡ judged → Is (parsed_of (Err d)) room image
+  other (Malformed l) e = said 13 (pos l ∷ []) e
+  other (NoRoom c) e = said 11 (pos c.entries ∷ pos c.bytes ∷ []) e
 
-  module _ (v : Parsed) (c : Input) (g : v ≡ Accepted c) (e : parsed_of v ≡ judged) where
+  module _ (c : Input) (e : parsed_of (Ok c) ≡ judged) where
     -- the counts are those of the text
     same : counts_of text ≡ c
-    same = accepts (input_refusals text) (counts_of text) c (sym e ∙ ap parsed_of g)
+    same = accepts (input_refusals text) (counts_of text) c (sym e)
 
     good : judged ≡ accepted (counts_of text)
-    good = sym e ∙ ap parsed_of g ∙ ap accepted (sym same)
+    good = sym e ∙ ap accepted (sym same)
 
     pub entries_of_lem : length (entries_of text) ≡ c.entries
     unfolding counts_of
@@ -65,11 +66,15 @@ module _ (text room image : List ℕ) where
         (held (refused 11 (pos (length (entries_of text)) ∷ pos (length (image_of text)) ∷ []))
         (past_all _ (counts_of text) (counts_of text) (input_refusals text) good ∙ stop _ _ _ h))
 
-    pub few_entries : length room < c.entries → Is (refused 11 (pos c.entries ∷ pos c.bytes ∷ [])) room image
+    few_entries : length room < c.entries → Is (parsed_of (Err (NoRoom c))) room image
     few_entries h = short (rw (lt-ltb (length room) (length (entries_of text)) (rw entries_of_lem h)))
 
-    pub few_bytes : length image < c.bytes → Is (refused 11 (pos c.entries ∷ pos c.bytes ∷ [])) room image
+    few_bytes : length image < c.bytes → Is (parsed_of (Err (NoRoom c))) room image
     few_bytes h = short (rw (lt-ltb (length image) (length (image_of text)) (rw bytes_of h)) (or_true (ltb (length room) (length (entries_of text)))))
+
+    pub little_room : (length room < c.entries) ⊎ ((c.entries ≤ length room) × (length image < c.bytes)) → Is (parsed_of (Err (NoRoom c))) room image
+    little_room (inl h) = few_entries h
+    little_room (inr h) = few_bytes h.1
 
     module _ (h : c.entries ≤ length room) (k : c.bytes ≤ length image) where
       pub room_for : (length (entries_of text) ≤ length room) × (length (image_of text) ≤ length image)

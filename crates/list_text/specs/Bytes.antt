@@ -1,13 +1,11 @@
 -- A line of image bytes. Document 01, 'The listing': 'lines of 1 to 32 image bytes in upper-case hex'.
 -- Assumes nothing.
-use Rattle.std.specs.Prelude.{ℕ, cond, List, [], ◌∷◌, ◌++◌, length}
+use Rattle.std.specs.Prelude.{ℕ, cond, List, [], ◌∷◌, ◌++◌, length, Option, Some, None}
 use Rattle.text.specs.Bytes.{bytes_of, is_bytes}
-use Rattle.list_text.specs.declared.line.Line.{Line}
-use Rattle.list_text.specs.declared.line.Line.TheVariants.{Good, Bad}
 
 -- a good line, with the number of its bytes
-unfoldable pub bytes_line : List ℕ → Line
-bytes_line l = cond (is_bytes 32 l) (Good (length (bytes_of l))) Bad
+unfoldable pub bytes_line : List ℕ → Option ℕ
+bytes_line l = cond (is_bytes 32 l) (Some (length (bytes_of l))) None
 
 -- the bytes of one line after the other
 unfoldable pub bytes_in_lines : List (List ℕ) → List ℕ

@@ -1,10 +1,8 @@
 -- The line of entries. Document 01, 'The listing': 'line 1 entries (none to 256, four upper-case hex digits each, tab-parted)'.
 -- Assumes nothing.
-use Rattle.std.specs.Prelude.{ℕ, Bool, cond, ◌&&◌, List, map, leb, length}
+use Rattle.std.specs.Prelude.{ℕ, Bool, cond, ◌&&◌, List, map, leb, length, Option, Some, None}
 use Rattle.text.specs.Cut.{fields}
 use Rattle.text.specs.Four.{all_four, four_of}
-use Rattle.list_text.specs.declared.line.Line.{Line}
-use Rattle.list_text.specs.declared.line.Line.TheVariants.{Good, Bad}
 
 -- none to 256 entries, each four digits
 unfoldable pub is_entries : List ℕ → Bool
@@ -15,5 +13,5 @@ abbrev pub entries_in : List ℕ → List ℕ
 entries_in l = map four_of (fields l)
 
 -- a good line, with the number of its entries
-unfoldable pub entries_line : List ℕ → Line
-entries_line l = cond (is_entries l) (Good (length (fields l))) Bad
+unfoldable pub entries_line : List ℕ → Option ℕ
+entries_line l = cond (is_entries l) (Some (length (fields l))) None

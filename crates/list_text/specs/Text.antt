@@ -1,14 +1,14 @@
 -- What the listing program's input says. Document 01, 'The listing', and refusal 13 with the first bad line, from 1; then refusal 11.
 -- Assumes nothing.
-use Rattle.std.specs.Prelude.{ℕ, suc, ◌+◌, Bool, not, ◌||◌, List, [], ◌∷◌, ◌++◌, ltb, pos, length, drop}
+use Rattle.std.specs.Prelude.{ℕ, suc, ◌+◌, Bool, not, ◌||◌, List, [], ◌∷◌, ◌++◌, ltb, pos, length, Result, Ok, Err}
 use Rattle.instruction.specs.Answer.{Answer, accepted, refused, Refusal, refuse, judge, after, laid}
 use Rattle.text.specs.Bytes.{bytes_of, is_bytes}
 use Rattle.text.specs.Cut.{lines}
 use Rattle.list_text.specs.Bytes.{bytes_in_lines}
 use Rattle.list_text.specs.Entries.{is_entries, entries_in}
 use Rattle.list_text.specs.declared.parsed.Input.{Input}
-use Rattle.list_text.specs.declared.parsed.Parsed.{Parsed}
-use Rattle.list_text.specs.declared.parsed.Parsed.TheVariants.{Accepted, Malformed, NoRoom}
+use Rattle.list_text.specs.declared.parsed.ParseError.{ParseError}
+use Rattle.list_text.specs.declared.parsed.ParseError.TheVariants.{Malformed, NoRoom}
 
 -- the first line, which is empty where there is none, and the others
 abbrev pub first : List (List ℕ) → List ℕ
@@ -58,10 +58,10 @@ unfoldable pub counts_of : List ℕ → Input
 counts_of text = counts (length (entries_of text)) (length (image_of text))
 
 -- document 01's number and values of each answer; 11 has two
-abbrev pub parsed_of : Parsed → Answer Input
-parsed_of (Accepted c) = accepted c
-parsed_of (Malformed k) = refused 13 (pos k ∷ [])
-parsed_of (NoRoom c) = refused 11 (pos c.entries ∷ pos c.bytes ∷ [])
+abbrev pub parsed_of : Result Input ParseError → Answer Input
+parsed_of (Ok c) = accepted c
+parsed_of (Err (Malformed k)) = refused 13 (pos k ∷ [])
+parsed_of (Err (NoRoom c)) = refused 11 (pos c.entries ∷ pos c.bytes ∷ [])
 
 -- 13, then 11 with the entries and the bytes needed, where either room is too short
 unfoldable pub parse_answer : List ℕ → List ℕ → List ℕ → Answer Input

@@ -9,6 +9,7 @@ pub fn width(n: usize) -> usize
 {
     let mut left = n;
     let mut k: usize = 1;
+    // The number says when its digits end, and no sum of the library counts digits by tens.
     while 10 <= left {
         left /= 10;
         k += 1;
@@ -34,9 +35,7 @@ pub fn put(n: usize, k: usize, room: &mut [u8], at: usize)
     ensures { room.new ≡ sets room.old at (lowest k n) }
 {
     let mut left = n;
-    let mut i = k;
-    while 0 < i {
-        i -= 1;
+    for i in (0..k).rev() {
         put_at(room, at, i, b'0' + (left % 10) as u8);
         left /= 10;
     }

@@ -4,31 +4,28 @@ ghost use Rattle.std.proofs.lemmas.List.Edits.{sets};
 ghost use Rattle.text.specs.Cut.{fields};
 ghost use Rattle.list_text.specs.Entries.{entries_in, entries_line};
 
-use crate::line::Line;
 use crate::parsed::Input;
 use text::{cut, four};
 
-// Whether a line is one of entries, and of how many.
-pub fn judge(line: &[u8]) -> Line
+// Of how many entries a line is, if it is one of entries.
+pub fn judge(line: &[u8]) -> Option<usize>
     ensures { result ≡ entries_line line.now }
 {
     if line.len() == 0 {
-        return Line::Good(0);
+        return Some(0);
     }
     let mut at: usize = 0;
-    let mut n: usize = 0;
-    while n < Input::MOST_ENTRIES {
+    for n in 0..Input::MOST_ENTRIES {
         let e = cut::end(line, at, cut::TAB);
         if !four::is_four(&line[at..e]) {
-            return Line::Bad;
+            return None;
         }
-        n += 1;
         if e == line.len() {
-            return Line::Good(n);
+            return Some(n + 1);
         }
         at = e + 1;
     }
-    Line::Bad
+    None
 }
 
 // Writes the entries of a line.
@@ -40,11 +37,9 @@ pub fn write(line: &[u8], room: &mut [u32])
         return;
     }
     let mut at: usize = 0;
-    let mut n: usize = 0;
-    while n < room.len() {
+    for entry in room.iter_mut() {
         let e = cut::end(line, at, cut::TAB);
-        room[n] = four::four_of(&line[at..e]);
-        n += 1;
+        *entry = four::four_of(&line[at..e]);
         if e == line.len() {
             return;
         }

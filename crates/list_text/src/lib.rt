@@ -4,13 +4,12 @@
 mod bytes;
 pub mod decimal;
 mod entries;
-mod line;
 pub mod parsed;
 pub mod print;
 pub mod read;
 pub mod refusal;
 pub mod rooms;
 
-pub use parsed::{Input, Parsed};
+pub use parsed::{Input, ParseError};
 pub use print::list_text;
 pub use read::parse;

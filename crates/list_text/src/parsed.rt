@@ -22,10 +22,9 @@ impl Input {
     }
 }
 
+// Why an input is refused.
 #[derive(Clone, Copy)]
-pub enum Parsed {
-    // What was read.
-    Accepted(Input),
+pub enum ParseError {
     // 13: the first bad line, from 1.
     Malformed(usize),
     // 11: what is needed.

@@ -6,7 +6,7 @@ ghost use Rattle.list_text.specs.Decimal.{lowest};
 ghost use Rattle.list_text.specs.Refusal.{number_line, value_line};
 
 use crate::decimal;
-use views::Viewed;
+use views::ViewError;
 
 // What every line begins with: the number, of k digits.
 fn put_head(number: usize, k: usize, room: &mut [u8])
@@ -18,20 +18,20 @@ fn put_head(number: usize, k: usize, room: &mut [u8])
     decimal::put(number, k, room, 2);
 }
 
-pub fn put_number(number: usize, room: &mut [u8]) -> Viewed
+pub fn put_number(number: usize, room: &mut [u8]) -> Result<usize, ViewError>
     ensures result_value { viewed_of result ≡ room_answer [] (number_line number) room.old }
     ensures room_after { room.new ≡ room_after [] (number_line number) room.old }
 {
     let k = decimal::width(number);
     if room.len() < k + 3 {
-        return Viewed::NoRoom(k + 3);
+        return Err(ViewError::NoRoom(k + 3));
     }
     put_head(number, k, room);
     room[k + 2] = b'\n';
-    Viewed::Written(k + 3)
+    Ok(k + 3)
 }
 
-pub fn put_value(number: usize, value: usize, room: &mut [u8]) -> Viewed
+pub fn put_value(number: usize, value: usize, room: &mut [u8]) -> Result<usize, ViewError>
     ensures result_value { viewed_of result ≡ room_answer [] (value_line number value) room.old }
     ensures room_after { room.new ≡ room_after [] (value_line number value) room.old }
 {
@@ -39,11 +39,11 @@ pub fn put_value(number: usize, value: usize, room: &mut [u8]) -> Viewed
     let j = decimal::width(value);
     let need = k + j + 4;
     if room.len() < need {
-        return Viewed::NoRoom(need);
+        return Err(ViewError::NoRoom(need));
     }
     put_head(number, k, room);
     room[k + 2] = b'\t';
     decimal::put(value, j, room, k + 3);
     room[k + j + 3] = b'\n';
-    Viewed::Written(need)
+    Ok(need)
 }
