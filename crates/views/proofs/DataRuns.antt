@@ -9,7 +9,7 @@ use native.Mathlib.Numerals.{add-one, sub-one}
 use native.Mathlib.Omega.{arith}
 use borrow.Author.Tests.{le-ltb, lt-ltb, ltb-true}
 use lib.Dec.{eqb, ltb}
-use lib.ListN.{length, get_or, take, drop, drop_of_length-le, get_or-eq_default}
+use lib.ListN.{length, get_or, take, drop, drop_of_length-le}
 use lib.Seq.{take-nil}
 use Rattle.std.specs.List.{prefix_len, range_with_len}
 use Rattle.views.specs.Positions.{up_from}
@@ -25,10 +25,6 @@ module _ (image mask : List ℕ) (b : ℕ) where
   pub no_byte : length image ≤ b → false ≡ is_data image mask b
   no_byte h = rw (le-ltb b (length image) h)
 
-  -- a missing mask byte counts as 1
-  pub no_mask : b < length image → length mask ≤ b → false ≡ is_data image mask b
-  no_mask i h = rw (lt-ltb b (length image) i, get_or-eq_default mask 1 h)
-
   pub by_mask : b < length image → b < length mask → eqb (get_or mask b 0) 0 ≡ is_data image mask b
   by_mask i h = rw (lt-ltb b (length image) i, get_d_any mask b 1 0 h)
 
@@ -40,16 +36,6 @@ module _ (image mask : List ℕ) (b : ℕ) where
       by false f = absurd (let z : false ≡ true = sym (ap (λ (t : Bool). t && eqb (get_or mask b 1) 0) f) ∙ e in let y : ◌≡◌ {A = ℕ} 0 1 = cc in omega arith)
 
 module _ (f : ℕ → Bool) where
-  pub leading_none : (k at : ℕ) → k ≤ 0 → leading f (up_from k at) ≡ 0
-  unfolding leading up_from
-  leading_none zero at h = refl
-  leading_none (suc k) at h = absurd (not-suc-le-zero h)
-
-  pub leading_ends : (k at : ℕ) → f at ≡ false → leading f (up_from k at) ≡ 0
-  unfolding leading up_from
-  leading_ends zero at h = refl
-  leading_ends (suc k) at h = rw h
-
   pub leading_on : (k at : ℕ) → 0 < k → f at ≡ true → leading f (up_from k at) ≡ suc (leading f (up_from (k - 1) (at + 1)))
   unfolding leading up_from
   leading_on zero at p h = absurd (not-suc-le-zero p)

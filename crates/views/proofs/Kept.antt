@@ -2,34 +2,17 @@
 -- Assumes nothing.
 use mathlib.Core.Path.{◌≡◌, refl, ap, ◌∙◌}
 use mathlib.Core.Bool.{Bool, true, false, cond}
-use mathlib.Core.List.{List, [], ◌∷◌, ◌++◌, append-nil}
+use mathlib.Core.List.{List, [], ◌∷◌, ◌++◌}
 use Prim.Native.Nat.{ℕ, zero, suc, ◌+◌, ◌-◌, ◌<◌, ◌≤◌}
 use native.Mathlib.Numerals.{add-one}
 use native.Mathlib.Omega.{arith}
-use lib.ListN.{length, length-append}
+use lib.ListN.{length}
 use Rattle.views.specs.Positions.{up_from, kept}
 use Rattle.views.proofs.Ups.{up_next, up_end, up_start}
 
 -- q alone, if it is taken
 abbrev pub taken : Bool → ℕ → List ℕ
 taken t q = cond t (q ∷ []) []
-
-pub not_taken : (t : Bool) (q : ℕ) (l : List ℕ) → t ≡ false → l ≡ l ++ taken t q
-not_taken t q l e = rw (e, append-nil)
-
-pub one_taken : (t : Bool) (q : ℕ) (k l : List ℕ) → t ≡ true → k ≡ l → l ++ (q ∷ []) ≡ k ++ taken t q
-one_taken t q k l e f = rw (e, f)
-
-taken_length : (t : Bool) (q : ℕ) → length (taken t q) ≤ 1
-taken_length true q = omega arith
-taken_length false q = omega arith
-
--- at most one, and at most one more
-pub short_taken : (t : Bool) (q : ℕ) (l : List ℕ) → l ≡ taken t q → length l ≤ 1
-short_taken t q l e = rw e (taken_length t q)
-
-pub shorter_taken : (t : Bool) (q n : ℕ) (k l : List ℕ) → length k ≤ n → l ≡ k ++ taken t q → length l ≤ n + 1
-shorter_taken t q n k l h e = omega (arith, taken_length t q, ap length e ∙ length-append k (taken t q))
 
 first : (t : Bool) (q : ℕ) (l : List ℕ) → cond t (q ∷ l) l ≡ taken t q ++ l
 first true q l = refl

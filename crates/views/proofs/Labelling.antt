@@ -9,7 +9,7 @@ use native.Mathlib.Nat.{zero-add, le_antisymm}
 use lib.Dec.{ltb, eqb}
 use lib.ListN.{length, get_or, set, take, drop, replicate, length-map, length-replicate, get_or-replicate, take-append-drop, get_or-append}
 use lib.Seq.{get_or-set_same, get_or-set_other, get_or-take, ext_get_or, length-take-le, drop-set-lt, drop_at}
-use borrow.Author.Tests.{lt-ltb, le-ltb, ltb-true, ltb-false, eqb-true, eqb-false}
+use borrow.Author.Tests.{le-ltb, ltb-true, ltb-false, eqb-true, eqb-false}
 use Rattle.instruction.specs.declared.mode.Mode.{Mode}
 use Rattle.reach.specs.Mark.{cleared, traced_mark}
 use Rattle.marks.specs.Clear.{wiped}
@@ -27,38 +27,6 @@ module _ (mode : Mode) (image m : List ℕ) (p : ℕ) where
 
   pub named_traced : traced_mark (get_or m p 0) ≡ true → (x : Bool) → exempt_here image m p ≡ x → cond x 65536 (name_of mode image p) ≡ named_from mode image m p
   named_traced t x e = sym (ap₂ (λ (a b : Bool). cond a (cond b 65536 (name_of mode image p)) 65536) t e)
-
--- one position: where it names none inside, the room stays
-module _ (mode : Mode) (image m : List ℕ) (p : ℕ) (room : List ℕ) (small : length image ≤ 65536) where
-  abbrev After : List ℕ → Type 0
-  After v = v ≡ label_at (length image) (named_from mode image m p) room
-
-  none : (t : ℕ) → t ≡ named_from mode image m p → length image ≤ t → After room
-  none t e h =
-      let f : room ≡ label_at (length image) t room = rw (le-ltb t (length image) h) in f ∙ ap (λ (k : ℕ). label_at (length image) k room) e
-
-  pub from_untraced : traced_mark (get_or m p 0) ≡ false → After room
-  from_untraced t = none 65536 (named_untraced mode image m p t) small
-
-  module _ (t : traced_mark (get_or m p 0) ≡ true) where
-    by_exception : (x : Bool) → exempt_here image m p ≡ x → cond x 65536 (name_of mode image p) ≡ named_from mode image m p
-    by_exception x e = named_traced mode image m p t x e
-
-    pub from_exempt : exempt_here image m p ≡ true → After room
-    from_exempt e = none 65536 (by_exception true e) small
-
-    module _ (at : ℕ) (named : at ≡ name_of mode image p) where
-      pub from_outside : length image ≤ at → After room
-      from_outside h = by (exempt_here image m p) refl
-        where
-          by : (x : Bool) → exempt_here image m p ≡ x → After room
-          by true e = from_exempt e
-          by false e = none at (named ∙ by_exception false e) h
-
-      pub from_inside : exempt_here image m p ≡ false → at < length image → After (set room at 1)
-      from_inside e h =
-          let f : set room at 1 ≡ label_at (length image) at room = rw (lt-ltb at (length image) h) in
-          f ∙ ap (λ (k : ℕ). label_at (length image) k room) (named ∙ by_exception false e)
 
 pub labels_length : (mode : Mode) (image m : List ℕ) → length (labels_of mode image m) ≡ length image
 unfolding labels_of

@@ -44,17 +44,6 @@ module _ (image m : List ℕ) where
       by true true f = further b e (p + size_here image p) (let g = ltb-true e (p + size_here image p) f in omega arith)
       by true false f = nearer b e (p + size_here image p) (ltb-false e (p + size_here image p) f)
 
-  -- the same, in the code's words
-  module _ (p e : ℕ) where
-    pub ends_further : traced_at image m p ≡ true → (s : ℕ) → s ≡ size_here image p → e < p + s → p + s ≡ end_with image m p e
-    ends_further t s f h = rw (f, t, lt-ltb e (p + size_here image p) (rw (← f) h))
-
-    pub ends_nearer : (s : ℕ) → s ≡ size_here image p → p + s ≤ e → e ≡ end_with image m p e
-    ends_nearer s f h = rw (not_second (traced_at image m p) _ (le-ltb e (p + size_here image p) (rw (← f) h)))
-
-    pub ends_untraced : traced_at image m p ≡ false → e ≡ end_with image m p e
-    ends_untraced t = rw t
-
   -- positions after b do not cover it
   later : (b k q : ℕ) → b < q → some (covers image m b) (up_from k q) ≡ false
   unfolding some up_from

@@ -2,35 +2,19 @@
 -- Assumes nothing.
 use mathlib.Core.Path.{◌≡◌, sym, ap, ◌∙◌}
 use mathlib.Core.Bool.{Bool, true, false}
-use mathlib.Core.List.{List, [], ◌∷◌, ◌++◌, append-nil, append_assoc}
+use mathlib.Core.List.{List, [], ◌++◌, append-nil, append_assoc}
 use Prim.Native.Nat.{ℕ, ◌+◌, ◌-◌, ◌<◌, ◌≤◌}
 use native.Mathlib.Omega.{arith}
 use lib.Dec.{leb}
 use lib.ListN.{length}
 use borrow.Author.Tests.{le-leb, lt-leb}
 use Rattle.targets.specs.At.{size_here}
-use Rattle.instruction.proofs.Ands.{both, not_first, not_second}
+use Rattle.instruction.proofs.Ands.{not_second}
 use Rattle.views.specs.Positions.{up_from, kept, traced_at}
 use Rattle.views.proofs.Kept.{taken, kept_none, kept_one, kept_two}
 use Rattle.views.specs.Overlaps.{from_before, overlaps_of}
 
 module _ (image m : List ℕ) (p : ℕ) where
-  none_before : from_before image m p ≡ false → [] ≡ taken (from_before image m p) (p - 1)
-  none_before e = sym (ap (λ (t : Bool). taken t (p - 1)) e)
-
-  pub at_start : p < 1 → [] ≡ taken (from_before image m p) (p - 1)
-  at_start h = none_before (not_first (leb 1 p) _ (lt-leb 1 p h))
-
-  pub untraced_before : traced_at image m (p - 1) ≡ false → [] ≡ taken (from_before image m p) (p - 1)
-  untraced_before e = none_before (not_second (leb 1 p) _ (not_first (traced_at image m (p - 1)) _ e))
-
-  pub short_before : (s : ℕ) → s ≡ size_here image (p - 1) → s < 2 → [] ≡ taken (from_before image m p) (p - 1)
-  short_before s e h = none_before (not_second (leb 1 p) _ (not_second (traced_at image m (p - 1)) _ (ap (leb 2) (sym e) ∙ lt-leb 2 s h)))
-
-  pub one_before : 1 ≤ p → traced_at image m (p - 1) ≡ true → (s : ℕ) → s ≡ size_here image (p - 1) → 2 ≤ s → (p - 1) ∷ [] ≡ taken (from_before image m p) (p - 1)
-  one_before i t s e h =
-      sym (ap (λ (t : Bool). taken t (p - 1)) (both (leb 1 p) _ (le-leb 1 p i) (both (traced_at image m (p - 1)) _ t (ap (leb 2) (sym e) ∙ le-leb 2 s h))))
-
   pub past_limit : 65536 < length image → [] ≡ overlaps_of image m p
   unfolding overlaps_of
   past_limit h = rw (lt-leb (length image) 65536 h)

@@ -6,16 +6,13 @@ use mathlib.Core.List.{List}
 use Prim.Native.Nat.{ℕ, ◌<◌, ◌≤◌}
 use lib.Dec.{ltb}
 use lib.ListN.{length, get_or, get_or-eq_default}
-use borrow.Author.Tests.{lt-ltb, le-ltb, ltb-true, ltb-false}
+use borrow.Author.Tests.{lt-ltb, ltb-true, ltb-false}
 use Rattle.instruction.proofs.Sign.{never}
-use Rattle.instruction.proofs.Ands.{not_first, not_second, first_part}
+use Rattle.instruction.proofs.Ands.{not_second, first_part}
 use Rattle.reach.specs.Mark.{traced_mark}
 use Rattle.views.specs.Positions.{traced_at}
 
 module _ (image m : List ℕ) (p : ℕ) where
-  pub past_end : length image ≤ p → false ≡ traced_at image m p
-  past_end h = sym (not_first (ltb p (length image)) _ (le-ltb p (length image) h))
-
   pub past_marks : length m ≤ p → false ≡ traced_at image m p
   unfolding traced_mark
   past_marks h = sym (not_second (ltb p (length image)) _ (ap traced_mark (get_or-eq_default m 0 h)))

@@ -14,10 +14,7 @@ fn is_cut(image: &[u8], p: u32) -> bool
     let n = image.len();
     let at = p as usize;
     // No instruction is longer than three bytes.
-    if at + 3 <= n {
-        return false;
-    }
-    n < at + targets::size_at(image, p) as usize
+    n < at + 3 && n < at + targets::size_at(image, p) as usize
 }
 
 // Whether a 3 stands off a Jmpf, whose first byte is 21.
@@ -25,23 +22,14 @@ fn is_off_jmpf(image: &[u8], mark: u8, p: u32) -> bool
     requires { p < length image.now }
     ensures { result ≡ off_jmpf image.now mark p }
 {
-    if mark != Mark::FLASH {
-        return false;
-    }
-    image[p as usize] != 0x21
+    mark == Mark::FLASH && image[p as usize] != 0x21
 }
 
 fn is_misplaced(image: &[u8], mark: u8, p: u32) -> bool
     requires { (p < length image.now) × (length image.now ≤ 65536) }
     ensures { result ≡ misplaced image.now mark p }
 {
-    if is_off_jmpf(image, mark, p) {
-        return true;
-    }
-    if Mark::is_traced(mark) {
-        return is_cut(image, p);
-    }
-    false
+    is_off_jmpf(image, mark, p) || (Mark::is_traced(mark) && is_cut(image, p))
 }
 
 pub fn is_damaged(image: &[u8], marks: &[u8], p: u32) -> bool
@@ -49,10 +37,7 @@ pub fn is_damaged(image: &[u8], marks: &[u8], p: u32) -> bool
     ensures { result ≡ damaged_here image.now marks.now p }
 {
     let mark = marks[p as usize];
-    if Mark::HIGHEST < mark {
-        return true;
-    }
-    is_misplaced(image, mark, p)
+    Mark::HIGHEST < mark || is_misplaced(image, mark, p)
 }
 
 // Whether a mark is damaged by its value and the byte that it stands on. It has no branch, so that many are looked at together.

@@ -12,10 +12,7 @@ pub fn end_with(image: &[u8], marks: &[u8], p: u32, end: usize) -> usize
     ensures { result ≡ end_with image.now marks.now p end }
 {
     if traced::is_traced_at(image, marks, p as usize) {
-        let e = p as usize + targets::size_at(image, p) as usize;
-        if end < e {
-            return e;
-        }
+        return end.max(p as usize + targets::size_at(image, p) as usize);
     }
     end
 }
