@@ -7,7 +7,7 @@ use Prim.Native.Nat.{ℕ, zero, suc, ◌<◌, ◌≤◌}
 use native.Mathlib.Omega.{arith}
 use lib.Dec.{ltb}
 use lib.ListN.{length, get_or}
-use borrow.Author.Tests.{lt-ltb, le-ltb, ltb-false}
+use borrow.Author.Tests.{ltb-false}
 use Rattle.arrivals.specs.Index.{cell_of, cell_says}
 
 -- what stands inside does not ask for what stands past the end
@@ -15,12 +15,6 @@ pub any_default : (l : List ℕ) (i c d : ℕ) → i < length l → get_or l i c
 any_default [] i c d h = absurd (omega arith)
 any_default (x ∷ l) zero c d h = refl
 any_default (x ∷ l) (suc i) c d h = any_default l i c d (omega arith)
-
-pub says_so : (v : ℕ) → v < 65535 → v ≡ cell_says v
-says_so v h = rw (lt-ltb v 65535 h)
-
-pub says_none : (v : ℕ) → 65535 ≤ v → 65536 ≡ cell_says v
-says_none v h = rw (le-ltb v 65535 h)
 
 -- a position in a cell is read back
 pub cell_back : (q : ℕ) → (q ≡ 65535 → ⊥) → q ≤ 65536 → cell_says (cell_of q) ≡ q

@@ -10,7 +10,7 @@ use Rattle.std.proofs.Common.{Option, Some, None, MatchOption}
 use Rattle.std.specs.Option.{unwrap_or}
 use lib.IntN.{ℤ, pos}
 use lib.ListN.{length, get_or}
-use borrow.Author.Tests.{lt-ltb, ltb-true, ltb-false, leb-true, eqb-true, eqb-false, eq-eqb, ne_eqb, lt-leb}
+use borrow.Author.Tests.{lt-ltb, ltb-true, ltb-false, leb-true, eqb-true, eqb-false, ne_eqb, lt-leb}
 use Rattle.instruction.proofs.Ands.{not_first, not_second, first_alone, first_part, second_part}
 use Rattle.instruction.specs.Flow.{flow_of}
 use Rattle.instruction.specs.declared.flow.Flow.{Flow}
@@ -29,22 +29,18 @@ use Rattle.views.proofs.Ors.{or_start, or_rest}
 use Rattle.views.proofs.TracedAt.{traced_inside}
 use Rattle.arrivals.specs.Arrivals.{held_at, arrives}
 use Rattle.arrivals.specs.Index.{name_at, names_it, names_held, is_held, falls_from, next_fall}
-use Rattle.arrivals.proofs.Lowest.{low_past, low_here, low_later, low_over, low_none}
+use Rattle.arrivals.proofs.Lowest.{low_here, low_over, low_none}
 
 -- ---- what the code asks
 
 module _ (mode : Mode) (image m : List ℕ) (p q : ℕ) where
-  pub untraced_falls : traced_at image m q ≡ false → false ≡ falls_from mode image m p q
+  pub unheld_falls : (traced_at image m q && is_held m q) ≡ false → false ≡ falls_from mode image m p q
   unfolding falls_from
-  untraced_falls e = sym (not_first _ (falls_to mode image q p) (not_first (traced_at image m q) (is_held m q) e))
+  unheld_falls e = sym (not_first _ (falls_to mode image q p) e)
 
-  pub flash_falls : get_or m q 0 ≡ flash → false ≡ falls_from mode image m p q
+  pub held_falls : (traced_at image m q && is_held m q) ≡ true → falls_to mode image q p ≡ falls_from mode image m p q
   unfolding falls_from
-  flash_falls e = sym (not_first _ (falls_to mode image q p) (not_second (traced_at image m q) (is_held m q) (ap not (eq-eqb (get_or m q 0) flash e))))
-
-  pub held_falls : traced_at image m q ≡ true → (get_or m q 0 ≡ flash → ⊥) → falls_to mode image q p ≡ falls_from mode image m p q
-  unfolding falls_from
-  held_falls e n = rw (e, ne_eqb (get_or m q 0) flash n)
+  held_falls e = rw e
 
   pub past_limit : 65536 < length image → falls_from mode image m p q ≡ false
   unfolding falls_from falls_to
@@ -90,16 +86,6 @@ module _ (mode : Mode) (image m : List ℕ) (p q : ℕ) where
   pub falls_inside : falls_from mode image m p q ≡ true → q < n
   unfolding falls_from
   falls_inside e = traced_inside image m q (first_part (traced_at image m q) _ (first_part (traced_at image m q && is_held m q) _ e))
-
-  -- past a position from which it does not come, be it inside or not
-  pub falls_later : falls_from mode image m p q ≡ false → next_fall mode image m p (q + 1) ≡ next_fall mode image m p q
-  falls_later e = by (ltb q n) refl
-    where
-      by : (t : Bool) → ltb q n ≡ t → next_fall mode image m p (q + 1) ≡ next_fall mode image m p q
-      by true g = sym (low_later (falls_from mode image m p) n q (ltb-true q n g) e)
-      by false g =
-          let h = ltb-false q n g in
-          low_past (falls_from mode image m p) n (q + 1) (omega arith) ∙ sym (low_past (falls_from mode image m p) n q h)
 
 module _ (mode : Mode) (image m : List ℕ) (B : Small image) (fits : length image ≤ 65536) (p e : ℕ) where
   abbrev F : ℕ → Bool

@@ -2,21 +2,14 @@
 ghost use Rattle.std.specs.Prelude.{◌≡◌, cond, ◌-◌, ◌≤◌, eqb, ltb, length};
 ghost use Rattle.arrivals.specs.Index.{falls_from, next_fall};
 
+use crate::held;
 use instruction::Mode;
-use marks::Mark;
 use targets::Image;
 
 fn falls(mode: Mode, image: &[u8], marks: &[u8], p: u32, q: u32) -> bool
     ensures { result ≡ falls_from mode image.now marks.now p q }
 {
-    let at = q as usize;
-    if !views::is_traced_at(image, marks, at) {
-        return false;
-    }
-    if marks[at] == Mark::FLASH {
-        return false;
-    }
-    targets::falls_to(mode, image, q, p)
+    held::had_targets(image, marks, q) && targets::falls_to(mode, image, q, p)
 }
 
 // Not further than three positions before this one.
@@ -31,10 +24,7 @@ fn end_before(image: &[u8], p: u32) -> u32
     requires { length image.now ≤ 65536 }
     ensures { result ≡ cond (eqb p 0) (length image.now) p }
 {
-    if p == 0 {
-        return image.len() as u32;
-    }
-    p
+    if p == 0 { image.len() as u32 } else { p }
 }
 
 // The lowest position, not below this one, from which control goes on to p; where there is none, a position outside every image.

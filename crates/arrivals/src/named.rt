@@ -1,4 +1,4 @@
-// The position that a traced position names.
+// The position that a traced position names, or else one outside every image, as targets::name_at answers and the definitions of the index say.
 ghost use Rattle.std.specs.Prelude.{◌≡◌};
 ghost use Rattle.arrivals.specs.Index.{name_at};
 
