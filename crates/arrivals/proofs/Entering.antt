@@ -26,13 +26,6 @@ module _ (at v : ℕ) (l : List ℕ) where
   placed_other true i n = get_or-set_other l at i v 0 (n refl)
   placed_other false i n = refl
 
-  -- by a test, as the code has it
-  pub placed_on : (t n : ℕ) → t < n → set l at v ≡ placed (ltb t n) at v l
-  placed_on t n h = rw (lt-ltb t n h)
-
-  pub placed_off : (t n : ℕ) → n ≤ t → l ≡ placed (ltb t n) at v l
-  placed_off t n h = rw (le-ltb t n h)
-
   placed_same : (b : Bool) → b ≡ true → at < length l → get_or (placed b at v l) at 0 ≡ v
   placed_same b e h = rw e (get_or-set_same l at v 0 h)
 

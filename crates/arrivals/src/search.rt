@@ -24,7 +24,8 @@ fn next_named(mode: Mode, image: &[u8], marks: &[u8], p: u32, from: u32, end: u3
 }
 
 // The lowest arrival at p that is not below this position. Control goes on to p from right before it alone, so where it does is asked first,
-// and all others are asked only what they name.
+// and all others are asked only what they name. Within the loop over all arrivals the search is made into slower code.
+#[inline(never)]
 pub fn next_arrival(mode: Mode, image: &[u8], marks: &[u8], p: u32, from: u32) -> Option<u32>
     requires { (length image.now ≤ 65536) × (length image.now ≤ length marks.now) × (p < length image.now) }
     ensures { result ≡ if_below (length image.now) (next_arrival mode image.now marks.now p from) }

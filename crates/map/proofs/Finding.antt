@@ -17,9 +17,6 @@ use Rattle.map.proofs.InWords.{bit_at, zero_le, quiet, hit_from, hit_data}
 -- ---- words of ones alone
 
 module _ (ws : List ℕ) (to q : ℕ) where
-  pub full_start : q % 64 ≡ 0 → q < to + 64 → Full ws to q (q / 64 * 64)
-  full_start aligned h = record { from = omega arith; near = omega arith; code = λ i l k. absurd (omega arith) }
-
   -- a word more
   pub full_next : (j : ℕ) → Full ws to q (j * 64) → j < to / 64 → get_or ws j 0 ≡ 0xFFFFFFFFFFFFFFFF → Full ws to q ((j + 1) * 64)
   full_next j s h e = record { from = omega (arith, s.from); near = omega arith; code = λ i l k. by i l k (ltb i (j * 64)) refl }
