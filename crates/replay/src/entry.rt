@@ -1,5 +1,5 @@
 // The entries as a table of bits, so that no line searches through them.
-ghost use Rattle.std.specs.Prelude.{◌≡◌, ◌<◌, length, replicate};
+ghost use Rattle.std.specs.Prelude.{◌≡◌, ◌<◌, replicate};
 ghost use Rattle.map.specs.Words.{code_at};
 ghost use Rattle.replay.specs.Entry.{with_entry, with_entries};
 
@@ -16,8 +16,7 @@ pub fn table() -> [u64; WORDS]
 }
 
 // Sets the bits of these entries; one outside memory has none.
-pub fn enter(table: &mut [u64], entries: &[u32])
-    requires { length table.old ≡ 1024 }
+pub fn enter(table: &mut [u64; WORDS], entries: &[u32])
     ensures { table.new ≡ with_entries entries.now table.old }
 {
     for q in entries {
@@ -25,8 +24,7 @@ pub fn enter(table: &mut [u64], entries: &[u32])
     }
 }
 
-fn enter_one(table: &mut [u64], q: u32)
-    requires { length table.old ≡ 1024 }
+fn enter_one(table: &mut [u64; WORDS], q: u32)
     ensures { table.new ≡ with_entry q table.old }
 {
     if Image::NOWHERE <= q {
@@ -37,8 +35,8 @@ fn enter_one(table: &mut [u64], q: u32)
 }
 
 // Whether the position is an entry.
-pub fn is_entry(table: &[u64], q: u32) -> bool
-    requires { (length table.now ≡ 1024) × (q < 65536) }
+pub fn is_entry(table: &[u64; WORDS], q: u32) -> bool
+    requires { q < 65536 }
     ensures { result ≡ code_at table.now q }
 {
     bits::is_one(table[(q / 64) as usize], q % 64)

@@ -4,23 +4,16 @@ ghost use Rattle.map.specs.Words.{code_at};
 ghost use Rattle.replay.specs.Take.{block_of, state};
 ghost use Rattle.replay.specs.Block.{is_entry_of};
 
+use crate::ground::Ground;
 use crate::log::Log;
 use crate::{entry, keep, line, take};
 use instruction::Mode;
 
 // A block taken after the bytes that are held: with them its beginning may be a line.
-fn take_joined(
-    log: Log,
-    mode: Mode,
-    text: &[u8],
-    image: &[u8],
-    marks: &[u8],
-    table: &[u64],
-    counts: &mut [u64],
-) -> Log
-    requires { (length table.now ≡ 1024) × (length image.now ≤ 65536) × (length image.now ≤ length counts.old) }
+fn take_joined(log: Log, ground: Ground<'_>, text: &[u8], counts: &mut [u64]) -> Log
+    requires { length ground.image.now ≤ length counts.old }
     ensures { state result counts.new
-        ≡ block_of mode image.now marks.now (code_at table.now) (state log counts.old) text.now }
+        ≡ block_of ground.entry.mode ground.entry.image.now ground.entry.marks.now (code_at ground.entry.table.now) (state log counts.old) text.now }
 {
     let mut begin = [0u8; line::LENGTH];
     let n = keep::begin_line(log, text, &mut begin);
@@ -28,12 +21,12 @@ fn take_joined(
         return keep::keep(log, &begin[0..n]);
     }
     // As a text of its own: a line is taken by the loop over lines alone, so that the compiler makes it part of the loop.
-    let after = take::take_lines(log, mode, &begin, image, marks, table, counts);
+    let after = take::take_lines(log, ground, &begin, counts);
     if after.refusal != 0 {
         return after;
     }
     let taken = line::LENGTH - keep::held_in(log);
-    take::take_lines(after, mode, &text[taken..], image, marks, table, counts)
+    take::take_lines(after, ground, &text[taken..], counts)
 }
 
 // With the entries as they are lent.
@@ -52,5 +45,11 @@ pub fn feed(
 {
     let mut table = entry::table();
     entry::enter(&mut table, entries);
-    take_joined(log, mode, text, image, marks, &table, counts)
+    let ground = Ground {
+        mode,
+        image,
+        marks,
+        table: &table,
+    };
+    take_joined(log, ground, text, counts)
 }

@@ -6,6 +6,7 @@ pub mod block;
 mod entry;
 mod fault;
 mod feed;
+mod ground;
 mod keep;
 mod line;
 pub mod log;

@@ -5,6 +5,7 @@ ghost use Rattle.arrivals.specs.Arrivals.{arrives};
 ghost use Rattle.replay.specs.Moves.{free_after, move_by};
 
 use crate::entry;
+use crate::ground::Ground;
 use instruction::Mode;
 use marks::Mark;
 
@@ -59,17 +60,16 @@ fn is_target(mode: Mode, image: &[u8], marks: &[u8], q: u32, p: u32) -> bool
 }
 
 // How control comes from q to p, if it may.
-pub fn move_to(
-    mode: Mode,
-    image: &[u8],
-    marks: &[u8],
-    table: &[u64],
-    q: u32,
-    p: u32,
-) -> Option<Move>
-    requires { (length table.now ≡ 1024) × (p < 65536) × (p < length image.now) }
-    ensures { result ≡ move_by mode image.now marks.now (code_at table.now) q p }
+pub fn move_to(ground: Ground<'_>, q: u32, p: u32) -> Option<Move>
+    requires { (p < 65536) × (p < length ground.image.now) }
+    ensures { result ≡ move_by ground.entry.mode ground.entry.image.now ground.entry.marks.now (code_at ground.entry.table.now) q p }
 {
+    let Ground {
+        mode,
+        image,
+        marks,
+        table,
+    } = ground;
     if is_target(mode, image, marks, q, p) {
         return Some(Move::Target);
     }

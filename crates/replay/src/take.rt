@@ -5,10 +5,10 @@ ghost use Rattle.replay.specs.Line.{position_of};
 ghost use Rattle.replay.specs.Take.{move_now, taken_at, feed_of, State, state, after_line};
 
 use crate::fault::Fault;
+use crate::ground::Ground;
 use crate::log::Log;
 use crate::moves::Move;
 use crate::{keep, line, moves, next};
-use instruction::Mode;
 use targets::Image;
 
 // A position as a record holds it: all that lie outside memory are one.
@@ -19,29 +19,27 @@ fn position(last: u64) -> u32
 }
 
 // How control comes to p, if it may: the first line is no move.
-fn move_now(log: Log, mode: Mode, image: &[u8], marks: &[u8], table: &[u64], p: u32) -> Option<Move>
-    requires { (length table.now ≡ 1024) × (length image.now ≤ 65536) × (p < 65536) × (p < length image.now) }
-    ensures { result ≡ move_now mode image.now marks.now (code_at table.now) log p }
+fn move_now(log: Log, ground: Ground<'_>, p: u32) -> Option<Move>
+    requires { (p < 65536) × (p < length ground.image.now) }
+    ensures { result ≡ move_now ground.entry.mode ground.entry.image.now ground.entry.marks.now (code_at ground.entry.table.now) log p }
 {
     if log.lines == 0 {
         return Some(Move::Target);
     }
-    moves::move_to(mode, image, marks, table, position(log.last), p)
+    moves::move_to(ground, position(log.last), p)
 }
 
 // A line taken: the record after it, or why it is refused.
 fn take_line(
     log: Log,
-    mode: Mode,
-    image: &[u8],
-    marks: &[u8],
-    table: &[u64],
+    ground: Ground<'_>,
     counts: &mut [u64],
     line: &[u8; line::LENGTH],
 ) -> Result<Log, Fault>
-    requires { (length table.now ≡ 1024) × (length image.now ≤ 65536) × (length image.now ≤ length counts.old) }
+    requires { length ground.image.now ≤ length counts.old }
     ensures after { state (after_line log result) counts.new
-        ≡ taken_at mode image.now marks.now (code_at table.now) (state log counts.old) (position_of line.now) }
+        ≡ taken_at ground.entry.mode ground.entry.image.now ground.entry.marks.now (code_at ground.entry.table.now) (state log counts.old)
+        (position_of line.now) }
     ensures goes_on { IfOk result (λ l. l.refusal ≡ 0) }
 {
     let p = line::position_of(line);
@@ -49,10 +47,10 @@ fn take_line(
         return Err(Fault::Malformed);
     }
     let at = p as usize;
-    if !views::is_traced_at(image, marks, at) {
+    if !views::is_traced_at(ground.image, ground.marks, at) {
         return Err(Fault::Untraced);
     }
-    let Some(by) = move_now(log, mode, image, marks, table, p) else {
+    let Some(by) = move_now(log, ground, p) else {
         return Err(Fault::Forbidden);
     };
     let count = counts[at];
@@ -64,23 +62,15 @@ fn take_line(
 }
 
 // A text that begins where a line does: its lines, up to the first that is refused, and what is left of it.
-pub fn take_lines(
-    log: Log,
-    mode: Mode,
-    text: &[u8],
-    image: &[u8],
-    marks: &[u8],
-    table: &[u64],
-    counts: &mut [u64],
-) -> Log
-    requires { (length table.now ≡ 1024) × (length image.now ≤ 65536) × (length image.now ≤ length counts.old) }
+pub fn take_lines(log: Log, ground: Ground<'_>, text: &[u8], counts: &mut [u64]) -> Log
+    requires { length ground.image.now ≤ length counts.old }
     ensures { state result counts.new
-        ≡ feed_of mode image.now marks.now (code_at table.now) (state log counts.old) text.now }
+        ≡ feed_of ground.entry.mode ground.entry.image.now ground.entry.marks.now (code_at ground.entry.table.now) (state log counts.old) text.now }
 {
     let (lines, rest) = text.as_chunks();
     let mut after = log;
     for line in lines {
-        match take_line(after, mode, image, marks, table, counts, line) {
+        match take_line(after, ground, counts, line) {
             Ok(taken) => after = taken,
             Err(fault) => return next::refuse(after, fault),
         }

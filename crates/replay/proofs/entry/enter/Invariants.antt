@@ -1,9 +1,8 @@
--- The entries so far are in the table, which keeps its length.
+-- The entries so far are in the table.
 -- Assumes nothing.
-use Rattle.std.proofs.Common.{◌≡◌, length}
 use Rattle.replay.specs.Entry.{with_entries}
 use Rattle.replay.proofs.Entries.{Enters}
 use Rattle.replay.proofs.entry.enter.Given as goal
 
 abbrev pub invariant-loop-q : goal.invariant-loop-q
-invariant-loop-q l = (length l.table ≡ 1024) × Enters l.entries l.table l.q-index (with_entries l.entries l.fn.table)
+invariant-loop-q l = Enters l.entries l.table l.q-index (with_entries l.entries l.fn.table)

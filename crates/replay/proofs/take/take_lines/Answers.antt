@@ -20,7 +20,7 @@ returns-in-Err c =
     let text : List ℕ = a.text.now in
     let n : l.line-index < length text / 7 = omega (arith, c.as_chunks.ensures.front_len, c.loop-line-test.true) in
     ap (λ (r : Log). state r c.take_line.new.counts) c.refuse.ensures
-    ∙ lines_stop a.mode a.image.now a.marks.now (code_at a.table.now) (state l.after l.counts) _ text (l.line-index * 7) l.invariant
+    ∙ lines_stop a.ground.mode a.ground.image.now a.ground.marks.now (code_at a.ground.table.now) (state l.after l.counts) _ text (l.line-index * 7) l.invariant
     (state (refusing l.after (fault_number c.in-Err.fault)) c.take_line.new.counts) _ (omega arith)
     (line_in text _ _ l.line-index c.as_chunks.ensures.front n)
     c.in-Err.ensures.after (refused_line l.after c.in-Err.fault)
@@ -32,9 +32,9 @@ loop-line-preserved c =
     let text : List ℕ = a.text.now in
     let n : l.line-index < length text / 7 = omega (arith, c.as_chunks.ensures.front_len, c.loop-line-test.true) in
     let s : State = state c.in-Ok.taken c.take_line.new.counts in
-    ap (λ (j : ℕ). feed_of a.mode a.image.now a.marks.now (code_at a.table.now) s (drop j text))
+    ap (λ (j : ℕ). feed_of a.ground.mode a.ground.image.now a.ground.marks.now (code_at a.ground.table.now) s (drop j text))
     (let e : (l.line-index + 1) * 7 ≡ l.line-index * 7 + 7 = omega arith in e)
-    ∙ lines_on a.mode a.image.now a.marks.now (code_at a.table.now) (state l.after l.counts) _ text (l.line-index * 7) l.invariant s _ (omega arith)
+    ∙ lines_on a.ground.mode a.ground.image.now a.ground.marks.now (code_at a.ground.table.now) (state l.after l.counts) _ text (l.line-index * 7) l.invariant s _ (omega arith)
     (line_in text _ _ l.line-index c.as_chunks.ensures.front n) c.in-Ok.ensures.after c.in-Ok.ensures.goes_on
 
 pub returns : goal.returns
@@ -43,5 +43,5 @@ returns c =
     let l = c.loop-line in
     let text : List ℕ = a.text.now in
     let e : length text / 7 ≡ l.line-index = omega (arith, c.as_chunks.ensures.front_len, c.loop-line-test.false, l.auto.line-index-end) in
-    lines_rest a.mode a.image.now a.marks.now (code_at a.table.now) (state l.after l.counts) _ text (l.line-index * 7) l.invariant (omega arith) c.keep.result
+    lines_rest a.ground.mode a.ground.image.now a.ground.marks.now (code_at a.ground.table.now) (state l.after l.counts) _ text (l.line-index * 7) l.invariant (omega arith) c.keep.result
     (c.keep.ensures ∙ ap (keeping l.after) (c.as_chunks.ensures.back ∙ ap (λ (j : ℕ). drop (j * 7) text) e))
