@@ -42,8 +42,7 @@ pub fn held_in(log: Log) -> usize
 }
 
 // Writes the bytes that are held, and after them those of a text, into a line of seven: how many there are.
-pub fn begin_line(log: Log, text: &[u8], line: &mut [u8]) -> usize
-    requires { length line.old ≡ 7 }
+pub fn begin_line(log: Log, text: &[u8], line: &mut [u8; line::LENGTH]) -> usize
     ensures value { result ≡ length (take 7 (partial log ++ text.now)) }
     ensures line_after { line.new ≡ sets line.old 0 (take 7 (partial log ++ text.now)) }
 {
