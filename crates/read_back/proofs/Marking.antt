@@ -20,8 +20,6 @@ use Rattle.map.specs.declared.ask.AskError.{AskError}
 use Rattle.map.specs.declared.ask.AskError.TheVariants.{LongImage, NoRoom, Outside}
 use Rattle.std.specs.Prelude.{Result, Ok, Err}
 use Rattle.map.proofs.Runs.{first_in_lem, first_before, first_hit}
-use Rattle.marks.specs.Clear.{wiped}
-use Rattle.marks.proofs.Clearing.{wiped_is}
 use Rattle.reach.specs.Mark.{cleared}
 use Rattle.reach.proofs.Cleared.{cleared_at}
 use Rattle.read_back.specs.Noted.{marks_in}
@@ -74,12 +72,12 @@ module _ (ws : List ℕ) (n q : ℕ) (w : length ws ≡ 1024) (h : n ≤ 65536) 
 
 -- ---- the marks, over a room that is cleared
 
-pub clear_blank : (n : ℕ) (m x : List ℕ) → n ≤ length m → x ≡ wiped n m → (q : ℕ) → q < n → get_or x q 0 ≡ 0
-clear_blank n m x h e q k = ap (λ (l : List ℕ). get_or l q 0) (e ∙ wiped_is n m h) ∙ cleared_at n m q k
-
-pub clear_rest : (n : ℕ) (m x : List ℕ) → n ≤ length m → x ≡ wiped n m → drop n x ≡ drop n m
+pub clear_blank : (n : ℕ) (m z : List ℕ) → z ≡ replicate n 0 → (q : ℕ) → q < n → get_or (z ++ drop n m) q 0 ≡ 0
 unfolding cleared
-clear_rest n m x h e = ap (drop n) (e ∙ wiped_is n m h) ∙ drop_at (replicate n 0) (drop n m) n (length-replicate n 0)
+clear_blank n m z e q k = ap (λ (l : List ℕ). get_or (l ++ drop n m) q 0) e ∙ cleared_at n m q k
+
+pub clear_rest : (n : ℕ) (m z : List ℕ) → z ≡ replicate n 0 → drop n (z ++ drop n m) ≡ drop n m
+clear_rest n m z e = drop_at z (drop n m) n (ap length e ∙ length-replicate n 0)
 
 module _ (ws : List ℕ) (n : ℕ) (m : List ℕ) where
   abbrev wanted : List ℕ

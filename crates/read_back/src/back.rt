@@ -43,7 +43,7 @@ fn read_lines(
     mode: Mode,
     text: &[u8],
     image: &mut [u8],
-    table: &mut [u64],
+    table: &mut [u64; noted::WORDS],
 ) -> Result<usize, RestoreError>
     requires { (image.old ≡ replicate (length image.old) 0) × (table.old ≡ replicate 1024 0xFFFFFFFFFFFFFFFF) × (length image.old ≤ 65536) }
     ensures { LinesLeave mode text.now (length image.old) image.new table.new (restored_of result) }

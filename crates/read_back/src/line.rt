@@ -117,7 +117,7 @@ fn is_rest(mode: Mode, p: u32, d: &[u8], rest: &[u8]) -> bool
     same::same(rest, &room[..n])
 }
 
-// The position of a line that begins with a byte, a tab and four digits; 65,536 of any other.
+// The position of a line that begins with a byte, a tab and four digits; 65,536 of any other, as the definition `four_in` has it.
 pub fn position(line: &[u8]) -> u32
     ensures { result ≡ position_in line.now }
 {

@@ -18,8 +18,8 @@ pub fn table() -> [u64; WORDS]
 }
 
 // Notes an `I` line.
-pub fn note(r: Record, table: &mut [u64])
-    requires { (length table.old ≡ 1024) × (r.position < 65536) }
+pub fn note(r: Record, table: &mut [u64; WORDS])
+    requires { r.position < 65536 }
     ensures { table.new ≡ noted_by r table.old }
 {
     if r.letter == b'I' {
@@ -30,8 +30,8 @@ pub fn note(r: Record, table: &mut [u64])
 }
 
 // The first position from q on that is noted, of n positions; n where there is none.
-fn next(table: &[u64], n: usize, q: usize) -> usize
-    requires { (length table.now ≡ 1024) × (n ≤ 65536) × (q ≤ n) }
+fn next(table: &[u64; WORDS], n: usize, q: usize) -> usize
+    requires { (n ≤ 65536) × (q ≤ n) }
     ensures { result ≡ first_in (data_at table.now) (n - q) q }
 {
     let Ok(r) = map::first_data(table, n, q as u32) else {
@@ -41,11 +41,11 @@ fn next(table: &[u64], n: usize, q: usize) -> usize
 }
 
 // Writes the marks of n positions.
-pub fn put_marks(table: &[u64], n: usize, marks: &mut [u8])
-    requires { (length table.now ≡ 1024) × (n ≤ 65536) × (n ≤ length marks.old) }
+pub fn put_marks(table: &[u64; WORDS], n: usize, marks: &mut [u8])
+    requires { (n ≤ 65536) × (n ≤ length marks.old) }
     ensures { marks.new ≡ marks_in table.now n ++ drop n marks.old }
 {
-    marks::clear(marks, n);
+    marks[..n].fill(Mark::UNTOUCHED);
     let mut i = next(table, n, 0);
     // A `while`, since what is found says where the search goes on.
     while i < n {

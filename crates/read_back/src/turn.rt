@@ -15,10 +15,10 @@ pub fn read_on(
     text: &[u8],
     place: Place,
     image: &mut [u8],
-    table: &mut [u64],
+    table: &mut [u64; noted::WORDS],
     end: usize,
 ) -> Result<(Place, usize), RestoreError>
-    requires { (place.at < length text.now) × (end ≤ length image.old) × (length table.old ≡ 1024) }
+    requires { (place.at < length text.now) × (end ≤ length image.old) }
     ensures { Turned mode place end image.old table.old (up_to 10 (drop place.at text.now)) result
         image.new table.new }
 {

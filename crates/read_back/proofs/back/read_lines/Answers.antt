@@ -17,7 +17,7 @@ returns-in_err-next c =
     let p = err_from_is_err_and c.from_residual.result c.from_residual.ensures.1 in
     rw (p.1, p.2)
     (going_err a.mode a.text.now _ l.place l.image l.table l.end l.invariant c.loop-place-test.true (Err c.in_err-next.field-0.0) c.read_on.new.image
-    c.read_on.new.table c.in_err-next.ensures c.in_err-next.field-0.0 refl c.read_on.auto.table)
+    c.read_on.new.table c.in_err-next.ensures c.in_err-next.field-0.0 refl (omega (arith, l.invariant.wide)))
 
 pub loop-place-smaller : goal.loop-place-smaller
 loop-place-smaller c =

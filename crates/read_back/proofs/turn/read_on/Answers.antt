@@ -87,7 +87,7 @@ returns-then-image-far c =
 pub note-requires : goal.note-requires
 note-requires c =
     let g = got (goal.at.note-requires c).In-Some in
-    (c.requires.2, subst (λ (r : Record). r.position < 65536) (sym g.is) (position_small _))
+    subst (λ (r : Record). r.position < 65536) (sym g.is) (position_small _)
 
 pub returns : goal.returns
 returns c =
