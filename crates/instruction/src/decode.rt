@@ -29,7 +29,11 @@ impl Parts {
         let size = first::size_by(first) as usize;
         if bytes.len() < size {
             let missing = (size - bytes.len()) as u8;
-            return Err(DecodeError::Cut(CutOff::new(0, first, missing)));
+            return Err(DecodeError::Cut(CutOff {
+                position: 0,
+                first,
+                missing,
+            }));
         }
         let form = form::lookup(first);
         let f = read::read(form::shape_by(first), bytes);

@@ -68,17 +68,14 @@ pub struct FirstByte {
 }
 
 impl FirstByte {
-    pub fn new(size: u32, flow: Flow) -> Self
-        ensures { result ≡ record { size = size; flow = flow } }
-    {
-        Self { size, flow }
-    }
-
     // What this first byte says.
     pub fn read(first: u8) -> Self
         ensures { result ≡ first_says first }
     {
         let said = bits(first);
-        Self::new(said % 4, flow_by(said / 4))
+        Self {
+            size: said % 4,
+            flow: flow_by(said / 4),
+        }
     }
 }

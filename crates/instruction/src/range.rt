@@ -36,7 +36,10 @@ impl Kind {
         ensures { MatchResult result (λ y. (unfit self z ≡ false) × (y ≡ z)) (λ m. (unfit self z ≡ true) × (m ≡ record { operand = n; value = z })) }
     {
         if self.is_unfit(z) {
-            return Err(Misfit::new(n, z));
+            return Err(Misfit {
+                operand: n,
+                value: z,
+            });
         }
         Ok(z)
     }

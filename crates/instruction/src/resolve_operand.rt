@@ -77,7 +77,10 @@ impl Base {
         let there = address / 4096 % 16;
         let here = self.address / 4096 % 16;
         if there != here {
-            return Err(OperandError::OtherPage(Tops::new(here as u8, there as u8)));
+            return Err(OperandError::OtherPage(Tops {
+                base: here as u8,
+                address: there as u8,
+            }));
         }
         Ok(signed::num(address % 4096))
     }

@@ -26,7 +26,11 @@ pub fn instr_at(image: &[u8], p: u32) -> Result<Instr, NotWhole>
     }
     match Instr::decode(&image[at..]) {
         Ok(i) => Ok(i),
-        Err(DecodeError::Cut(c)) => Err(NotWhole::Cut(CutOff::new(p, c.first, c.missing))),
+        Err(DecodeError::Cut(c)) => Err(NotWhole::Cut(CutOff {
+            position: p,
+            first: c.first,
+            missing: c.missing,
+        })),
         Err(DecodeError::Nothing) => Err(NotWhole::Outside),
     }
 }

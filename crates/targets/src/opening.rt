@@ -27,7 +27,11 @@ pub fn opening_at(image: &[u8], p: u32) -> Result<Opening, NotWhole>
     let end = next as usize;
     if n < end {
         let missing = (end - n) as u8;
-        return Err(NotWhole::Cut(CutOff::new(p, first, missing)));
+        return Err(NotWhole::Cut(CutOff {
+            position: p,
+            first,
+            missing,
+        }));
     }
     Ok(Opening {
         next,

@@ -17,7 +17,7 @@ pub returns-in-Err-Cut : goal.returns-in-Err-Cut
 returns-in-Err-Cut c =
     let a = c.args in
     let e = rw c.in-Err-Cut.field-0-is at c.in-Err-Cut.ensures in
-    rw c.new.ensures (cut_here a.image.now a.p c.if-image-at.false c.in-Err-Cut.c _ (e ∙ ap decode_answer (to_end a.image.now a.p)) (refl, refl, refl))
+    cut_here a.image.now a.p c.if-image-at.false c.in-Err-Cut.c _ (e ∙ ap decode_answer (to_end a.image.now a.p)) (refl, refl, refl)
 
 pub returns-in-Err-Nothing : goal.returns-in-Err-Nothing
 returns-in-Err-Nothing c =

@@ -37,9 +37,8 @@ overflow_cast-missing c =
 pub returns-then-n-end : goal.returns-then-n-end
 returns-then-n-end c =
     let a = c.args in
-    rw c.new.ensures
-    (is_cut a.image.now a.p c.if-n-gt-LIMIT.false c.if-n-at.false _ (next_is a.image.now a.p c.read-says.ensures) c.if-n-end.true _
-    (refl, refl, refl))
+    is_cut a.image.now a.p c.if-n-gt-LIMIT.false c.if-n-at.false _ (next_is a.image.now a.p c.read-says.ensures) c.if-n-end.true _
+    (refl, refl, refl)
 
 pub returns : goal.returns
 unfolding first_says

@@ -37,9 +37,8 @@ returns-then-bytes-size c =
     let x : ℕ = get_or s 0 0 in
     let d : CutOff = record { position = 0; first = x; missing = c.size_by-size.result - length s } in
     let e = cut_from_start s d refl refl (ap (λ (k : ℕ). k - length s) c.size_by-size.ensures) in
-    rw c.new.ensures
-    (refused_parts s 5 _
-    (ap (λ (d : CutOff). refused 5 (cut_values d)) e ∙ cut s some (form_of x) refl (rw c.size_by-size.ensures at c.if-bytes-size.true)))
+    refused_parts s 5 _
+    (ap (λ (d : CutOff). refused 5 (cut_values d)) e ∙ cut s some (form_of x) refl (rw c.size_by-size.ensures at c.if-bytes-size.true))
 
 pub returns : goal.returns
 returns c =
@@ -55,7 +54,7 @@ returns c =
     let by_pattern : k ≡ form_of x = c.lookup-form.ensures.0 ∙ rule_is x (c.type_inv.bytes 0).fits in
     let shape : c.shape_by.result ≡ (form_at k).shape = c.shape_by.ensures ∙ ap (λ (j : ℕ). (form_at j).shape) (sym by_pattern) in
     let size : c.size_by-size.result ≡ size_of (form_at k) = c.size_by-size.ensures ∙ ap (λ (j : ℕ). size_of (form_at j)) (sym by_pattern) in
-    let got : c.new-2.result ≡ v = c.new-2.ensures ∙ make3 k a b e ∙ ap (formed k) (c.read-f.ensures ∙ ap (λ (t : Shape). fields_by t s) shape)
+    let got : c.new.result ≡ v = c.new.ensures ∙ make3 k a b e ∙ ap (formed k) (c.read-f.ensures ∙ ap (λ (t : Shape). fields_by t s) shape)
     ∙ by_shape k c.lookup-form.ensures.1 s in
     ap accepted got
     ∙ found_parts s v (parts_read k c.lookup-form.ensures.1 s (λ i. (c.type_inv.bytes i).fits))

@@ -20,7 +20,7 @@ returns-then-there-here c =
     let e = rw (back c.ranges.z) at c.in_ok-held.ensures in
     let inside : no_address c.args.z ≡ false = sym (no_far c.args.z) ∙ e.0 in
     let at : c.code-address.result ≡ nat_abs c.args.z = (rw (e.1, back c.ranges.z) at c.code-address.ensures) ∙ address_is c.args.z inside in
-    rw (c.new.ensures, at) (page_other Unwrapped c.args.self.address c.args.n c.args.z inside (λ f. c.if-there-here.true (ap top at ∙ f)))
+    rw at (page_other Unwrapped c.args.self.address c.args.n c.args.z inside (λ f. c.if-there-here.true (ap top at ∙ f)))
 
 pub returns : goal.returns
 returns c =
