@@ -1,5 +1,6 @@
 // Rooms of fixed length, and what is put into them.
-ghost use Rattle.std.specs.Prelude.{◌≡◌, length, replicate};
+ghost use Rattle.std.specs.Prelude.{◌≡◌, ◌+◌, ◌-◌, min, length, replicate};
+ghost use Rattle.std.proofs.lemmas.List.Edits.{sets};
 ghost use Rattle.std.specs.Iterator.{IsFinite};
 
 // A room that holds this item everywhere.
@@ -10,11 +11,14 @@ pub fn filled<T: Copy, const N: usize>(item: T) -> [T; N]
 }
 
 // Puts a part at a place, as far as there is room: the next place.
-pub fn copy<T: Copy>(part: &[T], at: usize, room: &mut [T]) -> usize {
-    let n = part.len().min(room.len().saturating_sub(at));
-    if n == 0 {
+pub fn copy<T: Copy>(part: &[T], at: usize, room: &mut [T]) -> usize
+    ensures room_after { room.new ≡ sets room.old at part.now }
+    ensures next { result ≡ at + min (length part.now) (length room.old - at) }
+{
+    if room.len() <= at {
         return at;
     }
+    let n = part.len().min(room.len() - at);
     room[at..at + n].copy_from_slice(&part[..n]);
     at + n
 }
