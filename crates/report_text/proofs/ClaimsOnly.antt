@@ -59,7 +59,7 @@ module _ (ls : List (List ℕ)) where
       let v : judge (refusals_in ls) c ≡ accepted c = accepts_too (refusals_in ls) 0 c z in
       omega (arith, (image_most 2 0 (others ls) c c (omega arith) (passed _ _ c v).1).1)
 
-  input_only : (n : ℕ) (vs : List ℤ) → input_answer ls ≡ refused n vs → (n ≡ 13) ⊎ (n ≡ 5)
+  pub input_only : (n : ℕ) (vs : List ℤ) → input_answer ls ≡ refused n vs → (n ≡ 13) ⊎ (n ≡ 5)
   unfolding input_answer
   input_only n vs e = by (judge {A = ℕ} (refusals_in ls) 0) refl e
     where

@@ -15,7 +15,7 @@ use Rattle.targets.proofs.HereIs.{to_end}
 use Rattle.list_text.specs.Text.{first, others}
 use Rattle.list_text.proofs.Firsts.{split}
 use Rattle.report_text.specs.Image.{input_lines, input_answer, image_answer}
-use Rattle.report_text.specs.Name.{is_name, is_name_line, name_in, name_length}
+use Rattle.report_text.specs.Name.{is_name_line}
 use Rattle.report_text.specs.declared.figures.Figures.{Figures}
 
 -- the first line ends at e

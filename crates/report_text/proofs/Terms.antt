@@ -14,11 +14,10 @@ use borrow.Author.Tests.{ltb-false, not-true, eq-eqb, ne_eqb}
 use Rattle.instruction.specs.Answer.{Answer, accepted, refused, Refusal, refuse, judge, after, laid}
 use Rattle.instruction.proofs.Accepting.{passed}
 use Rattle.instruction.proofs.Ands.{first_part, second_part}
-use Rattle.instruction.proofs.Judging.{refuses_too, accepts_too, accepts}
-use Rattle.instruction.proofs.Sign.{never}
-use Rattle.views.specs.View.{viewed_of, is_written}
-use Rattle.views.specs.declared.view.Viewed.{Viewed}
-use Rattle.views.specs.declared.view.Viewed.TheVariants.{Written, LongImage, ShortMarks, Damaged, NoRoom}
+use Rattle.instruction.proofs.Judging.{accepts_too}
+use Rattle.views.specs.View.{view_refused}
+use Rattle.views.specs.declared.view.ViewError.{ViewError}
+use Rattle.views.proofs.Viewing.{Judged, refused_too, refused_after}
 use Rattle.text.specs.Cut.{lines}
 use Rattle.text.specs.Puts.{Puts}
 use Rattle.list_text.proofs.LaidRooms.{laid_over}
@@ -32,24 +31,9 @@ use Rattle.report_text.specs.declared.gather.Gathered.{Gathered}
 use Rattle.report_text.specs.declared.term.Term.{Term}
 use Rattle.report_text.proofs.Blocks.{over_out, used_over}
 
--- refused by these, or not
-module _ (rs : List Refusal) where
-  abbrev Refuses : Viewed → ℕ → Type 0
-  Refuses v k = (n : ℕ) × (vs : List ℤ) × (viewed_of v ≡ refused n vs) × (judge rs k ≡ refused n vs)
-
-  pub refused_by : (v : Viewed) → viewed_of v ≡ judge rs 0 → is_written v ≡ false → (k : ℕ) → Refuses v k
-  refused_by (Written n) e f k = absurd (never f)
-  refused_by (LongImage n) e f k = (1, pos n ∷ [], refl, refuses_too rs 0 k 1 (pos n ∷ []) (sym e))
-  refused_by (ShortMarks n) e f k = (2, pos n ∷ [], refl, refuses_too rs 0 k 2 (pos n ∷ []) (sym e))
-  refused_by (Damaged p) e f k = (6, pos p ∷ [], refl, refuses_too rs 0 k 6 (pos p ∷ []) (sym e))
-  refused_by (NoRoom n) e f k = (11, pos n ∷ [], refl, refuses_too rs 0 k 11 (pos n ∷ []) (sym e))
-
-  pub accepted_by : (v : Viewed) → viewed_of v ≡ judge rs 0 → is_written v ≡ true → (viewed_of v ≡ accepted 0) × (judge {A = ℕ} rs 0 ≡ accepted 0)
-  accepted_by (Written n) e f = let g = accepts rs 0 n (sym e) in (ap accepted (sym g), sym e ∙ ap accepted (sym g))
-  accepted_by (LongImage n) e f = absurd (never (sym f))
-  accepted_by (ShortMarks n) e f = absurd (never (sym f))
-  accepted_by (Damaged p) e f = absurd (never (sym f))
-  accepted_by (NoRoom n) e f = absurd (never (sym f))
+-- what is not refused, whatever is answered then
+pub judged : (room out : List ℕ) → Judged (room_refusals room out) (accepted tt) → judge {A = ℕ} (room_refusals room out) 0 ≡ accepted 0
+judged room out e = accepts_too (room_refusals room out) tt 0 (sym e)
 
 -- the rooms are long enough
 pub long_rooms : (room out : List ℕ) → judge {A = ℕ} (room_refusals room out) 0 ≡ accepted 0 → (most ≤ length room) × (most_printed ≤ length out)
@@ -70,19 +54,11 @@ module _ (t : Term) (text room out : List ℕ) where
   Takes a u z o =
       (a ≡ take_answer t text room out) × ((u ≡ take_used t text room out) × ((z ≡ take_state t text room out) × (o ≡ take_out t text room out)))
 
-  pub take_refused : (v : Viewed) → viewed_of v ≡ judge rs 0 → is_written v ≡ false → Takes (viewed_of v) 0 s out
+  pub take_refused : (e : ViewError) → Judged rs (view_refused e) → Takes (view_refused e) 0 s out
   unfolding take_answer take_used take_state take_out
-  take_refused v e f =
-      let g = refused_by rs v e f (length (fed_out s (take (used_in s text) text))) in (
-        g.2 ∙ sym g.3,
-        (
-          sym (ap (λ (r : Answer ℕ). after r (used_in s text) 0) g.3),
-          (
-            sym (ap (λ (r : Answer ℕ). after r (fed_to s (take (used_in s text) text)) s) g.3),
-            sym (ap (λ (r : Answer ℕ). after r (laid (fed_out s (take (used_in s text) text)) out) out) g.3),
-          ),
-        ),
-      )
+  take_refused e h =
+      let g = refused_too rs (length (fed_out s (take (used_in s text) text))) e h in
+      (g, (refused_after e _ (used_in s text) 0 g, (refused_after e _ _ s g, refused_after e _ _ out g)))
 
   module _ (ok : judge {A = ℕ} rs 0 ≡ accepted 0) where
     pub take_on : (u : ℕ) → u ≡ used_in s text → (z : State) → fed_to s (take u text) ≡ z → (p : List ℕ) → fed_out s (take u text) ≡ p
@@ -139,12 +115,11 @@ module _ (t : Term) (text room out : List ℕ) where
 
 -- a call at the end
 module _ (t : Term) (room out : List ℕ) where
-  pub close_refused : (v : Viewed) → viewed_of v ≡ judge (room_refusals room out) 0 → is_written v ≡ false
-      → (viewed_of v ≡ close_answer t room out) × (out ≡ close_room t room out)
+  pub close_refused : (e : ViewError) → Judged (room_refusals room out) (view_refused e)
+      → (view_refused e ≡ close_answer t room out) × (out ≡ close_room t room out)
   unfolding close_answer close_room
-  close_refused v e f =
-      let g = refused_by (room_refusals room out) v e f (length (close_out (state t room))) in
-      (g.2 ∙ sym g.3, sym (ap (λ (r : Answer ℕ). after r (laid (close_out (state t room)) out) out) g.3))
+  close_refused e h =
+      let g = refused_too (room_refusals room out) (length (close_out (state t room))) e h in (g, refused_after e _ _ out g)
 
   pub close_on : judge {A = ℕ} (room_refusals room out) 0 ≡ accepted 0 → (p : List ℕ) → close_out (state t room) ≡ p → (n : ℕ) (o : List ℕ)
       → Puts p 0 out o n → n ≤ length out

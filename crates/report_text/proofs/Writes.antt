@@ -11,15 +11,14 @@ use lib.ListN.{length, take, drop, length-append, length-drop, drop_of_length-le
 use lib.Seq.{sets, take_all, take-append_seam, drop-drop}
 use borrow.Author.Tests.{le-ltb, lt-ltb}
 use Rattle.instruction.specs.Answer.{Answer, accepted, refused, judge, after, laid}
-use Rattle.instruction.proofs.Accepting.{differ}
 use Rattle.instruction.proofs.Judging.{pass, stop, done}
-use Rattle.views.specs.View.{viewed_of}
-use Rattle.views.specs.declared.view.Viewed.{Viewed}
-use Rattle.views.specs.declared.view.Viewed.TheVariants.{Written, LongImage, ShortMarks, Damaged, NoRoom}
+use Rattle.views.specs.View.{view_refused}
+use Rattle.views.specs.declared.view.ViewError.{ViewError}
+use Rattle.views.proofs.Viewing.{refused_after}
 use Rattle.text.specs.Puts.{Puts}
 use Rattle.text.proofs.Putting.{puts_then}
 use Rattle.list_text.proofs.LaidRooms.{laid_over}
-use Rattle.report_text.specs.Report.{highest, report_of, report_answer, report_room, written_in, Filling}
+use Rattle.report_text.specs.Report.{highest, report_of, report_answer, report_room, Filling}
 use Rattle.report_text.specs.Term.{State, state, begun, most, most_printed, completes, step_to}
 use Rattle.report_text.specs.Term.{fed_to, fed_out, used_in, close_out, room_refusals, first_out, Writing}
 use Rattle.report_text.specs.Term.{take_answer, take_used, take_state, take_out, close_answer, close_room}
@@ -28,13 +27,9 @@ use Rattle.report_text.specs.declared.whole.Progress.{Progress}
 use Rattle.report_text.proofs.Blocks.{blocks_joined}
 use Rattle.report_text.proofs.ReportFed.{report_fed}
 
--- what was written is told
-pub count_told : (v : Viewed) (n : ℕ) → viewed_of v ≡ accepted n → written_in v ≡ n
-count_told (Written m) n e = let f : accepted m ≡ accepted n = e in cc
-count_told (LongImage m) n e = absurd (differ e)
-count_told (ShortMarks m) n e = absurd (differ e)
-count_told (Damaged m) n e = absurd (differ e)
-count_told (NoRoom m) n e = absurd (differ e)
+-- what is accepted is not refused
+pub not_refused : (e : ViewError) (k : ℕ) → view_refused {A = ℕ} e ≡ accepted k → ⊥
+not_refused e k h = let z : ◌≡◌ {A = ℕ} 0 1 = refused_after e (accepted k) 1 0 h in absurd (omega arith)
 
 -- what is laid over a line that keeps its length
 pub laid_fits : (p l k : List ℕ) → k ≡ laid p l → length k ≡ length l → (length p ≤ length k) × (take (length p) k ≡ p)
@@ -190,10 +185,10 @@ module _ (text room : List ℕ) where
       (ap accepted m ∙ sym r, q.wrote (omega (arith, e)) ∙ laid_over out room (omega (arith, e)) ∙ sym (ap (λ (x : Answer ℕ). after x (laid out room) room) r))
 
 -- what a call says that it wrote, and what stands in its line
-pub written_says : (v : Viewed) (k : ℕ) (p l line : List ℕ) → k ≡ written_in v → viewed_of v ≡ accepted (length p) → line ≡ laid p l → length line ≡ length l
+pub written_says : (k : ℕ) (p l line : List ℕ) → accepted k ≡ accepted (length p) → line ≡ laid p l → length line ≡ length l
     → (k ≡ length p) × (k ≤ length line) × (take k line ≡ p)
-written_says v k p l line a b c d =
-    let e : k ≡ length p = a ∙ count_told v (length p) b in
+written_says k p l line b c d =
+    let e : k ≡ length p = cc in
     let f = laid_fits p l line c d in
     (e, omega (arith, e, f.0), ap (λ (x : ℕ). take x line) e ∙ f.1)
 

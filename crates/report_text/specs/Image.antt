@@ -1,10 +1,12 @@
 -- What is reported of one image. Document 02, W14: its figures, or 13 for a malformed image, 5 as in a run; the number is printed alone.
 -- Assumes nothing.
-use Rattle.std.specs.Prelude.{ℕ, Bool, cond, not, ◌&&◌, List, [], ◌∷◌, eqb, length, get_or}
+use Rattle.std.specs.Prelude.{ℕ, Bool, cond, not, ◌&&◌, List, [], ◌∷◌, eqb, length, get_or, Result, Ok, Err}
 use Prim.Native.Char.{code}
 use Rattle.instruction.specs.Answer.{Answer, accepted, refused, refuse, judge}
 use Rattle.instruction.specs.declared.mode.Mode.TheVariants.{Unwrapped}
 use Rattle.trace.specs.Run.{RunResult, run_answer, run_marks}
+use Rattle.trace.specs.declared.run.Ran.{Ran}
+use Rattle.trace.specs.declared.run.Ran.TheVariants.{Finished, Stopped}
 use Rattle.list_text.specs.Bytes.{bytes_in_lines}
 use Rattle.list_text.specs.Entries.{entries_in}
 use Rattle.list_text.specs.Output.{lent_room}
@@ -12,12 +14,22 @@ use Rattle.list_text.specs.Text.{first, others, refusals_in}
 use Rattle.report_text.specs.Figures.{figures}
 use Rattle.report_text.specs.Name.{is_name_line}
 use Rattle.report_text.specs.declared.figures.Figures.{Figures}
-use Rattle.report_text.specs.declared.image.Reported.{Reported}
-use Rattle.report_text.specs.declared.image.Reported.TheVariants.{Counted, Refused}
+use Rattle.report_text.specs.declared.image.ImageError.{ImageError}
+use Rattle.report_text.specs.declared.image.ImageError.TheVariants.{Malformed, Cut}
 
-abbrev pub reported_of : Reported → Answer Figures
-reported_of (Counted f) = accepted f
-reported_of (Refused n) = refused n []
+-- the number of a refusal
+abbrev pub number_of : ImageError → ℕ
+number_of Malformed = 13
+number_of Cut = 5
+
+abbrev pub reported_of : Result Figures ImageError → Answer Figures
+reported_of (Ok f) = accepted f
+reported_of (Err e) = refused (number_of e) []
+
+-- of an inner function: how many steps a run took
+abbrev pub steps_of : Ran → ℕ
+steps_of (Finished c) = c.steps
+steps_of (Stopped c) = c.steps
 
 -- of a run that left these marks: the figures, or the number of its refusal
 abbrev pub of_run : List ℕ → List ℕ → Answer RunResult → Answer Figures

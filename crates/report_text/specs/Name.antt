@@ -1,6 +1,6 @@
 -- The line that names an image. Document 02, W14: `N`, tab, a name of 1 to 32 letters or digits; the name is printed as `-` if the line is bad.
 -- Assumes nothing.
-use Rattle.std.specs.Prelude.{ℕ, ◌-◌, Bool, true, cond, ◌&&◌, ◌||◌, List, [], ◌∷◌, eqb, leb, length, get_or, drop}
+use Rattle.std.specs.Prelude.{ℕ, Bool, true, cond, ◌&&◌, ◌||◌, List, [], ◌∷◌, eqb, leb, length, get_or, drop}
 use Prim.Native.Char.{code}
 use Rattle.text.specs.Hex.{within}
 
@@ -25,7 +25,3 @@ is_name_line l = eqb (get_or l 0 0) (code "N") && (eqb (get_or l 1 0) 9 && is_na
 -- the name that is printed
 unfoldable pub name_of : List ℕ → List ℕ
 name_of l = cond (is_name_line l) (name_in l) (code "-" ∷ [])
-
--- of an inner function: how long the name is, 0 for a bad line
-abbrev pub name_length : List ℕ → ℕ
-name_length l = cond (is_name_line l) (length l - 2) 0

@@ -5,8 +5,6 @@ use Rattle.std.specs.Prelude.{ℕ, suc, min, ◌≤◌, ◌<◌, cond, List, [],
 use Prim.Native.Char.{code}
 use Rattle.std.proofs.lemmas.List.Edits.{sets}
 use Rattle.instruction.specs.Answer.{Answer, accepted, refused, refuse, judge, after, laid}
-use Rattle.views.specs.declared.view.Viewed.{Viewed}
-use Rattle.views.specs.declared.view.Viewed.TheVariants.{Written, LongImage, ShortMarks, Damaged, NoRoom}
 use Rattle.list_text.specs.Decimal.{decimal}
 use Rattle.list_text.specs.Refusal.{number_line}
 use Rattle.list_text.specs.Text.{first}
@@ -57,14 +55,6 @@ report_answer text room =
 
 unfoldable pub report_room : List ℕ → List ℕ → List ℕ
 report_room text room = after (report_answer text room) (laid (report_of text) room) room
-
--- of an inner function: how much was written
-abbrev pub written_in : Viewed → ℕ
-written_in (Written n) = n
-written_in (LongImage n) = 0
-written_in (ShortMarks n) = 0
-written_in (Damaged p) = 0
-written_in (NoRoom n) = 0
 
 -- of an inner function: as much of the report is written as there is room for, and it is counted; a count at 2^63 stays there
 pub record Filling (text room room' : List ℕ) (r : ℕ) : Type 0 where

@@ -1,8 +1,10 @@
 -- A term's text in blocks: what the record and the room that is lent with it hold after each byte, and what is printed. Document 02, W14, with
 -- one image's text held at a time.
 -- Assumes nothing.
-use Rattle.std.specs.Prelude.{ℕ, suc, ◌+◌, min, ◌≤◌, Bool, true, false, cond, not, ◌&&◌, List, [], ◌∷◌, ◌++◌, ◌≡◌, eqb, ltb, pos, length, take, set}
-use Rattle.instruction.specs.Answer.{Answer, Refusal, refuse, judge, after, laid}
+use Rattle.std.specs.Prelude.{ℕ, suc, ◌+◌, min, ◌≤◌, Bool, true, false, cond, not, ◌&&◌, List, [], ◌∷◌, ◌++◌, ◌≡◌, eqb, ltb, pos, length, take, set, Result, Ok, Err}
+use Rattle.instruction.specs.Answer.{Answer, accepted, Refusal, refuse, judge, after, laid}
+use Rattle.views.specs.View.{view_refused}
+use Rattle.views.specs.declared.view.ViewError.{ViewError}
 use Rattle.text.specs.Cut.{lines}
 use Rattle.text.specs.Puts.{Puts}
 use Rattle.list_text.specs.Refusal.{number_line}
@@ -14,6 +16,7 @@ use Rattle.report_text.specs.Report.{image_line, total_line}
 use Rattle.report_text.specs.declared.figures.Figures.{Figures}
 use Rattle.report_text.specs.declared.sums.Sums.{Sums}
 use Rattle.report_text.specs.declared.term.Term.{Term}
+use Rattle.report_text.specs.declared.term.Taken.{Taken}
 use Rattle.report_text.specs.declared.gather.Gathered.{Gathered}
 use Rattle.report_text.specs.declared.finish.Finished.{Finished}
 use Rattle.report_text.specs.declared.whole.Progress.{Progress}
@@ -115,6 +118,19 @@ close_out s =
 abbrev pub room_refusals : List ℕ → List ℕ → List Refusal
 room_refusals room out =
     refuse (ltb (length room) most) 11 (pos most ∷ []) ∷ refuse (ltb (length out) most_printed) 11 (pos most_printed ∷ []) ∷ []
+
+-- how many bytes one call printed, how many it used, and the record after it: a refusal uses none and leaves the record
+abbrev pub taken_of : Result Taken ViewError → Answer ℕ
+taken_of (Ok r) = accepted r.printed
+taken_of (Err e) = view_refused e
+
+abbrev pub used_of : Result Taken ViewError → ℕ
+used_of (Ok r) = r.used
+used_of (Err e) = 0
+
+abbrev pub term_of : Result Taken ViewError → Term → Term
+term_of (Ok r) t = r.term
+term_of (Err e) t = t
 
 module _ (t : Term) (text room out : List ℕ) where
   abbrev pub used : ℕ

@@ -1,6 +1,6 @@
 // The figures of one image.
 
-#[derive(Clone, Copy)]
+#[derive(Clone, Copy, Debug, PartialEq, Eq)]
 pub struct Figures {
     pub length: u64,
     pub steps: u64,

@@ -4,20 +4,32 @@ ghost use Rattle.views.specs.View.{Sound};
 ghost use Rattle.text.specs.Cut.{lines, up_to};
 ghost use Rattle.report_text.specs.Figures.{figures};
 ghost use Rattle.list_text.specs.Text.{others};
-ghost use Rattle.report_text.specs.Image.{reported_of, traced, input_lines, input_answer, image_answer};
+ghost use Rattle.report_text.specs.Image.{number_of, steps_of, reported_of, traced, input_lines, input_answer, image_answer};
 
 use crate::figures::Figures;
 use crate::{count, name};
 use instruction::Mode;
-use list_text::{Parsed, rooms};
+use list_text::rooms;
 use text::cut;
 use trace::Ran;
 
-#[derive(Clone, Copy)]
-pub enum Reported {
-    Counted(Figures),
-    // The number of a refusal: 13 or 5.
-    Refused(u32),
+// Why no figures are reported of an image.
+#[derive(Clone, Copy, Debug, PartialEq, Eq)]
+pub enum ImageError {
+    Malformed,
+    Cut,
+}
+
+impl ImageError {
+    // The number of the refusal.
+    pub fn number(self) -> u64
+        ensures { result ≡ number_of self }
+    {
+        match self {
+            Self::Malformed => 13,
+            Self::Cut => 5,
+        }
+    }
 }
 
 fn measure(image: &[u8], marks: &[u8], steps: u32) -> Figures
@@ -36,8 +48,17 @@ fn measure(image: &[u8], marks: &[u8], steps: u32) -> Figures
     }
 }
 
+// How many steps a run took.
+fn steps_of(ran: Ran) -> u32
+    ensures { result ≡ steps_of ran }
+{
+    match ran {
+        Ran::Finished(c) | Ran::Stopped(c) => c.steps,
+    }
+}
+
 // An image run from these entries.
-fn trace_image(image: &[u8], entries: &[u32]) -> Reported
+fn trace_image(image: &[u8], entries: &[u32]) -> Result<Figures, ImageError>
     requires { length image.now ≤ 16384 }
     ensures { reported_of result ≡ traced image.now entries.now }
 {
@@ -53,29 +74,22 @@ fn trace_image(image: &[u8], entries: &[u32]) -> Reported
         &entries[..0],
         n as u32,
     ) {
-        Ran::Finished(c) => Reported::Counted(measure(image, &marks[..n], c.steps)),
-        Ran::Stopped(c) => Reported::Counted(measure(image, &marks[..n], c.steps)),
-        Ran::LongImage(_) => Reported::Refused(1),
-        Ran::ShortMarks(_) => Reported::Refused(2),
-        Ran::ShortOrder(_) => Reported::Refused(3),
-        Ran::Cut(_) => Reported::Refused(5),
+        Ok(ran) => Ok(measure(image, &marks[..n], steps_of(ran))),
+        // Rooms as long as the image leave no refusal but an instruction cut off.
+        Err(_) => Err(ImageError::Cut),
     }
 }
 
 // Of the listing program's lines.
-fn report_input(text: &[u8]) -> Reported
+fn report_input(text: &[u8]) -> Result<Figures, ImageError>
     ensures { reported_of result ≡ input_answer (lines text.now) }
 {
     let mut entries = rooms::entries();
     let mut image = rooms::bytes();
     match list_text::parse(text, &mut entries, &mut image) {
-        Parsed::Accepted(c) => {
-            let n = c.bytes;
-            let k = c.entries;
-            trace_image(&image[0..n], &entries[0..k])
-        }
-        Parsed::Malformed(_) => Reported::Refused(13),
-        Parsed::NoRoom(_) => Reported::Refused(11),
+        Ok(c) => trace_image(&image[..c.bytes], &entries[..c.entries]),
+        // Rooms for the longest input leave no refusal but a bad line.
+        Err(_) => Err(ImageError::Malformed),
     }
 }
 
@@ -105,12 +119,12 @@ fn second_line(text: &[u8], end: usize) -> usize
 }
 
 // Of an image's lines, the first of which names it.
-pub fn report_image(text: &[u8]) -> Reported
+pub fn report_image(text: &[u8]) -> Result<Figures, ImageError>
     ensures { reported_of result ≡ image_answer (lines text.now) }
 {
     let e = cut::end(text, 0, cut::LINE_END);
     let Some(_) = name::name_in(&text[..e]) else {
-        return Reported::Refused(13);
+        return Err(ImageError::Malformed);
     };
     let from = second_line(text, e);
     let rest = &text[from..];

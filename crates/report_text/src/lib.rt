@@ -16,7 +16,7 @@ pub mod term;
 mod whole;
 
 pub use figures::Figures;
-pub use image::Reported;
+pub use image::ImageError;
 pub use sums::Sums;
 pub use term::{Taken, Term};
 pub use whole::report_text;

@@ -7,7 +7,7 @@ ghost use Rattle.report_text.specs.Name.{name_of};
 ghost use Rattle.report_text.specs.Report.{fields_of, told_of, image_line, total_line};
 
 use crate::figures::Figures;
-use crate::image::Reported;
+use crate::image::ImageError;
 use crate::sums::Sums;
 use crate::{copy, name};
 use list_text::decimal;
@@ -32,33 +32,33 @@ fn put_fields(numbers: &[u64], room: &mut [u8], at: usize) -> usize
 
 fn put_figures(f: Figures, room: &mut [u8], at: usize) -> usize
     requires { at + 126 ≤ length room.old }
-    ensures puts { Puts (told_of (reported_of (Reported.Counted f))) at room.old room.new result }
+    ensures puts { Puts (told_of (reported_of (Ok f))) at room.old room.new result }
     ensures upper_bound { result ≤ at + 126 }
 {
     let numbers = [f.length, f.steps, f.code, f.plain, f.shared, f.targets];
     put_fields(&numbers, room, at)
 }
 
-fn put_refusal(number: u32, room: &mut [u8], at: usize) -> usize
+fn put_refusal(error: ImageError, room: &mut [u8], at: usize) -> usize
     requires { at + 126 ≤ length room.old }
-    ensures puts { Puts (told_of (reported_of (Reported.Refused number))) at room.old room.new result }
+    ensures puts { Puts (told_of (reported_of (Err error))) at room.old room.new result }
     ensures upper_bound { result ≤ at + 126 }
 {
     room[at] = cut::TAB;
     room[at + 1] = b'R';
-    let numbers = [number as u64];
+    let numbers = [error.number()];
     put_fields(&numbers, room, at + 2)
 }
 
 // Writes an image's line after its name.
-fn put_told(image: Reported, room: &mut [u8], at: usize) -> usize
+fn put_told(image: Result<Figures, ImageError>, room: &mut [u8], at: usize) -> usize
     requires { at + 126 ≤ length room.old }
     ensures puts { Puts (told_of (reported_of image)) at room.old room.new result }
     ensures upper_bound { result ≤ at + 126 }
 {
     match image {
-        Reported::Counted(f) => put_figures(f, room, at),
-        Reported::Refused(n) => put_refusal(n, room, at),
+        Ok(f) => put_figures(f, room, at),
+        Err(error) => put_refusal(error, room, at),
     }
 }
 
@@ -72,7 +72,7 @@ fn put_name(name: &[u8], room: &mut [u8]) -> usize
 }
 
 // Writes the line of an image with this name: how long it is.
-fn put_named(name: &[u8], image: Reported, room: &mut [u8]) -> usize
+fn put_named(name: &[u8], image: Result<Figures, ImageError>, room: &mut [u8]) -> usize
     requires { (length name.now ≤ 32) × (159 ≤ length room.old) }
     ensures puts { Puts (image_line name.now (reported_of image)) 0 room.old room.new result }
     ensures upper_bound { result ≤ 159 }
@@ -84,7 +84,7 @@ fn put_named(name: &[u8], image: Reported, room: &mut [u8]) -> usize
 }
 
 // Writes the line of an image whose first line is this: how long it is.
-pub fn put_image(first: &[u8], image: Reported, room: &mut [u8]) -> usize
+pub fn put_image(first: &[u8], image: Result<Figures, ImageError>, room: &mut [u8]) -> usize
     requires { 159 ≤ length room.old }
     ensures puts { Puts (image_line (name_of first.now) (reported_of image)) 0 room.old room.new result }
     ensures upper_bound { result ≤ 159 }

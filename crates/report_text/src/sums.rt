@@ -4,9 +4,9 @@ ghost use Rattle.report_text.specs.Image.{reported_of};
 ghost use Rattle.report_text.specs.Sums.{no_sums, adding, fitting};
 
 use crate::figures::Figures;
-use crate::image::Reported;
+use crate::image::ImageError;
 
-#[derive(Clone, Copy)]
+#[derive(Clone, Copy, Debug, PartialEq, Eq)]
 pub struct Sums {
     pub length: u64,
     pub steps: u64,
@@ -44,8 +44,9 @@ fn fits(a: u64, b: u64) -> bool
 }
 
 fn figures_fit(s: Sums, f: Figures) -> bool
-    ensures { result ≡ fitting (adding s (reported_of (Reported.Counted f))) }
+    ensures { result ≡ fitting (adding s (reported_of (Ok f))) }
 {
+    // One test a step: of a chain by && the proof knows no value in the middle.
     if !fits(s.length, f.length) {
         return false;
     }
@@ -68,19 +69,19 @@ fn figures_fit(s: Sums, f: Figures) -> bool
 }
 
 // Whether the sums with one more image fit.
-pub fn image_fits(s: Sums, image: Reported) -> bool
+pub fn image_fits(s: Sums, image: Result<Figures, ImageError>) -> bool
     ensures { result ≡ fitting (adding s (reported_of image)) }
 {
     match image {
-        Reported::Counted(f) => figures_fit(s, f),
-        Reported::Refused(_) => fits(s.refused, 1),
+        Ok(f) => figures_fit(s, f),
+        Err(_) => fits(s.refused, 1),
     }
 }
 
 // The sums with one more accepted image.
 fn add_figures(s: Sums, f: Figures) -> Sums
-    requires { fitting (adding s (reported_of (Reported.Counted f))) ≡ true }
-    ensures { result ≡ adding s (reported_of (Reported.Counted f)) }
+    requires { fitting (adding s (reported_of (Ok f))) ≡ true }
+    ensures { result ≡ adding s (reported_of (Ok f)) }
 {
     Sums {
         length: s.length + f.length,
@@ -95,21 +96,15 @@ fn add_figures(s: Sums, f: Figures) -> Sums
 }
 
 // The sums with one more image.
-pub fn add(s: Sums, image: Reported) -> Sums
+pub fn add(s: Sums, image: Result<Figures, ImageError>) -> Sums
     requires { fitting (adding s (reported_of image)) ≡ true }
     ensures { result ≡ adding s (reported_of image) }
 {
     match image {
-        Reported::Counted(f) => add_figures(s, f),
-        Reported::Refused(_) => Sums {
-            length: s.length,
-            steps: s.steps,
-            code: s.code,
-            plain: s.plain,
-            shared: s.shared,
-            targets: s.targets,
-            accepted: s.accepted,
+        Ok(f) => add_figures(s, f),
+        Err(_) => Sums {
             refused: s.refused + 1,
+            ..s
         },
     }
 }

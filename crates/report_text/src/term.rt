@@ -1,16 +1,16 @@
 // A term's text, taken in blocks that are cut at any byte. The record is handed on by value; the text of the image that has begun stands in a
 // lent room.
-ghost use Rattle.std.specs.Prelude.{◌≡◌};
+ghost use Rattle.std.specs.Prelude.{◌≡◌, ◌≤◌, ◌<◌, IfOk, length};
 ghost use Rattle.instruction.specs.Answer.{judge};
-ghost use Rattle.views.specs.View.{viewed_of};
+ghost use Rattle.views.specs.View.{checked_of, viewed_of};
 ghost use Rattle.report_text.specs.Term.{begun, held_in, state, room_refusals};
-ghost use Rattle.report_text.specs.Term.{take_answer, take_used, take_state, take_out, close_answer, close_room};
+ghost use Rattle.report_text.specs.Term.{taken_of, used_of, term_of, take_answer, take_used, take_state, take_out, close_answer, close_room};
 
 use crate::sums::Sums;
 use crate::{finish, gather, line};
-use views::Viewed;
+use views::ViewError;
 
-#[derive(Clone, Copy)]
+#[derive(Clone, Copy, Debug, PartialEq, Eq)]
 pub struct Term {
     pub sums: Sums,
     // How many bytes of an image's text the room holds.
@@ -22,11 +22,11 @@ pub struct Term {
 }
 
 // What one call took: the record after it, how many bytes of the text, and how many bytes it printed.
-#[derive(Clone, Copy)]
+#[derive(Clone, Copy, Debug, PartialEq, Eq)]
 pub struct Taken {
     pub term: Term,
     pub used: usize,
-    pub printed: Viewed,
+    pub printed: usize,
 }
 
 impl Term {
@@ -52,95 +52,79 @@ impl Term {
     fn held_in(self) -> usize
         ensures { result ≡ held_in self }
     {
-        if self.held < Self::MOST {
-            return self.held;
-        }
-        Self::MOST
+        self.held.min(Self::MOST)
     }
 }
 
 // Whether the two rooms are long enough, or what is needed.
-fn check(room: &[u8], out: &[u8]) -> Viewed
-    ensures { viewed_of result ≡ judge (room_refusals room.now out.now) 0 }
+fn check(room: &[u8], out: &[u8]) -> Result<(), ViewError>
+    ensures { checked_of result ≡ judge (room_refusals room.now out.now) tt }
 {
     if room.len() < Term::MOST {
-        return Viewed::NoRoom(Term::MOST);
+        return Err(ViewError::NoRoom(Term::MOST));
     }
     if out.len() < Term::MOST_PRINTED {
-        return Viewed::NoRoom(Term::MOST_PRINTED);
+        return Err(ViewError::NoRoom(Term::MOST_PRINTED));
     }
-    Viewed::Written(0)
+    Ok(())
 }
 
-// Takes a text up to the first byte that ends an image, and prints that image's line; or the whole text.
-pub fn take(term: Term, text: &[u8], room: &mut [u8], out: &mut [u8]) -> Taken
-    ensures printed_value { viewed_of result.printed ≡ take_answer term text.now room.old out.old }
-    ensures used_value { result.used ≡ take_used term text.now room.old out.old }
-    ensures room_after { state result.term room.new ≡ take_state term text.now room.old out.old }
+// Takes a text up to the first byte that ends an image, and prints that image's line; or the whole text. A refusal takes nothing.
+pub fn take(term: Term, text: &[u8], room: &mut [u8], out: &mut [u8]) -> Result<Taken, ViewError>
+    ensures printed_value { taken_of result ≡ take_answer term text.now room.old out.old }
+    ensures used_value { used_of result ≡ take_used term text.now room.old out.old }
+    ensures room_after { state (term_of result term) room.new ≡ take_state term text.now room.old out.old }
     ensures out_after { out.new ≡ take_out term text.now room.old out.old }
+    ensures within { IfOk result (λ taken. taken.used ≤ length text.now) }
+    ensures some { IfOk result (λ taken. 0 < length text.now → 0 < taken.used) }
 {
-    let checked = check(room, out);
-    if !checked.is_written() {
-        return Taken {
-            term,
-            used: 0,
-            printed: checked,
-        };
-    }
+    check(room, out)?;
     if term.over {
-        return Taken {
+        return Ok(Taken {
             term,
             used: text.len(),
-            printed: checked,
-        };
+            printed: 0,
+        });
     }
     let g = gather::gather(term, text, room);
-    let sums = term.sums;
     let after = Term {
-        sums,
+        sums: term.sums,
         held: g.held,
         fresh: g.fresh,
         over: false,
     };
     if !g.complete {
-        return Taken {
+        return Ok(Taken {
             term: after,
             used: g.used,
-            printed: checked,
-        };
+            printed: 0,
+        });
     }
     let n = after.held_in();
-    let f = finish::finish(sums, &room[..n], out);
-    let ended = f.term;
-    Taken {
-        term: ended,
+    let f = finish::finish(term.sums, &room[..n], out);
+    Ok(Taken {
+        term: f.term,
         used: g.used,
-        printed: Viewed::Written(f.printed),
-    }
+        printed: f.printed,
+    })
 }
 
 // Prints the last image, if one is held, and the sums.
-pub fn close(term: Term, room: &[u8], out: &mut [u8]) -> Viewed
+pub fn close(term: Term, room: &[u8], out: &mut [u8]) -> Result<usize, ViewError>
     ensures result_value { viewed_of result ≡ close_answer term room.now out.old }
     ensures out_after { out.new ≡ close_room term room.now out.old }
 {
-    let checked = check(room, out);
-    if !checked.is_written() {
-        return checked;
-    }
+    check(room, out)?;
     if term.over {
-        return checked;
+        return Ok(0);
     }
     let n = term.held_in();
-    let sums = term.sums;
     if n == 0 {
-        return Viewed::Written(line::put_total(sums, out, 0));
+        return Ok(line::put_total(term.sums, out, 0));
     }
-    let f = finish::finish(sums, &room[..n], out);
-    let ended = f.term;
-    if ended.over {
-        return Viewed::Written(f.printed);
+    let f = finish::finish(term.sums, &room[..n], out);
+    if f.term.over {
+        return Ok(f.printed);
     }
-    let sums = ended.sums;
-    Viewed::Written(line::put_total(sums, out, f.printed))
+    Ok(line::put_total(f.term.sums, out, f.printed))
 }

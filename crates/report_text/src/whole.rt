@@ -2,13 +2,13 @@
 ghost use Rattle.std.specs.Prelude.{◌≡◌, min, ◌+◌, ◌≤◌, length, replicate};
 ghost use Rattle.std.proofs.lemmas.List.Edits.{sets};
 ghost use Rattle.views.specs.View.{viewed_of};
-ghost use Rattle.report_text.specs.Report.{report_answer, report_room, written_in, Filling, Measured};
+ghost use Rattle.report_text.specs.Report.{report_answer, report_room, Filling, Measured};
 ghost use Rattle.report_text.specs.Term.{state, most, most_printed, close_out, first_out, Writing};
 
 use crate::enough::HIGHEST;
 use crate::term::Term;
 use crate::{copy, enough, term};
-use views::Viewed;
+use views::ViewError;
 
 // As much as is held of an image's text.
 fn held() -> [u8; Term::MOST]
@@ -24,30 +24,11 @@ fn printed() -> [u8; Term::MOST_PRINTED]
     [0; Term::MOST_PRINTED]
 }
 
-// How much was written.
-fn count_of(viewed: Viewed) -> usize
-    ensures { result ≡ written_in viewed }
-{
-    match viewed {
-        Viewed::Written(n) => n,
-        Viewed::LongImage(_) => 0,
-        Viewed::ShortMarks(_) => 0,
-        Viewed::Damaged(_) => 0,
-        Viewed::NoRoom(_) => 0,
-    }
-}
-
 // The sum, or 2^63 where it would be more.
 fn more(n: usize, k: usize) -> usize
     ensures { result ≡ min (n + k) 9223372036854775808 }
 {
-    if HIGHEST < n {
-        return HIGHEST + 1;
-    }
-    if HIGHEST - n < k {
-        return HIGHEST + 1;
-    }
-    n + k
+    n.saturating_add(k).min(HIGHEST + 1)
 }
 
 // What one call of `take` left, with the count so far.
@@ -71,15 +52,15 @@ fn write_some(
     ensures writing { Writing term text.now held.old n held.new result }
     ensures room_after { room.new ≡ sets room.old n (first_out term text.now held.old) }
 {
-    let taken = term::take(term, text, held, line);
-    let printed = taken.printed;
-    let k = count_of(printed);
-    copy::copy(&line[..k], room, n);
-    let next = taken.term;
+    // The rooms are long enough.
+    let Ok(taken) = term::take(term, text, held, line) else {
+        unreachable!();
+    };
+    copy::copy(&line[..taken.printed], room, n);
     Progress {
-        term: next,
+        term: taken.term,
         used: taken.used,
-        count: more(n, k),
+        count: more(n, taken.printed),
     }
 }
 
@@ -89,7 +70,10 @@ fn write_last(term: Term, held: &[u8], line: &mut [u8], room: &mut [u8], n: usiz
     ensures value { result ≡ min (n + length (close_out (state term held.now))) 9223372036854775808 }
     ensures room_after { room.new ≡ sets room.old n (close_out (state term held.now)) }
 {
-    let k = count_of(term::close(term, held, line));
+    // The rooms are long enough.
+    let Ok(k) = term::close(term, held, line) else {
+        unreachable!();
+    };
     copy::copy(&line[..k], room, n);
     more(n, k)
 }
@@ -102,10 +86,10 @@ fn write_all(text: &[u8], held: &mut [u8], line: &mut [u8], room: &mut [u8]) -> 
     let mut now = Term::new();
     let mut at: usize = 0;
     let mut n: usize = 0;
+    // How far a turn goes is what the call takes, so no iterator counts the turns.
     while at < text.len() {
         let p = write_some(now, &text[at..], held, line, room, n);
-        let next = p.term;
-        now = next;
+        now = p.term;
         at += p.used;
         n = p.count;
     }
@@ -133,16 +117,16 @@ fn needed(text: &[u8], room: usize) -> usize
 }
 
 // The whole report of a text: how many bytes were written, or 11 with how many are needed. A refusal writes nothing.
-pub fn report_text(text: &[u8], room: &mut [u8]) -> Viewed
+pub fn report_text(text: &[u8], room: &mut [u8]) -> Result<usize, ViewError>
     ensures result_value { viewed_of result ≡ report_answer text.now room.old }
     ensures room_after { room.new ≡ report_room text.now room.old }
 {
     let n = needed(text, room.len());
     if HIGHEST < n {
-        return Viewed::NoRoom(HIGHEST);
+        return Err(ViewError::NoRoom(HIGHEST));
     }
     if room.len() < n {
-        return Viewed::NoRoom(n);
+        return Err(ViewError::NoRoom(n));
     }
-    Viewed::Written(fill(text, room))
+    Ok(fill(text, room))
 }

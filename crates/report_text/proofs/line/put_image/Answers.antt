@@ -1,15 +1,16 @@
 -- A line that names an image is told by that name, and any other by `-`.
 -- Assumes nothing.
-use Rattle.std.proofs.Common.{◌≡◌, List, ℕ, length, arith, sym, ap, ◌∙◌, length-drop}
+use Rattle.std.proofs.Common.{◌≡◌, List, ℕ, length, arith, sym, ap, ◌∙◌, length-drop, Result}
 use Rattle.text.proofs.Putting.{puts_as}
 use Rattle.report_text.specs.Image.{reported_of}
 use Rattle.report_text.specs.Report.{image_line}
-use Rattle.report_text.specs.declared.image.Reported.{Reported}
+use Rattle.report_text.specs.declared.figures.Figures.{Figures}
+use Rattle.report_text.specs.declared.image.ImageError.{ImageError}
 use Rattle.report_text.proofs.Names.{name_sized, no_name, is_name_lem}
 use Rattle.report_text.proofs.line.put_image.Goals as goal
 
 -- another name for the same
-same : {n m : List ℕ} (i : Reported) → n ≡ m → image_line n (reported_of i) ≡ image_line m (reported_of i)
+same : {n m : List ℕ} (i : Result Figures ImageError) → n ≡ m → image_line n (reported_of i) ≡ image_line m (reported_of i)
 same i e = ap (λ (n : List ℕ). image_line n (reported_of i)) e
 
 pub put_named-requires : goal.put_named-requires
