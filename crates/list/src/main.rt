@@ -2,7 +2,6 @@
 #![tactic(auto)]
 
 use std::io;
-use views::Viewed;
 
 // One byte more than the longest input that is not malformed: what is longer is refused with 13 by what was read of it.
 const INPUT: usize = 50_433;
@@ -11,7 +10,7 @@ const INPUT: usize = 50_433;
 const OUTPUT: usize = 983_040;
 
 fn show(rt: &HostRuntime, text: &[u8], out: &mut [u8]) -> io::Result<()> {
-    if let Viewed::Written(n) = list_text::list_text(text, out)
+    if let Ok(n) = list_text::list_text(text, out)
         && let Some(written) = out.get(..n)
     {
         rt.write_all(written)?;

@@ -2,82 +2,69 @@
 // It holds one block and one image's text, however long the term.
 #![tactic(auto)]
 
-ghost use Rattle.std.specs.Prelude.{◌≡◌, ◌≤◌, length};
-
 use report_text::{Term, term};
 use std::io;
 use std::io::Read;
-use views::Viewed;
 
-// As much as is held of an image's text.
-fn held() -> [u8; Term::MOST]
-    ensures { 51200 ≡ length result }
-{
-    [0; Term::MOST]
+// How many bytes are read at once.
+const BLOCK: usize = 65_536;
+
+// Writes the bytes that a call printed.
+fn show(rt: &HostRuntime, n: usize, out: &[u8]) -> io::Result<()> {
+    rt.write_all(out.get(..n).unwrap_or(&[]))
 }
 
-// As long as what one call prints can be.
-fn printed() -> [u8; Term::MOST_PRINTED]
-    ensures { 512 ≡ length result }
-{
-    [0; Term::MOST_PRINTED]
-}
-
-fn show(rt: &HostRuntime, viewed: Viewed, out: &[u8]) -> io::Result<()> {
-    if let Viewed::Written(n) = viewed {
-        if n <= out.len() {
-            rt.write_all(&out[0..n])?;
-        }
-    }
-    Ok(())
-}
-
-// Takes a whole block: each call takes a byte at least.
+// Takes a whole block: each call takes a byte at least. A refusal, which rooms of these lengths do not get, would end it.
 fn feed(
     rt: &HostRuntime,
     before: Term,
     block: &[u8],
-    held: &mut [u8],
-    out: &mut [u8],
-) -> io::Result<Term>
-    requires { (51200 ≤ length held.old) × (512 ≤ length out.old) }
-{
+    held: &mut [u8; Term::MOST],
+    out: &mut [u8; Term::MOST_PRINTED],
+) -> io::Result<Term> {
     let mut term = before;
-    let mut at: usize = 0;
-    while at < block.len() {
-        let taken = term::take(term, &block[at..], held, out);
-        let viewed = taken.printed;
-        show(rt, viewed, out)?;
-        let after = taken.term;
-        term = after;
-        at += taken.used;
+    let mut left = block;
+    // How far a turn goes is what the call takes, so no iterator counts the turns.
+    while !left.is_empty() {
+        let Ok(taken) = term::take(term, left, held, out) else {
+            break;
+        };
+        show(rt, taken.printed, out)?;
+        term = taken.term;
+        left = &left[taken.used..];
     }
     Ok(term)
 }
 
-// Blocks to the end of the input, or to the refusal 22. The loop counts its turns down, from a number that no input uses up, since nothing says
+// Blocks to the end of the input, or to the refusal 22. The loop counts its turns, up to a number that no input uses up, since nothing says
 // that an input ends.
-fn feed_all(rt: &HostRuntime, block: &mut [u8], held: &mut [u8], out: &mut [u8]) -> io::Result<Term>
-    requires { (51200 ≤ length held.old) × (512 ≤ length out.old) }
-{
+fn feed_all(
+    rt: &HostRuntime,
+    held: &mut [u8; Term::MOST],
+    out: &mut [u8; Term::MOST_PRINTED],
+) -> io::Result<Term> {
     let mut stdin = rt.stdin();
+    let mut block = [0; BLOCK];
     let mut term = Term::new();
-    let mut turns = u64::MAX;
-    while 0 < turns && !term.over {
-        let n = stdin.read(block)?;
-        if n == 0 {
-            return Ok(term);
+    for _ in 0..u64::MAX {
+        if term.over {
+            break;
         }
-        term = feed(rt, term, &block[0..n], held, out)?;
-        turns -= 1;
+        let n = stdin.read(&mut block)?;
+        if n == 0 {
+            break;
+        }
+        term = feed(rt, term, &block[..n], held, out)?;
     }
     Ok(term)
 }
 
 fn main(rt: HostRuntime) -> io::Result<()> {
-    let mut block = [0; 65_536];
-    let mut held = held();
-    let mut out = printed();
-    let term = feed_all(&rt, &mut block, &mut held, &mut out)?;
-    show(&rt, term::close(term, &held, &mut out), &out)
+    let mut held = [0; Term::MOST];
+    let mut out = [0; Term::MOST_PRINTED];
+    let term = feed_all(&rt, &mut held, &mut out)?;
+    match term::close(term, &held, &mut out) {
+        Ok(n) => show(&rt, n, &out),
+        Err(_) => Ok(()),
+    }
 }

@@ -1,10 +1,10 @@
 // The calls that make listings.
 use dis_text::Shown;
 use instruction::Mode;
-use list_text::Parsed;
+use list_text::ParseError;
 use listing::Arrivals;
 use runner::call::{Call, CallError};
-use views::Viewed;
+use views::ViewError;
 
 // Which output a case is about.
 #[derive(Clone, Copy, PartialEq, Eq)]
@@ -45,21 +45,20 @@ pub struct Listings<'a> {
     pub marks: &'a [u8],
 }
 
-fn of_viewed(viewed: Viewed) -> Result<usize, CallError> {
-    match viewed {
-        Viewed::Written(n) => Ok(n),
-        Viewed::NoRoom(n) => Err(CallError::NoRoom(n)),
-        _ => Err(CallError::Other),
+fn refused(error: ViewError) -> CallError {
+    match error {
+        ViewError::NoRoom(n) => CallError::NoRoom(n),
+        _ => CallError::Other,
     }
 }
 
 // A listing and a message are told apart.
-fn of_shown(output: Output, shown: Shown) -> Result<usize, CallError> {
+fn of_shown(output: Output, shown: Result<Shown, ViewError>) -> Result<usize, CallError> {
     match shown {
-        Shown::Listing(n) if output == Output::Shown => Ok(n),
-        Shown::Message(n) if output == Output::Message => Ok(n),
-        Shown::NoRoom(n) => Err(CallError::NoRoom(n)),
-        _ => Err(CallError::Other),
+        Ok(Shown::Listing(n)) if output == Output::Shown => Ok(n),
+        Ok(Shown::Message(n)) if output == Output::Message => Ok(n),
+        Ok(_) => Err(CallError::Other),
+        Err(e) => Err(refused(e)),
     }
 }
 
@@ -69,22 +68,14 @@ impl Call for Listings<'_> {
         let input = self.input;
         let marks = self.marks;
         match self.output {
-            Output::Text => of_viewed(list_text::list_text(input, room)),
-            Output::Declined => of_viewed(listing::listing_with(
-                mode,
-                input,
-                marks,
-                Arrivals::Declined,
-                room,
-            )),
-            Output::Chosen => of_viewed(listing::listing_with(
-                mode,
-                input,
-                marks,
-                Arrivals::Chosen,
-                room,
-            )),
-            Output::Listing => of_viewed(listing::listing(mode, input, marks, room)),
+            Output::Text => list_text::list_text(input, room).map_err(refused),
+            Output::Declined => {
+                listing::listing_with(mode, input, marks, Arrivals::Declined, room).map_err(refused)
+            }
+            Output::Chosen => {
+                listing::listing_with(mode, input, marks, Arrivals::Chosen, room).map_err(refused)
+            }
+            Output::Listing => listing::listing(mode, input, marks, room).map_err(refused),
             Output::Shown | Output::Message => {
                 of_shown(self.output, dis_text::dis_text(marks, input, room))
             }
@@ -99,7 +90,7 @@ impl Listings<'_> {
             return 0;
         }
         match list_text::parse(self.input, &mut [0; 1], &mut [0; 1]) {
-            Parsed::Malformed(n) => n,
+            Err(ParseError::Malformed(n)) => n,
             _ => 0,
         }
     }

@@ -2,15 +2,6 @@
 ghost use Rattle.std.specs.Prelude.{◌<◌};
 
 use report_text::{Term, term};
-use views::Viewed;
-
-// Puts what a call printed after what was printed before: the next place; none where the call refused.
-fn put(printed: Viewed, line: &[u8], at: usize, room: &mut [u8]) -> Option<usize> {
-    let Viewed::Written(n) = printed else {
-        return None;
-    };
-    Some(runner::copy(line.get(..n)?, at, room))
-}
 
 // The record after a block, and where what was printed ends: as many calls as the block needs; none where one takes nothing or more than
 // there is.
@@ -25,9 +16,9 @@ fn feed(
     let mut left = block;
     // How far a turn goes is what the call takes, so no iterator counts the turns.
     while !left.is_empty() {
-        let taken = term::take(term, left, held, line);
+        let taken = term::take(term, left, held, line).ok()?;
         term = taken.term;
-        end = put(taken.printed, line, end, room)?;
+        end = runner::copy(line.get(..taken.printed)?, end, room);
         if taken.used == 0 {
             return None;
         }
@@ -47,6 +38,6 @@ pub fn report(before: Term, size: usize, text: &[u8], room: &mut [u8]) -> Option
         fed = feed(fed, block, &mut held, &mut line, room)?;
     }
     let (term, end) = fed;
-    let printed = term::close(term, &held, &mut line);
-    put(printed, &line, end, room)
+    let printed = term::close(term, &held, &mut line).ok()?;
+    Some(runner::copy(line.get(..printed)?, end, room))
 }

@@ -5,7 +5,7 @@ use crate::blocks;
 use report_text::Term;
 use runner::call::{Call, CallError};
 use runner::{Entries, Tally, call};
-use views::Viewed;
+use views::ViewError;
 
 // What is given stands in one room: the text, then the output's beginning.
 #[derive(Clone, Copy)]
@@ -36,9 +36,9 @@ struct Report<'a>(&'a [u8]);
 impl Call for Report<'_> {
     fn write(&self, room: &mut [u8]) -> Result<usize, CallError> {
         match report_text::report_text(self.0, room) {
-            Viewed::Written(n) => Ok(n),
-            Viewed::NoRoom(n) => Err(CallError::NoRoom(n)),
-            _ => Err(CallError::Other),
+            Ok(n) => Ok(n),
+            Err(ViewError::NoRoom(n)) => Err(CallError::NoRoom(n)),
+            Err(_) => Err(CallError::Other),
         }
     }
 }

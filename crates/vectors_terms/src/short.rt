@@ -1,31 +1,23 @@
 // Rooms of a block and of the end that are one byte too short: refused with what is needed, nothing taken and nothing written.
 ghost use Rattle.std.specs.Prelude.{◌≤◌};
 
-use report_text::{Taken, Term, term};
+use report_text::{Term, term};
 use runner::Tally;
 use runner::call::{OLD, is_old};
-use views::Viewed;
-
-fn is_no_room(viewed: Viewed, need: usize) -> bool {
-    matches!(viewed, Viewed::NoRoom(n) if n == need)
-}
-
-fn is_nothing(taken: Taken, need: usize) -> bool {
-    taken.used == 0 && taken.term.held == 0 && is_no_room(taken.printed, need)
-}
+use views::ViewError;
 
 // A block.
 fn is_block_refused(need: usize, held: &mut [u8], line: &mut [u8]) -> bool {
     held.fill(OLD);
     line.fill(OLD);
     let taken = term::take(Term::new(), b"N\ta\n\n", held, line);
-    is_nothing(taken, need) && is_old(held) && is_old(line)
+    taken == Err(ViewError::NoRoom(need)) && is_old(held) && is_old(line)
 }
 
 // The end.
 fn is_end_refused(need: usize, held: &[u8], line: &mut [u8]) -> bool {
     line.fill(OLD);
-    is_no_room(term::close(Term::new(), held, line), need) && is_old(line)
+    term::close(Term::new(), held, line) == Err(ViewError::NoRoom(need)) && is_old(line)
 }
 
 // With so many bytes to hold a text in, and so many to print in.
