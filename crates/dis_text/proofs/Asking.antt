@@ -8,6 +8,7 @@ use native.Mathlib.Numerals.{add-one}
 use native.Mathlib.Omega.{arith}
 use lib.IntN.{pos}
 use lib.ListN.{length, take, drop}
+use Rattle.std.specs.Prelude.{Option, Some, None}
 use Rattle.instruction.specs.Answer.{Answer, accepted, refused}
 use Rattle.instruction.specs.declared.mode.Mode.TheVariants.{Unwrapped}
 use Rattle.listing.specs.Walk.{unchosen}
@@ -18,8 +19,6 @@ use Rattle.dis_text.specs.Asked.{asked_from, asked_in, may_stand, with_word}
 use Rattle.dis_text.specs.Held.{counts, held, Counted, CountedIn, took_of, word_answer}
 use Rattle.dis_text.specs.Word.{word_of}
 use Rattle.dis_text.specs.declared.asked.Asked.{Asked}
-use Rattle.dis_text.specs.declared.asked.Took.{Took}
-use Rattle.dis_text.specs.declared.asked.Took.TheVariants.{On, Off}
 use Rattle.dis_text.specs.declared.word.Word.{Word}
 
 -- what is asked after a word with the number k, which was answered so
@@ -82,24 +81,33 @@ module _ (text : List ℕ) where
     pub asking_pin : length text ≤ at → asked.pinning ≡ true → refused 13 (pos k ∷ []) ≡ asked_in text
     asking_pin h e = first_of asked.pinning e _ _ ∙ none_left h
 
-    module _ (e : ℕ) (p : e ≡ at + length (up_to 0 (drop at text))) (h : at < length text) (w : Word) (f : w ≡ word_of (take (e - at) (drop at text)))
-        (now-entries now-pins : List ℕ) (r : Took) (g : took_of r now-entries now-pins ≡ word_answer (held asked entries pins) w) where
-      answered : after k (left (e + 1)) (took_of r now-entries now-pins) ≡ asked_in text
-      answered =
-          rw (g, f) (sym (ap (asked_from k (held asked entries pins)) (piece_next 0 text at e p h) ∙ one_word k (held asked entries pins) _ _)) ∙ j.same
+    module _ (e : ℕ) (p : e ≡ at + length (up_to 0 (drop at text))) (h : at < length text) (w : Option Word) (f : w ≡ word_of (take (e - at) (drop at text)))
+      where
+        -- it is none
+        pub asking_none : w ≡ None → refused 13 (pos k ∷ []) ≡ asked_in text
+        unfolding word_answer
+        asking_none o =
+            let y = sym f ∙ o in
+            sym (ap (asked_from k (held asked entries pins)) (piece_next 0 text at e p h) ∙ one_word k (held asked entries pins) _ _
+            ∙ ap (λ x. after k (left (e + 1)) (word_answer (held asked entries pins) x)) y) ∙ j.same
 
-      pub asking_bad : r ≡ Off → refused 13 (pos k ∷ []) ≡ asked_in text
-      asking_bad o = rw o at answered
+        module _ (now-entries now-pins : List ℕ) (r : Option Asked) (g : took_of r now-entries now-pins ≡ word_answer (held asked entries pins) w) where
+          answered : after k (left (e + 1)) (took_of r now-entries now-pins) ≡ asked_in text
+          answered =
+              rw (g, f) (sym (ap (asked_from k (held asked entries pins)) (piece_next 0 text at e p h) ∙ one_word k (held asked entries pins) _ _)) ∙ j.same
 
-      pub asking_next : length now-entries ≡ length entries → length now-pins ≡ length pins → CountedIn r → (asked' : Asked) → r ≡ On asked'
-          → Asking now-entries now-pins asked' (e + 1) (k + 1)
-      asking_next l m c asked' o =
-          let i = piece_inside 0 text at e p (omega arith) in
-          record {
-            inside = omega arith;
-            count = omega (arith, j.count, p);
-            counted = rw o at c;
-            entry_room = l ∙ j.entry_room;
-            pin_room = m ∙ j.pin_room;
-            same = rw (add-one k) (rw o at answered);
-          }
+          pub asking_bad : r ≡ None → refused 13 (pos k ∷ []) ≡ asked_in text
+          asking_bad o = rw o at answered
+
+          pub asking_next : length now-entries ≡ length entries → length now-pins ≡ length pins → CountedIn r → (asked' : Asked) → r ≡ Some asked'
+              → Asking now-entries now-pins asked' (e + 1) (k + 1)
+          asking_next l m c asked' o =
+              let i = piece_inside 0 text at e p (omega arith) in
+              record {
+                inside = omega arith;
+                count = omega (arith, j.count, p);
+                counted = rw o at c;
+                entry_room = l ∙ j.entry_room;
+                pin_room = m ∙ j.pin_room;
+                same = rw (add-one k) (rw o at answered);
+              }

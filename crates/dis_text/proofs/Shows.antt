@@ -1,26 +1,23 @@
 -- What is answered of an output in a room: it is written, or the room is too short.
 -- Assumes nothing.
-use mathlib.Core.Path.{◌≡◌, refl, sym, ap, ◌∙◌}
-use mathlib.Core.Bool.{Bool, true, false}
+use mathlib.Core.Path.{◌≡◌, sym, ap, ◌∙◌}
 use mathlib.Core.List.{List, [], ◌∷◌}
 use Prim.Native.Nat.{ℕ, ◌≤◌, ◌<◌}
 use native.Mathlib.Omega.{arith}
-use lib.Dec.{ltb}
 use lib.IntN.{ℤ, pos}
 use lib.ListN.{length}
 use lib.Seq.{sets}
-use borrow.Author.Tests.{lt-ltb, le-ltb, ltb-true, ltb-false}
+use borrow.Author.Tests.{lt-ltb, le-ltb}
 use Rattle.instruction.specs.Answer.{Answer, accepted, refused}
-use Rattle.instruction.proofs.Accepting.{differ}
-use Rattle.instruction.proofs.Judging.{pass, stop, done}
-use Rattle.views.specs.View.{viewed_of, room_answer, room_after}
-use Rattle.views.specs.declared.view.Viewed.{Viewed}
-use Rattle.views.specs.declared.view.Viewed.TheVariants.{Written, LongImage, ShortMarks, Damaged, NoRoom}
+use Rattle.instruction.proofs.Judging.{pass, stop, done, accepts, accepts_too, refuses_too}
+use Rattle.marks.specs.declared.sizes.SizeError.TheVariants.{LongImage, ShortMarks}
+use Rattle.views.specs.View.{view_refused, room_answer, room_after}
+use Rattle.views.specs.declared.view.ViewError.{ViewError}
+use Rattle.views.specs.declared.view.ViewError.TheVariants.{Size, Damaged, NoRoom}
 use Rattle.views.proofs.Rooming.{no_room_for}
 use Rattle.list_text.proofs.RefusalPutting.{put_shown}
 use Rattle.dis_text.specs.Message.{message}
-use Rattle.dis_text.specs.Output.{Output, told, printed, output_of, shown_of, shown_answer}
-use Rattle.dis_text.specs.Told.{listing_in}
+use Rattle.dis_text.specs.Output.{Output, listing, told, printed, output_of, shown_answer}
 
 module _ (d : Answer (List ℕ)) (room : List ℕ) where
   abbrev pub Is : Answer Output → List ℕ → Type 0
@@ -46,27 +43,19 @@ says n vs room t k e h f =
     (ap (λ (j : ℕ). accepted (told j)) (sym e) ∙ sym (long (refused n vs) room (omega (arith, e))), (put_shown (message n vs) room t k e h f).1)
 
 -- a listing is written, or there is no room
-pub lists : (out room : List ℕ) (v : Viewed) → viewed_of v ≡ room_answer [] out room → shown_of (listing_in v) ≡ shown_answer (accepted out) room
-unfolding room_answer
-lists out room v e = by (ltb (length room) (length out)) refl
-  where
-    written : (v : Viewed) → viewed_of v ≡ accepted (length out) → shown_of (listing_in v) ≡ accepted (output_of (accepted out))
-    written (Written n) f = let g : n ≡ length out = cc in rw g
-    written (LongImage n) f = absurd (differ f)
-    written (ShortMarks n) f = absurd (differ f)
-    written (Damaged n) f = absurd (differ f)
-    written (NoRoom n) f = absurd (differ f)
+module _ (out room : List ℕ) where
+  pub listed : (n : ℕ) → accepted n ≡ room_answer [] out room → accepted (listing n) ≡ shown_answer (accepted out) room
+  unfolding room_answer shown_answer
+  listed n e =
+      let g : length out ≡ n = accepts _ (length out) n (sym e) in
+      ap (λ (k : ℕ). accepted (listing k)) (sym g) ∙ sym (accepts_too _ (length out) (listing (length out)) (sym e ∙ ap accepted (sym g)))
 
-    none : (v : Viewed) → viewed_of v ≡ refused 11 (pos (length out) ∷ []) → shown_of (listing_in v) ≡ refused 11 (pos (length out) ∷ [])
-    none (Written n) f = absurd (differ (sym f))
-    none (LongImage n) f = let g : ◌≡◌ {A = ℕ} 1 11 = cc in absurd (omega arith)
-    none (ShortMarks n) f = let g : ◌≡◌ {A = ℕ} 2 11 = cc in absurd (omega arith)
-    none (Damaged n) f = let g : ◌≡◌ {A = ℕ} 6 11 = cc in absurd (omega arith)
-    none (NoRoom n) f = let g : pos n ∷ [] ≡ pos (length out) ∷ [] = cc in rw g
-
-    by : (t : Bool) → ltb (length room) (length out) ≡ t → shown_of (listing_in v) ≡ shown_answer (accepted out) room
-    by true f = none v (e ∙ stop _ _ _ f) ∙ sym (short (accepted out) room (ltb-true (length room) (length out) f))
-    by false f = written v (e ∙ pass _ _ _ f ∙ done _) ∙ sym (long (accepted out) room (ltb-false (length room) (length out) f))
+  pub not_listed : (d : ViewError) → view_refused d ≡ room_answer [] out room → view_refused d ≡ shown_answer (accepted out) room
+  unfolding room_answer shown_answer
+  not_listed (Size (LongImage n)) e = sym (refuses_too _ _ _ 1 _ (sym e))
+  not_listed (Size (ShortMarks n)) e = sym (refuses_too _ _ _ 2 _ (sym e))
+  not_listed (Damaged p) e = sym (refuses_too _ _ _ 6 _ (sym e))
+  not_listed (NoRoom n) e = sym (refuses_too _ _ _ 11 _ (sym e))
 
 -- what is printed is the same
 pub shown_as : (d e : Answer (List ℕ)) → d ≡ e → (room : List ℕ) (r : Answer Output) (t : List ℕ) → Is e room r t → Is d room r t

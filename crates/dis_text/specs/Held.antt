@@ -1,15 +1,13 @@
 -- Of inner functions: what is asked, as two rooms and a record of counts hold it.
 -- Assumes nothing.
-use Rattle.std.specs.Prelude.{ℕ, ◌≤◌, Bool, cond, List, [], ◌∷◌, pos, take}
+use Rattle.std.specs.Prelude.{ℕ, ◌≤◌, Bool, cond, List, [], take, Option, Some, None, Result, Ok, Err}
 use Rattle.instruction.specs.Answer.{Answer, accepted, refused}
 use Rattle.instruction.specs.declared.mode.Mode.{Mode}
 use Rattle.listing.specs.declared.tabbed.Arrivals.{Arrivals}
 use Rattle.dis_text.specs.Asked as words
 use Rattle.dis_text.specs.declared.asked.Asked.{Asked}
-use Rattle.dis_text.specs.declared.asked.Took.{Took}
-use Rattle.dis_text.specs.declared.asked.Took.TheVariants.{On, Off}
-use Rattle.dis_text.specs.declared.arguments.Read.{Read}
-use Rattle.dis_text.specs.declared.arguments.Read.TheVariants.{Asks, Bad}
+use Rattle.dis_text.specs.declared.message.DisError.{DisError}
+use Rattle.dis_text.specs.Told.{number_of, values_of}
 use Rattle.dis_text.specs.declared.word.Word.{Word}
 
 abbrev pub counts : ℕ → ℕ → Mode → Arrivals → Bool → Asked
@@ -29,27 +27,27 @@ held a entries pins = record {
 abbrev pub Counted : Asked → Type 0
 Counted a = (a.entries ≤ 256) × (a.pins ≤ 256)
 
-abbrev pub CountedIn : Took → Type 0
-CountedIn (On a) = Counted a
-CountedIn Off = Unit {0}
+abbrev pub CountedIn : Option Asked → Type 0
+CountedIn (Some a) = Counted a
+CountedIn None = Unit {0}
 
 -- other settings
-abbrev pub setting : Asked → Mode → Arrivals → Bool → Took
-setting a mode arrivals pinning = cond a.pinning Off (On (counts a.entries a.pins mode arrivals pinning))
+abbrev pub setting : Asked → Mode → Arrivals → Bool → Option Asked
+setting a mode arrivals pinning = cond a.pinning None (Some (counts a.entries a.pins mode arrivals pinning))
 
 -- what one word leaves
-abbrev pub took_of : Took → List ℕ → List ℕ → Answer words.Asked
-took_of (On a) entries pins = accepted (held a entries pins)
-took_of Off entries pins = refused 13 []
+abbrev pub took_of : Option Asked → List ℕ → List ℕ → Answer words.Asked
+took_of (Some a) entries pins = accepted (held a entries pins)
+took_of None entries pins = refused 13 []
 
-unfoldable pub word_answer : words.Asked → Word → Answer words.Asked
+unfoldable pub word_answer : words.Asked → Option Word → Answer words.Asked
 word_answer a w = cond (words.may_stand a w) (accepted (words.with_word a w)) (refused 13 [])
 
 -- what all words leave
-abbrev pub read_of : Read → List ℕ → List ℕ → Answer words.Asked
-read_of (Asks a) entries pins = accepted (held a entries pins)
-read_of (Bad k) entries pins = refused 13 (pos k ∷ [])
+abbrev pub read_of : Result Asked DisError → List ℕ → List ℕ → Answer words.Asked
+read_of (Ok a) entries pins = accepted (held a entries pins)
+read_of (Err t) entries pins = refused (number_of t) (values_of t)
 
-abbrev pub CountedRead : Read → Type 0
-CountedRead (Asks a) = Counted a
-CountedRead (Bad k) = Unit {0}
+abbrev pub CountedRead : Result Asked DisError → Type 0
+CountedRead (Ok a) = Counted a
+CountedRead (Err t) = Unit {0}

@@ -1,12 +1,14 @@
 -- The whole output of `dis`: the listing of a run in the file's bytes, or one line that says what is wrong. Ours, as the program is.
 -- Assumes nothing.
-use Rattle.std.specs.Prelude.{ℕ, cond, List, [], ◌∷◌, eqb, ltb, pos, length}
+use Rattle.std.specs.Prelude.{ℕ, cond, List, [], ◌∷◌, eqb, ltb, pos, length, Result, Ok, Err}
 use Rattle.instruction.specs.Answer.{Answer, accepted, refused, refuse, judge}
 use Rattle.list_text.specs.Output.{traced_with}
 use Rattle.dis_text.specs.Asked.{Asked, asked_in}
 use Rattle.dis_text.specs.Message.{message}
 use Rattle.dis_text.specs.declared.shown.Shown.{Shown}
-use Rattle.dis_text.specs.declared.shown.Shown.TheVariants.{Listing, Message, NoRoom}
+use Rattle.dis_text.specs.declared.shown.Shown.TheVariants.{Listing, Message}
+use Rattle.views.specs.View.{view_refused}
+use Rattle.views.specs.declared.view.ViewError.{ViewError}
 
 -- where no entry is asked, those that the original's command takes for a game: `src/lib.rs`
 unfoldable pub game_entries : List ℕ
@@ -39,10 +41,10 @@ output_of (accepted out) = listing (length out)
 output_of (refused n vs) = told (length (message n vs))
 
 -- the number and values of each answer
-abbrev pub shown_of : Shown → Answer Output
-shown_of (Listing n) = accepted (listing n)
-shown_of (Message n) = accepted (told n)
-shown_of (NoRoom n) = refused 11 (pos n ∷ [])
+abbrev pub shown_of : Result Shown ViewError → Answer Output
+shown_of (Ok (Listing n)) = accepted (listing n)
+shown_of (Ok (Message n)) = accepted (told n)
+shown_of (Err e) = view_refused e
 
 -- 11 with what is needed where the room is shorter
 unfoldable pub shown_answer : Answer (List ℕ) → List ℕ → Answer Output

@@ -1,12 +1,12 @@
 -- One word of the command line of `dis`. The program is ours: the documents ask for the library under it, and not for it.
 -- Assumes nothing.
-use Rattle.std.specs.Prelude.{ℕ, ◌+◌, ◌*◌, ◌-◌, Bool, true, cond, ◌&&◌, List, [], ◌∷◌, leb, ltb, length}
+use Rattle.std.specs.Prelude.{ℕ, ◌+◌, ◌*◌, ◌-◌, Bool, true, cond, ◌&&◌, List, [], ◌∷◌, leb, ltb, length, Option, Some, None}
 use Prim.Native.Char.{code}
 use Prim.Native.String.{String, [] as none, ◌∷◌ as ◌then◌}
 use Rattle.text.specs.Hex.{within, value_of}
 use Rattle.text.specs.Same.{same}
 use Rattle.dis_text.specs.declared.word.Word.{Word}
-use Rattle.dis_text.specs.declared.word.Word.TheVariants.{Number, Wraps, NoArrivals, Pin, Other}
+use Rattle.dis_text.specs.declared.word.Word.TheVariants.{Number, Wraps, NoArrivals, Pin}
 
 -- the bytes of a text
 unfoldable pub codes : String → List ℕ
@@ -31,13 +31,14 @@ number_from n (b ∷ bs) = number_from (n * 16 + value_in b) bs
 unfoldable pub is_number : List ℕ → Bool
 is_number w = leb 1 (length w) && leb (length w) 4 && all_digits w
 
--- the number that a word stands for; 65,536, which no four digits stand for, where it is none
-unfoldable pub number_in : List ℕ → ℕ
-number_in w = cond (is_number w) (number_from 0 w) 65536
+-- the number that a word stands for, if it does
+unfoldable pub number_in : List ℕ → Option ℕ
+number_in w = cond (is_number w) (Some (number_from 0 w)) None
 
-unfoldable pub word_of : List ℕ → Word
+-- none where it is none of these
+unfoldable pub word_of : List ℕ → Option Word
 word_of w =
-    cond (same w (codes "--wrapping")) Wraps
-    (cond (same w (codes "--no-arrivals")) NoArrivals
-    (cond (same w (codes "--pin")) Pin
-    (cond (is_number w) (Number (number_from 0 w)) Other)))
+    cond (same w (codes "--wrapping")) (Some Wraps)
+    (cond (same w (codes "--no-arrivals")) (Some NoArrivals)
+    (cond (same w (codes "--pin")) (Some Pin)
+    (cond (is_number w) (Some (Number (number_from 0 w))) None)))

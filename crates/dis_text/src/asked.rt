@@ -1,5 +1,5 @@
 // What the words ask for, up to one of them.
-ghost use Rattle.std.specs.Prelude.{◌≡◌, false, ltb, length, set};
+ghost use Rattle.std.specs.Prelude.{◌≡◌, false, ltb, length, set, Some};
 ghost use Rattle.listing.specs.Walk.{unchosen};
 ghost use Rattle.instruction.specs.declared.mode.Mode.TheVariants.{Unwrapped};
 ghost use Rattle.dis_text.specs.Held.{counts, held, Counted, CountedIn, setting, took_of, word_answer};
@@ -20,34 +20,21 @@ pub struct Asked {
     pub pinning: bool,
 }
 
-#[derive(Clone, Copy)]
-pub enum Took {
-    On(Asked),
-    // The word may not stand here.
-    Off,
-}
-
 impl Asked {
     // As many entries, and as many pins.
     pub const MOST: usize = 256;
-
-    pub fn of(entries: usize, pins: usize, mode: Mode, arrivals: Arrivals, pinning: bool) -> Self
-        ensures { result ≡ counts entries pins mode arrivals pinning }
-    {
-        Self {
-            entries,
-            pins,
-            mode,
-            arrivals,
-            pinning,
-        }
-    }
 
     // Before the first word.
     pub fn new() -> Self
         ensures { result ≡ counts 0 0 Unwrapped unchosen false }
     {
-        Self::of(0, 0, Mode::Unwrapped, Arrivals::DEFAULT, false)
+        Self {
+            entries: 0,
+            pins: 0,
+            mode: Mode::Unwrapped,
+            arrivals: Arrivals::DEFAULT,
+            pinning: false,
+        }
     }
 }
 
@@ -62,42 +49,50 @@ fn push(n: u32, room: &mut [u32], at: usize) -> bool
     true
 }
 
-// A number is a pin or an entry.
-fn take_number(asked: Asked, n: u32, entries: &mut [u32], pins: &mut [u32]) -> Took
+// What is asked with a number more, which is a pin or an entry; none where it may not stand here.
+fn take_number(asked: Asked, n: u32, entries: &mut [u32], pins: &mut [u32]) -> Option<Asked>
     requires { (length entries.old ≡ 256) × (length pins.old ≡ 256) × Counted asked }
-    ensures pins_after { took_of result entries.new pins.new ≡ word_answer (held asked entries.old pins.old) (Number n) }
+    ensures pins_after { took_of result entries.new pins.new ≡ word_answer (held asked entries.old pins.old) (Some (Number n)) }
     ensures counted_in { CountedIn result }
 {
-    let k = asked.entries;
-    let j = asked.pins;
-    let mode = asked.mode;
-    let arrivals = asked.arrivals;
     if asked.pinning {
-        if !push(n, pins, j) {
-            return Took::Off;
+        if !push(n, pins, asked.pins) {
+            return None;
         }
-        return Took::On(Asked::of(k, j + 1, mode, arrivals, false));
+        return Some(Asked {
+            pins: asked.pins + 1,
+            pinning: false,
+            ..asked
+        });
     }
-    if !push(n, entries, k) {
-        return Took::Off;
+    if !push(n, entries, asked.entries) {
+        return None;
     }
-    Took::On(Asked::of(k + 1, j, mode, arrivals, false))
+    Some(Asked {
+        entries: asked.entries + 1,
+        ..asked
+    })
 }
 
 // Other settings, which may not stand where a pin is awaited.
-fn set(asked: Asked, mode: Mode, arrivals: Arrivals, pinning: bool) -> Took
+fn set(asked: Asked, mode: Mode, arrivals: Arrivals, pinning: bool) -> Option<Asked>
     ensures { result ≡ setting asked mode arrivals pinning }
 {
     if asked.pinning {
-        return Took::Off;
+        return None;
     }
-    Took::On(Asked::of(asked.entries, asked.pins, mode, arrivals, pinning))
+    Some(Asked {
+        mode,
+        arrivals,
+        pinning,
+        ..asked
+    })
 }
 
-// What is asked with one word more.
-pub fn take_word(asked: Asked, word: Word, entries: &mut [u32], pins: &mut [u32]) -> Took
+// What is asked with one word more; none where it may not stand here.
+pub fn take_word(asked: Asked, word: Word, entries: &mut [u32], pins: &mut [u32]) -> Option<Asked>
     requires { (length entries.old ≡ 256) × (length pins.old ≡ 256) × Counted asked }
-    ensures pins_after { took_of result entries.new pins.new ≡ word_answer (held asked entries.old pins.old) word }
+    ensures pins_after { took_of result entries.new pins.new ≡ word_answer (held asked entries.old pins.old) (Some word) }
     ensures counted_in { CountedIn result }
 {
     let mode = asked.mode;
@@ -107,6 +102,5 @@ pub fn take_word(asked: Asked, word: Word, entries: &mut [u32], pins: &mut [u32]
         Word::Wraps => set(asked, Mode::Wrapping, arrivals, false),
         Word::NoArrivals => set(asked, mode, Arrivals::Declined, false),
         Word::Pin => set(asked, mode, arrivals, true),
-        Word::Other => Took::Off,
     }
 }

@@ -4,13 +4,15 @@ ghost use Rattle.views.specs.View.{room_after};
 ghost use Rattle.list_text.specs.Output.{traced_with};
 ghost use Rattle.dis_text.specs.Output.{printed, shown_of, shown_answer};
 
-use crate::message::Trouble;
+use crate::message::DisError;
 use crate::shown::Shown;
-use crate::{message, rooms, shown};
+use crate::{message, rooms};
 use instruction::Mode;
 use listing::Arrivals;
+use marks::SizeError;
 use targets::Image;
-use trace::Ran;
+use trace::RunError;
+use views::ViewError;
 
 pub fn list_image(
     mode: Mode,
@@ -19,14 +21,15 @@ pub fn list_image(
     pins: &[u32],
     arrivals: Arrivals,
     room: &mut [u8],
-) -> Shown
+) -> Result<Shown, ViewError>
     ensures result_value { shown_of result ≡ shown_answer (traced_with mode image.now entries.now pins.now arrivals) room.old }
     ensures room_after { room.new
         ≡ room_after [] (printed (traced_with mode image.now entries.now pins.now arrivals)) room.old }
 {
     let n = image.len();
     if Image::LIMIT < n {
-        return message::tell(Trouble::Long(n), room);
+        let long = RunError::Size(SizeError::LongImage(n));
+        return message::tell(DisError::Run(long), room);
     }
     let mut marks = rooms::bytes();
     let mut order = rooms::positions();
@@ -39,23 +42,10 @@ pub fn list_image(
         pins,
         n as u32,
     ) {
-        Ran::Finished(_) => shown::listing_in(listing::listing_with(
-            mode,
-            image,
-            &marks[..n],
-            arrivals,
-            room,
-        )),
-        Ran::Stopped(_) => shown::listing_in(listing::listing_with(
-            mode,
-            image,
-            &marks[..n],
-            arrivals,
-            room,
-        )),
-        Ran::LongImage(n) => message::tell(Trouble::Long(n), room),
-        Ran::ShortMarks(n) => message::tell(Trouble::ShortMarks(n), room),
-        Ran::ShortOrder(n) => message::tell(Trouble::ShortOrder(n), room),
-        Ran::Cut(c) => message::tell(Trouble::Cut(c), room),
+        Ok(_) => {
+            let written = listing::listing_with(mode, image, &marks[..n], arrivals, room)?;
+            Ok(Shown::Listing(written))
+        }
+        Err(e) => message::tell(DisError::Run(e), room),
     }
 }

@@ -1,5 +1,5 @@
 // The line that says what is wrong.
-ghost use Rattle.std.specs.Prelude.{◌≡◌, [], ◌+◌, ◌≤◌, length, set};
+ghost use Rattle.std.specs.Prelude.{◌≡◌, [], ◌+◌, ◌≤◌, length};
 ghost use Rattle.instruction.specs.Answer.{refused};
 ghost use Rattle.views.specs.View.{room_after};
 ghost use Rattle.text.specs.Puts.{Puts};
@@ -12,29 +12,18 @@ ghost use Rattle.dis_text.specs.Told.{number_of, values_of, cut_reason, bad_reas
 use crate::shown::Shown;
 use instruction::CutOff;
 use list_text::decimal;
+use listing::put;
+use marks::SizeError;
+use trace::RunError;
+use views::ViewError;
 
 // Why there is no listing.
 #[derive(Clone, Copy)]
-pub enum Trouble {
-    // 1: the file's length.
-    Long(usize),
-    // 2 and 3: the length of a room. Neither comes from a run whose rooms are as long as the image, but its answer's enum has them.
-    ShortMarks(usize),
-    ShortOrder(usize),
-    // 5.
-    Cut(CutOff),
+pub enum DisError {
+    // Of a run whose rooms are as long as the image neither 2 nor 3 comes, but its error has them.
+    Run(RunError),
     // 13: the number of a word.
     Bad(usize),
-}
-
-// Writes a byte at a place, if that is inside the room.
-fn put_byte(b: u8, room: &mut [u8], at: usize)
-    ensures { room.new ≡ set room.old at b }
-{
-    if room.len() <= at {
-        return;
-    }
-    room[at] = b;
 }
 
 // Writes a text at a place; the next place. What falls past the end of the room is counted and not written.
@@ -43,11 +32,8 @@ fn put(text: &[u8], room: &mut [u8], at: usize) -> usize
     ensures { Puts text.now at room.old room.new result }
 {
     let mut to = at;
-    let mut i: usize = 0;
-    while i < text.len() {
-        put_byte(text[i], room, to);
-        to += 1;
-        i += 1;
+    for b in text {
+        to = put::put_byte(room, to, *b);
     }
     to
 }
@@ -68,13 +54,7 @@ fn put_position(p: u32, room: &mut [u8], at: usize) -> usize
     requires { at ≤ 1000 }
     ensures { Puts (hex4 p) at room.old room.new result }
 {
-    let digits = [
-        listing::hex1(p / 4096),
-        listing::hex1(p / 256),
-        listing::hex1(p / 16),
-        listing::hex1(p),
-    ];
-    put(&digits, room, at)
+    put::put_hex4(room, at, p)
 }
 
 // Where an instruction is cut off, and how many bytes are missing.
@@ -99,52 +79,54 @@ fn put_bad(k: usize, room: &mut [u8], at: usize) -> usize
     put_decimal(k, room, a)
 }
 
-fn put_reason(t: Trouble, room: &mut [u8], at: usize) -> usize
+fn put_reason(e: DisError, room: &mut [u8], at: usize) -> usize
     requires { at ≤ 100 }
-    ensures puts { Puts (reason (number_of t) (values_of t)) at room.old room.new result }
+    ensures puts { Puts (reason (number_of e) (values_of e)) at room.old room.new result }
     ensures upper_bound { result ≤ at + 100 }
 {
-    match t {
-        Trouble::Long(_) => put(b"the file is longer than 65536 bytes", room, at),
-        Trouble::ShortMarks(_) => put(b"refused", room, at),
-        Trouble::ShortOrder(_) => put(b"refused", room, at),
-        Trouble::Cut(c) => put_cut(c, room, at),
-        Trouble::Bad(k) => put_bad(k, room, at),
+    match e {
+        DisError::Run(RunError::Size(SizeError::LongImage(_))) => {
+            put(b"the file is longer than 65536 bytes", room, at)
+        }
+        DisError::Run(RunError::Size(SizeError::ShortMarks(_))) => put(b"refused", room, at),
+        DisError::Run(RunError::ShortOrder(_)) => put(b"refused", room, at),
+        DisError::Run(RunError::Cut(c)) => put_cut(c, room, at),
+        DisError::Bad(k) => put_bad(k, room, at),
     }
 }
 
-fn number_of(t: Trouble) -> usize
-    ensures { result ≡ number_of t }
+fn number_of(e: DisError) -> usize
+    ensures { result ≡ number_of e }
 {
-    match t {
-        Trouble::Long(_) => 1,
-        Trouble::ShortMarks(_) => 2,
-        Trouble::ShortOrder(_) => 3,
-        Trouble::Cut(_) => 5,
-        Trouble::Bad(_) => 13,
+    match e {
+        DisError::Run(RunError::Size(SizeError::LongImage(_))) => 1,
+        DisError::Run(RunError::Size(SizeError::ShortMarks(_))) => 2,
+        DisError::Run(RunError::ShortOrder(_)) => 3,
+        DisError::Run(RunError::Cut(_)) => 5,
+        DisError::Bad(_) => 13,
     }
 }
 
 // Writes as much of the line as there is room for: how long it is.
-fn put_message(t: Trouble, room: &mut [u8]) -> usize
-    ensures { Puts (message (number_of t) (values_of t)) 0 room.old room.new result }
+fn put_message(e: DisError, room: &mut [u8]) -> usize
+    ensures { Puts (message (number_of e) (values_of e)) 0 room.old room.new result }
 {
     let a = put(b"dis: ", room, 0);
-    let b = put_decimal(number_of(t), room, a);
+    let b = put_decimal(number_of(e), room, a);
     let c = put(b": ", room, b);
-    let d = put_reason(t, room, c);
+    let d = put_reason(e, room, c);
     put(b"\n", room, d)
 }
 
 // The line, or 11 with how many bytes are needed.
-pub fn tell(t: Trouble, room: &mut [u8]) -> Shown
-    ensures result_value { shown_of result ≡ shown_answer (refused (number_of t) (values_of t)) room.old }
-    ensures room_after { room.new ≡ room_after [] (message (number_of t) (values_of t)) room.old }
+pub fn tell(e: DisError, room: &mut [u8]) -> Result<Shown, ViewError>
+    ensures result_value { shown_of result ≡ shown_answer (refused (number_of e) (values_of e)) room.old }
+    ensures room_after { room.new ≡ room_after [] (message (number_of e) (values_of e)) room.old }
 {
-    let need = put_message(t, &mut room[..0]);
+    let need = put_message(e, &mut room[..0]);
     if room.len() < need {
-        return Shown::NoRoom(need);
+        return Err(ViewError::NoRoom(need));
     }
-    put_message(t, room);
-    Shown::Message(need)
+    put_message(e, room);
+    Ok(Shown::Message(need))
 }

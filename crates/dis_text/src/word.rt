@@ -12,8 +12,6 @@ pub enum Word {
     Wraps,
     NoArrivals,
     Pin,
-    // None of these.
-    Other,
 }
 
 // The value of a hex digit of either case; 65,536 for any other byte.
@@ -26,44 +24,37 @@ fn value(b: u8) -> u32
     hex::value(b)
 }
 
-// The number that 1 to 4 hex digits stand for; 65,536, which none do, for any other word.
-fn number(word: &[u8]) -> u32
+// The number that a word stands for, if it is 1 to 4 hex digits.
+fn number(word: &[u8]) -> Option<u32>
     ensures { result ≡ number_in word.now }
 {
-    if word.len() == 0 {
-        return 65_536;
-    }
-    if 4 < word.len() {
-        return 65_536;
+    if word.is_empty() || 4 < word.len() {
+        return None;
     }
     let mut n: u32 = 0;
-    let mut i: usize = 0;
-    while i < word.len() {
-        let d = value(word[i]);
+    for b in word {
+        let d = value(*b);
         if 16 <= d {
-            return 65_536;
+            return None;
         }
         n = n * 16 + d;
-        i += 1;
     }
-    n
+    Some(n)
 }
 
-pub fn word_of(word: &[u8]) -> Word
+// What a word asks for, if anything.
+pub fn word_of(word: &[u8]) -> Option<Word>
     ensures { result ≡ word_of word.now }
 {
     if same(word, b"--wrapping") {
-        return Word::Wraps;
+        return Some(Word::Wraps);
     }
     if same(word, b"--no-arrivals") {
-        return Word::NoArrivals;
+        return Some(Word::NoArrivals);
     }
     if same(word, b"--pin") {
-        return Word::Pin;
+        return Some(Word::Pin);
     }
-    let n = number(word);
-    if n == 65_536 {
-        return Word::Other;
-    }
-    Word::Number(n)
+    let n = number(word)?;
+    Some(Word::Number(n))
 }
