@@ -14,7 +14,7 @@ pub enum Word {
     Pin,
 }
 
-// The value of a hex digit of either case; 65,536 for any other byte.
+// The value of a hex digit of either case; 65,536 for any other byte, as the definition `value_in` has it.
 fn value(b: u8) -> u32
     ensures { result ≡ value_in b }
 {

@@ -15,6 +15,7 @@ impl Input {
 
     pub const MOST_IN_LINE: usize = 32;
 
+    // A call that the pages name, for callers that are no crate of the repository.
     pub fn new(entries: usize, bytes: usize) -> Self
         ensures { (result.entries ≡ entries) × (result.bytes ≡ bytes) }
     {

@@ -1,4 +1,4 @@
-// The line of a refusal: its number, with or without a value. Every number is accepted.
+// The line of a refusal: its number, with or without a value. Every number is accepted, since the errors of several crates are told by it.
 ghost use Rattle.std.specs.Prelude.{◌≡◌, [], ◌∷◌, ◌+◌, ◌≤◌, length};
 ghost use Rattle.std.proofs.lemmas.List.Edits.{sets};
 ghost use Rattle.views.specs.View.{viewed_of, room_answer, room_after};

@@ -1,4 +1,5 @@
-// Local rooms, each made by a function that says what it holds.
+// Local rooms, each made by a function that says what it holds. One generic function would need a bound for the zero and both its parameters
+// at each call.
 ghost use Rattle.std.specs.Prelude.{◌≡◌, replicate};
 
 use crate::parsed::Input;

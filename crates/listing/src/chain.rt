@@ -51,6 +51,7 @@ impl Indexed<'_, '_> {
             }
             q = arrivals::next(self.index, q);
         }
+        // The definition `next_held` answers this number where there is none.
         Image::NOWHERE
     }
 

@@ -16,6 +16,7 @@ fn put_target(out: &mut [u8], at: usize, mode: Mode, next: u64, kind: Kind, z: i
     ensures { Puts (target (operand_place mode next kind z)) at out.old out.new result }
 {
     let t = targets::operand_place(mode, next, kind, z);
+    // The definition `operand_place` answers that number where no position is named.
     if Image::NOWHERE <= t {
         return put::put_byte(out, at, b'?');
     }

@@ -24,6 +24,7 @@ pub fn put_digit(out: &mut [u8], at: usize, n: u32) -> usize
     put_byte(out, at, hex::hex1(n))
 }
 
+// Each of the longer ones puts a digit and then the shorter one, which is plainer than a loop over shifts by a const parameter.
 pub fn put_hex2(out: &mut [u8], at: usize, n: u32) -> usize
     requires { at < 2 ^ 61 }
     ensures { Puts (hex2 n) at out.old out.new result }
@@ -48,7 +49,7 @@ pub fn put_hex4(out: &mut [u8], at: usize, n: u32) -> usize
     put_hex3(out, a, n)
 }
 
-// A line's letter and position.
+// A line's letter and position. The letter is a byte of the text that is put, and no choice is made by it.
 pub fn put_start(out: &mut [u8], at: usize, letter: u8, p: u32) -> usize
     requires { at < 2 ^ 57 }
     ensures { Puts (letter ∷ 9 ∷ hex4 p) at out.old out.new result }
