@@ -1,9 +1,7 @@
-pub mod Wider
-pub mod Told
 pub mod Fitting
-pub mod Named
+pub mod Smalls
 pub mod Sizes
-pub mod Lengths
+pub mod TraceBounds
 pub mod Shown
 pub mod BackBounds
 pub mod MapBounds

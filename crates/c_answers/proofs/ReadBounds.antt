@@ -9,7 +9,7 @@ use borrow.Author.Tests.{leb-false}
 use lib.Dec.{leb}
 use lib.IntN.{pos}
 use lib.ListN.{length, drop, length-drop}
-use Rattle.instruction.specs.Answer.{Answer, accepted, refused, refuse, judge}
+use Rattle.instruction.specs.Answer.{accepted, refuse, judge}
 use Rattle.instruction.specs.declared.mode.Mode.{Mode}
 use Rattle.instruction.proofs.Ands.{first_part}
 use Rattle.text.specs.Cut.{up_to}
@@ -18,25 +18,17 @@ use Rattle.text.proofs.Pairs.{pairs}
 use Rattle.read_back.specs.Line.{is_line, has_bytes, letter_on, record_of}
 use Rattle.read_back.specs.Offsets.{digits_at, bytes_at, record_at}
 use Rattle.read_back.specs.Order.{follows, place_after}
-use Rattle.read_back.specs.Read.{Found, listed, ended, read_of, is_good, line_answer, read_answer}
+use Rattle.read_back.specs.Read.{Found, listed, ended, is_good, line_answer, read_answer}
 use Rattle.read_back.specs.declared.place.Place.{Place}
 use Rattle.read_back.specs.declared.place.Record.{Record}
-use Rattle.read_back.specs.declared.read.Read.{Read}
-use Rattle.read_back.specs.declared.read.Read.TheVariants as read
 use Rattle.read_back.proofs.ByFields.{good_line, record_is}
 use Rattle.read_back.proofs.Codes.{digits_short}
-use Rattle.c_answers.specs.BackCounts.{number_in_read}
+use Rattle.c_answers.proofs.Fitting.{Holds, this}
 
--- the number of an answer fits
-abbrev Small : Answer Found → Type 0
-Small (accepted (listed r next)) = r.count < 2 ^ 63
-Small (accepted ended) = 0 < 2 ^ 63
-Small (refused n vs) = (k : ℕ) → vs ≡ pos k ∷ [] → k < 2 ^ 63
-
-reply_small : (r : Read) → Small (read_of r) → number_in_read r < 2 ^ 63
-reply_small (read.Line r next) h = h
-reply_small read.End h = h
-reply_small (read.Malformed k) h = h k refl
+-- what follows on a line fits
+abbrev pub Few : Found → Type 0
+Few (listed r next) = r.count < 2 ^ 63
+Few ended = Unit {0}
 
 -- no more follows on a line than it has bytes
 counted : (line : List ℕ) → (record_at line).count ≤ length line
@@ -48,26 +40,23 @@ counted line = by (has_bytes (letter_on line))
     by false = omega (arith, length-drop 6 line)
 
 module _ (mode : Mode) (text : List ℕ) (place : Place) (t : length text < 2 ^ 63) (n : place.line < 2 ^ 63) where
-  line_small : (l : List ℕ) → length l ≤ length text → Small (line_answer mode place l)
+  line_fits : (l : List ℕ) → length l ≤ length text → Holds Few (line_answer mode place l)
   unfolding judge
-  line_small l h = by (is_good mode place l) refl
+  line_fits l h = by (is_good mode place l) refl
     where
       by : (b : Bool) → is_good mode place l ≡ b
-          → Small (judge (refuse (not b) 15 (pos place.line ∷ []) ∷ []) (listed (record_of l) (place_after place (length l) (record_of l))))
+          → Holds Few (judge (refuse (not b) 15 (pos place.line ∷ []) ∷ []) (listed (record_of l) (place_after place (length l) (record_of l))))
       by true e =
           let g = good_line mode l (first_part (is_line mode l) (follows place (record_of l)) e) in
           omega (arith, counted l, ap (λ (r : Record). r.count) (record_is l g))
-      by false e = λ k f. let p : place.line ≡ k = cc in omega (arith, p)
+      by false e = this 15 n
 
-  answer_small : Small (read_answer mode text place)
+  pub read_fits : Holds Few (read_answer mode text place)
   unfolding read_answer
-  answer_small = by (leb (length text) place.at) refl
+  read_fits = by (leb (length text) place.at) refl
     where
-      by : (b : Bool) → leb (length text) place.at ≡ b → Small (cond b (accepted ended) (line_answer mode place (up_to 10 (drop place.at text))))
-      by true e = omega arith
+      by : (b : Bool) → leb (length text) place.at ≡ b → Holds Few (cond b (accepted ended) (line_answer mode place (up_to 10 (drop place.at text))))
+      by true e = tt
       by false e =
           let h : place.at < length text = leb-false (length text) place.at e in
-          line_small (up_to 10 (drop place.at text)) (omega (arith, end_inside 10 text place.at (omega arith)))
-
-  pub read_small : (r : Read) → read_of r ≡ read_answer mode text place → number_in_read r < 2 ^ 63
-  read_small r e = reply_small r (rw e answer_small)
+          line_fits (up_to 10 (drop place.at text)) (omega (arith, end_inside 10 text place.at (omega arith)))

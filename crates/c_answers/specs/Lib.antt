@@ -1,16 +1,10 @@
 pub mod Reply
+pub mod Lengths
 pub mod Codec
-pub mod CodecCounts
 pub mod Tracing
-pub mod TraceCounts
 pub mod Listing
 pub mod CodeLine
 pub mod Parsing
-pub mod InputCounts
-pub mod ViewCounts
-pub mod BackCounts
 pub mod Places
-pub mod MapCounts
 pub mod Modes
 pub mod Logs
-pub mod LogCounts

@@ -1,7 +1,7 @@
 -- What an exported call hands over. Document 01, 'Numbers given when a call says no': 0 or the number of the refusal, and what stands
 -- beside it there, in a room of five values.
 -- Assumes nothing.
-use Rattle.std.specs.Prelude.{ℕ, List, [], ◌∷◌, ℤ, pos, get_or}
+use Rattle.std.specs.Prelude.{Result, Ok, Err, ℕ, List, [], ◌∷◌, ℤ, pos, get_or}
 use Rattle.instruction.specs.Answer.{Answer, accepted, refused}
 use Rattle.c_answers.specs.declared.reply.Reply.{Reply}
 
@@ -29,3 +29,12 @@ reply_of own a = record { number = refusal_number a; values = values_of own a }
 -- the values of a call that is accepted with a number alone
 abbrev pub count_values : ℕ → List ℤ
 count_values n = pos n ∷ []
+
+-- a refusal that stands for no accepted call
+abbrev pub no_values : Unit {0} → List ℤ
+no_values u = []
+
+-- what a result of either is told by, where its value and its error are
+abbrev pub of_result : {T E B : Type 0} → (T → B) → (E → B) → Result T E → B
+of_result f g (Ok x) = f x
+of_result f g (Err e) = g e

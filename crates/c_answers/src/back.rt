@@ -5,8 +5,9 @@ ghost use Rattle.read_back.specs.Read.{read_answer};
 ghost use Rattle.c_answers.specs.Reply.{reply_of, count_values};
 ghost use Rattle.c_answers.specs.Places.{place_in, line_values, words_after};
 
+use crate::into_reply::IntoReply;
+use crate::place_words;
 use crate::reply::Reply;
-use crate::{back_replies, place_words};
 use instruction::Mode;
 
 // Accepted: the number of lines read.
@@ -15,7 +16,7 @@ pub fn read_back(mode: Mode, text: &[u8], length: u32, image: &mut [u8], marks: 
     ensures image_after { image.new ≡ back_image mode text.now length image.old marks.old }
     ensures marks_after { marks.new ≡ back_marks mode text.now length image.old marks.old }
 {
-    back_replies::restored(read_back::read_back(mode, text, length as usize, image, marks))
+    read_back::read_back(mode, text, length as usize, image, marks).into_reply()
 }
 
 // Accepted: the letter, the position, and how many positions or bytes follow; the words are the next place. All are 0 at the end.
@@ -24,6 +25,8 @@ pub fn read_line(mode: Mode, text: &[u8], words: &mut [u64; 4]) -> Reply
     ensures words_after { words.new ≡ words_after (read_answer mode text.now (place_in words.old)) words.old }
 {
     let read = read_back::read_line(mode, text, place_words::place_of(words));
-    place_words::put_next(read, words);
-    back_replies::read(read)
+    if let Ok(Some((_, next))) = read {
+        *words = place_words::words_of(next);
+    }
+    read.into_reply()
 }

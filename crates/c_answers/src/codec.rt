@@ -7,7 +7,7 @@ ghost use Rattle.targets.specs.Targets.{targets_answer};
 ghost use Rattle.c_answers.specs.Reply.{reply_of, count_values};
 ghost use Rattle.c_answers.specs.Codec.{instr_values, named, targets_values};
 
-use crate::codec_replies;
+use crate::into_reply::IntoReply;
 use crate::reply::Reply;
 use instruction::{Instr, Mode, Parts};
 
@@ -15,7 +15,7 @@ use instruction::{Instr, Mode, Parts};
 pub fn decode(bytes: &[u8]) -> Reply
     ensures { result ≡ reply_of instr_values (decode_answer bytes.now) }
 {
-    codec_replies::decoded(Parts::decode(bytes))
+    Parts::decode(bytes).into_reply()
 }
 
 // Accepted: the number of bytes written.
@@ -23,19 +23,22 @@ pub fn encode(first: u8, a: i32, b: i32, c: i32, out: &mut [u8]) -> Reply
     ensures value { result ≡ reply_of count_values (encode_answer (named first a b c) out.old) }
     ensures out_after { out.new ≡ encode_room (named first a b c) out.old }
 {
-    codec_replies::encoded(Instr::with_first(first, a, b, c).encode(out))
+    Instr::with_first(first, a, b, c).encode(out).into_reply()
 }
 
 // Accepted: form, size, three fields.
 pub fn resolve(mode: Mode, first: u8, a: i32, b: i32, c: i32, base: u32) -> Reply
     ensures { result ≡ reply_of instr_values (resolve_answer mode (named first a b c) base) }
 {
-    codec_replies::resolved(Instr::with_first(first, a, b, c).resolve(mode, base))
+    Instr::with_first(first, a, b, c)
+        .resolve(mode, base)
+        .into_reply()
 }
 
 // Accepted: how many targets, then the targets.
 pub fn targets(mode: Mode, position: u32, first: u8, a: i32, b: i32, c: i32) -> Reply
     ensures { result ≡ reply_of targets_values (targets_answer mode position (named first a b c)) }
 {
-    codec_replies::targeted(targets::targets(mode, position, Instr::with_first(first, a, b, c)))
+    let instr = Instr::with_first(first, a, b, c);
+    targets::targets(mode, position, instr).into_reply()
 }

@@ -10,18 +10,18 @@ ghost use Rattle.c_answers.specs.Reply.{reply_of, count_values};
 ghost use Rattle.c_answers.specs.Listing.{choice_of};
 ghost use Rattle.c_answers.specs.Parsing.{input_values};
 
+use crate::into_reply::IntoReply;
 use crate::reply::Reply;
-use crate::{input_replies, view_replies};
 use instruction::Mode;
 use listing::Arrivals;
 
 fn choice(arrivals: u32) -> Arrivals
     ensures { result ≡ choice_of arrivals }
 {
-    if arrivals == 0 {
-        return Arrivals::Declined;
+    match arrivals {
+        0 => Arrivals::Declined,
+        _ => Arrivals::Chosen,
     }
-    Arrivals::Chosen
 }
 
 // Accepted: the number of bytes written.
@@ -29,7 +29,7 @@ pub fn listing(mode: Mode, image: &[u8], marks: &[u8], arrivals: u32, room: &mut
     ensures value { result ≡ reply_of count_values (listing_answer mode image.now marks.now (choice_of arrivals) room.old) }
     ensures room_after { room.new ≡ listing_room mode image.now marks.now (choice_of arrivals) room.old }
 {
-    view_replies::viewed(listing::listing_with(mode, image, marks, choice(arrivals), room))
+    listing::listing_with(mode, image, marks, choice(arrivals), room).into_reply()
 }
 
 // Accepted: the number of bytes written, those of a refusal's line among them.
@@ -37,7 +37,7 @@ pub fn list_text(text: &[u8], room: &mut [u8]) -> Reply
     ensures value { result ≡ reply_of count_values (room_answer [] (output_of text.now) room.old) }
     ensures room_after { room.new ≡ room_after [] (output_of text.now) room.old }
 {
-    view_replies::viewed(list_text::list_text(text, room))
+    list_text::list_text(text, room).into_reply()
 }
 
 // Accepted: the number of bytes written, those of `R` lines among them.
@@ -45,7 +45,7 @@ pub fn report_text(text: &[u8], room: &mut [u8]) -> Reply
     ensures value { result ≡ reply_of count_values (report_answer text.now room.old) }
     ensures room_after { room.new ≡ report_room text.now room.old }
 {
-    view_replies::viewed(report_text::report_text(text, room))
+    report_text::report_text(text, room).into_reply()
 }
 
 // Accepted: the number of bytes written, those of a refusal's line among them.
@@ -53,7 +53,7 @@ pub fn unlist_text(text: &[u8], length: u32, room: &mut [u8]) -> Reply
     ensures value { result ≡ reply_of count_values (room_answer [] (unlisted_of text.now length) room.old) }
     ensures room_after { room.new ≡ room_after [] (unlisted_of text.now length) room.old }
 {
-    view_replies::viewed(unlist_text::unlist_text(text, length as usize, room))
+    unlist_text::unlist_text(text, length as usize, room).into_reply()
 }
 
 // Accepted: how many entries, and how many bytes.
@@ -62,5 +62,5 @@ pub fn parse(text: &[u8], entries: &mut [u32], image: &mut [u8]) -> Reply
     ensures entries_after { entries.new ≡ parse_entries text.now entries.old image.old }
     ensures image_after { image.new ≡ parse_image text.now entries.old image.old }
 {
-    input_replies::parsed(list_text::parse(text, entries, image))
+    list_text::parse(text, entries, image).into_reply()
 }

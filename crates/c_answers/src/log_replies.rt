@@ -1,26 +1,38 @@
-// The answer of a replay as a reply. A number that does not fit a value cannot come from a replay, but the enum alone does not say so.
-ghost use Rattle.std.specs.Prelude.{◌≡◌};
-ghost use Rattle.replay.specs.Answers.{replayed_of};
-ghost use Rattle.c_answers.specs.Reply.{reply_of};
+// The answers of a replay as replies.
+ghost use Rattle.replay.specs.Answers.{replay_refused};
+ghost use Rattle.c_answers.specs.Lengths.{totals_lengths, replay_lengths};
 ghost use Rattle.c_answers.specs.Logs.{replay_values};
-ghost use Rattle.c_answers.specs.LogCounts.{FitsReply};
+ghost use Rattle.c_answers.specs.Reply.{reply, reply_of, no_values};
 
+use crate::into_reply::IntoReply;
 use crate::reply::Reply;
-use replay::Replayed;
+use replay::{ReplayError, Totals};
 
-pub fn replayed(r: Replayed) -> Reply
-    requires { FitsReply r }
-    ensures { result ≡ reply_of replay_values (replayed_of r) }
-{
-    match r {
-        Replayed::Told(t) => Reply::three(0, t.lines as i64, t.interrupts as i64, t.free as i64),
-        Replayed::LongImage(n) => Reply::one(1, n as i64),
-        Replayed::ShortMarks(n) => Reply::one(2, n as i64),
-        Replayed::Damaged(p) => Reply::one(6, p as i64),
-        Replayed::NoRoom(n) => Reply::one(11, n as i64),
-        Replayed::Malformed(n) => Reply::one(18, n as i64),
-        Replayed::Untraced(n) => Reply::one(19, n as i64),
-        Replayed::Forbidden(n) => Reply::one(20, n as i64),
-        Replayed::Full(n) => Reply::one(21, n as i64),
+impl IntoReply for Totals {
+    ghost told = { λ t. reply 0 (replay_values t) };
+
+    ghost lengths = { totals_lengths };
+
+    fn into_reply(self) -> Reply {
+        Reply::new(
+            0,
+            &[self.lines as i64, self.interrupts as i64, self.free as i64],
+        )
+    }
+}
+
+impl IntoReply for ReplayError {
+    ghost told = { λ e. reply_of no_values (replay_refused e) };
+
+    ghost lengths = { replay_lengths };
+
+    fn into_reply(self) -> Reply {
+        match self {
+            ReplayError::View(e) => e.into_reply(),
+            ReplayError::Malformed(n) => Reply::new(18, &[n as i64]),
+            ReplayError::Untraced(n) => Reply::new(19, &[n as i64]),
+            ReplayError::Forbidden(n) => Reply::new(20, &[n as i64]),
+            ReplayError::Full(n) => Reply::new(21, &[n as i64]),
+        }
     }
 }

@@ -7,21 +7,22 @@ use replay::Log;
 pub fn log_of(words: &[u64; 7]) -> Log
     ensures { result ≡ log_of words.now }
 {
+    let [lines, interrupts, free, last, refusal, held, part] = *words;
     Log {
-        lines: words[0],
-        interrupts: words[1],
-        free: words[2],
-        last: words[3],
-        refusal: words[4],
-        held: words[5],
-        part: words[6],
+        lines,
+        interrupts,
+        free,
+        last,
+        refusal,
+        held,
+        part,
     }
 }
 
-pub fn put_log(log: Log, words: &mut [u64; 7])
-    ensures { words.new ≡ words_of log }
+pub fn words_of(log: Log) -> [u64; 7]
+    ensures { result ≡ words_of log }
 {
-    *words = [
+    [
         log.lines,
         log.interrupts,
         log.free,
@@ -29,5 +30,5 @@ pub fn put_log(log: Log, words: &mut [u64; 7])
         log.refusal,
         log.held,
         log.part,
-    ];
+    ]
 }

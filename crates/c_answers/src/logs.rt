@@ -7,8 +7,9 @@ ghost use Rattle.replay.specs.Block.{block_answer, block_log, block_counts};
 ghost use Rattle.c_answers.specs.Reply.{reply_of};
 ghost use Rattle.c_answers.specs.Logs.{replay_values, log_of, words_of};
 
+use crate::into_reply::IntoReply;
+use crate::log_words;
 use crate::reply::Reply;
-use crate::{log_replies, log_words};
 use instruction::Mode;
 use replay::Log;
 
@@ -27,14 +28,14 @@ pub fn replay(
     ensures counts_after { counts.new
         ≡ replay_counts mode text.now image.now marks.now entries.now counts.old }
 {
-    log_replies::replayed(replay::replay(mode, text, image, marks, entries, counts))
+    replay::replay(mode, text, image, marks, entries, counts).into_reply()
 }
 
 // Makes the words a record before the first block.
 pub fn replay_open(words: &mut [u64; 7])
     ensures { words.new ≡ words_of begun }
 {
-    log_words::put_log(Log::new(), words);
+    *words = log_words::words_of(Log::new());
 }
 
 // Accepted: the lines, the interrupts and the free moves of all blocks up to this one.
@@ -59,14 +60,13 @@ pub fn replay_block(
 {
     let log = log_words::log_of(words);
     let fed = replay::take_block(log, mode, text, image, marks, entries, counts);
-    log_words::put_log(fed.log, words);
-    let answer = fed.answer;
-    log_replies::replayed(answer)
+    *words = log_words::words_of(fed.log);
+    fed.answer.into_reply()
 }
 
 // Accepted: the lines, the interrupts and the free moves of the log.
 pub fn replay_close(words: &[u64; 7]) -> Reply
     ensures { result ≡ reply_of replay_values (closed_of (log_of words.now)) }
 {
-    log_replies::replayed(log_words::log_of(words).close())
+    log_words::log_of(words).close().into_reply()
 }

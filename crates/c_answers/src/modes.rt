@@ -8,8 +8,8 @@ use instruction::Mode;
 pub fn mode(number: u32) -> Mode
     ensures { result ≡ mode_of number }
 {
-    if number == 0 {
-        return Mode::Unwrapped;
+    match number {
+        0 => Mode::Unwrapped,
+        _ => Mode::Wrapping,
     }
-    Mode::Wrapping
 }

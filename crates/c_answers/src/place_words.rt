@@ -1,36 +1,30 @@
-// A place in a listing, as the words that its caller keeps.
+// A place in a listing, as the words that its caller keeps. No code is generic over a place and the record of a replay: they differ in how many
+// words they have and in what fits a field.
 ghost use Rattle.std.specs.Prelude.{◌≡◌};
-ghost use Rattle.read_back.specs.Read.{read_of};
-ghost use Rattle.c_answers.specs.Places.{place_in, words_after};
+ghost use Rattle.c_answers.specs.Places.{place_in, place_words};
 
-use read_back::{Place, Read};
+use read_back::Place;
 
 // Any words are a place: of a number that is too large for its kind, the lower bits count.
 pub fn place_of(words: &[u64; 4]) -> Place
     ensures { result ≡ place_in words.now }
 {
+    let [at, line, last, letter] = *words;
     Place {
-        at: words[0] as usize,
-        line: (words[1] % 0x8000_0000_0000_0000) as usize,
-        last: (words[2] % 0x1_0000_0000) as u32,
-        letter: (words[3] % 0x100) as u8,
+        at: at as usize,
+        line: (line % 0x8000_0000_0000_0000) as usize,
+        last: (last % 0x1_0000_0000) as u32,
+        letter: (letter % 0x100) as u8,
     }
 }
 
-// The next place, where a line was read.
-pub fn put_next(read: Read, words: &mut [u64; 4])
-    ensures { words.new ≡ words_after (read_of read) words.old }
+pub fn words_of(place: Place) -> [u64; 4]
+    ensures { result ≡ place_words place }
 {
-    match read {
-        Read::Line(_, next) => {
-            *words = [
-                next.at as u64,
-                next.line as u64,
-                next.last as u64,
-                next.letter as u64,
-            ];
-        }
-        Read::End => {}
-        Read::Malformed(_) => {}
-    }
+    [
+        place.at as u64,
+        place.line as u64,
+        place.last as u64,
+        place.letter as u64,
+    ]
 }

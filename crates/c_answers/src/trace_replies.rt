@@ -1,64 +1,90 @@
-// The answers of the tracer as replies: one function for each enum. A length that does not fit a value cannot come from the tracer, but the
-// enums alone do not say so.
-ghost use Rattle.std.specs.Prelude.{◌≡◌, ◌<◌, ◌^◌};
-ghost use Rattle.trace.specs.Start.{started_of};
+// The answers of the tracer as replies.
+ghost use Rattle.std.specs.Prelude.{Ok, Err};
+ghost use Rattle.marks.specs.Refusals.{size_refused};
 ghost use Rattle.trace.specs.Step.{stepped_of};
 ghost use Rattle.trace.specs.Run.{ran_of};
 ghost use Rattle.sweep.specs.Sweep.{swept_of};
-ghost use Rattle.c_answers.specs.Reply.{reply_of, count_values};
+ghost use Rattle.c_answers.specs.Lengths.{none, size_lengths, step_lengths, run_lengths};
+ghost use Rattle.c_answers.specs.Reply.{reply_of, no_values};
 ghost use Rattle.c_answers.specs.Tracing.{step_values, run_values, sweep_values};
-ghost use Rattle.c_answers.specs.TraceCounts.{length_in_started, length_in_stepped, length_in_swept, length_in_ran};
 
+use crate::into_reply::IntoReply;
 use crate::reply::Reply;
-use sweep::Swept;
-use trace::{Ran, Started, Stepped};
+use marks::SizeError;
+use sweep::Tally;
+use trace::{Advance, Ran, RunError, StepError};
 
-pub fn started(s: Started) -> Reply
-    requires { length_in_started s < 2 ^ 63 }
-    ensures { result ≡ reply_of count_values (started_of s) }
-{
-    match s {
-        Started::Set(n) => Reply::one(0, n as i64),
-        Started::LongImage(n) => Reply::one(1, n as i64),
-        Started::ShortMarks(n) => Reply::one(2, n as i64),
+impl IntoReply for Advance {
+    ghost told = { λ a. reply_of step_values (stepped_of (Ok a)) };
+
+    ghost lengths = { none };
+
+    fn into_reply(self) -> Reply {
+        Reply::new(0, &[self.mark as i64, self.waiting as i64])
     }
 }
 
-pub fn stepped(s: Stepped) -> Reply
-    requires { length_in_stepped s < 2 ^ 63 }
-    ensures { result ≡ reply_of step_values (stepped_of s) }
-{
-    match s {
-        Stepped::Traced(a) => Reply::two(0, a.mark as i64, a.waiting as i64),
-        Stepped::LongImage(n) => Reply::one(1, n as i64),
-        Stepped::ShortMarks(n) => Reply::one(2, n as i64),
-        Stepped::NotWaiting(v) => Reply::one(4, v as i64),
-        Stepped::Cut(c) => Reply::cut(c),
-        Stepped::Damaged(q) => Reply::one(6, q as i64),
+impl IntoReply for Ran {
+    ghost told = { λ r. reply_of run_values (ran_of (Ok r)) };
+
+    ghost lengths = { none };
+
+    fn into_reply(self) -> Reply {
+        match self {
+            Ran::Finished(c) => Reply::new(0, &[1, c.steps as i64, c.noted as i64]),
+            Ran::Stopped(c) => Reply::new(0, &[0, c.steps as i64, c.noted as i64]),
+        }
     }
 }
 
-pub fn swept(s: Swept) -> Reply
-    requires { length_in_swept s < 2 ^ 63 }
-    ensures { result ≡ reply_of sweep_values (swept_of s) }
-{
-    match s {
-        Swept::Ended(t) => Reply::two(0, t.sweeps as i64, t.steps as i64),
-        Swept::LongImage(n) => Reply::one(1, n as i64),
-        Swept::ShortMarks(n) => Reply::one(2, n as i64),
+impl IntoReply for Tally {
+    ghost told = { λ t. reply_of sweep_values (swept_of (Ok t)) };
+
+    ghost lengths = { none };
+
+    fn into_reply(self) -> Reply {
+        Reply::new(0, &[self.sweeps as i64, self.steps as i64])
     }
 }
 
-pub fn ran(d: Ran) -> Reply
-    requires { length_in_ran d < 2 ^ 63 }
-    ensures { result ≡ reply_of run_values (ran_of d) }
-{
-    match d {
-        Ran::Finished(c) => Reply::three(0, 1, c.steps as i64, c.noted as i64),
-        Ran::Stopped(c) => Reply::three(0, 0, c.steps as i64, c.noted as i64),
-        Ran::LongImage(n) => Reply::one(1, n as i64),
-        Ran::ShortMarks(n) => Reply::one(2, n as i64),
-        Ran::ShortOrder(n) => Reply::one(3, n as i64),
-        Ran::Cut(c) => Reply::cut(c),
+impl IntoReply for SizeError {
+    ghost told = { λ e. reply_of no_values (size_refused e) };
+
+    ghost lengths = { size_lengths };
+
+    fn into_reply(self) -> Reply {
+        match self {
+            SizeError::LongImage(n) => Reply::new(1, &[n as i64]),
+            SizeError::ShortMarks(n) => Reply::new(2, &[n as i64]),
+        }
+    }
+}
+
+impl IntoReply for StepError {
+    ghost told = { λ e. reply_of step_values (stepped_of (Err e)) };
+
+    ghost lengths = { step_lengths };
+
+    fn into_reply(self) -> Reply {
+        match self {
+            StepError::Size(e) => e.into_reply(),
+            StepError::NotWaiting(v) => Reply::new(4, &[v as i64]),
+            StepError::Cut(c) => c.into_reply(),
+            StepError::Damaged(q) => Reply::new(6, &[q as i64]),
+        }
+    }
+}
+
+impl IntoReply for RunError {
+    ghost told = { λ e. reply_of run_values (ran_of (Err e)) };
+
+    ghost lengths = { run_lengths };
+
+    fn into_reply(self) -> Reply {
+        match self {
+            RunError::Size(e) => e.into_reply(),
+            RunError::ShortOrder(n) => Reply::new(3, &[n as i64]),
+            RunError::Cut(c) => c.into_reply(),
+        }
     }
 }

@@ -7,8 +7,8 @@ ghost use Rattle.sweep.specs.Sweep.{sweep_answer, sweep_leaves};
 ghost use Rattle.c_answers.specs.Reply.{reply_of, count_values};
 ghost use Rattle.c_answers.specs.Tracing.{step_values, run_values, sweep_values};
 
+use crate::into_reply::IntoReply;
 use crate::reply::Reply;
-use crate::trace_replies;
 use instruction::Mode;
 
 // Accepted: the number of positions set.
@@ -16,7 +16,7 @@ pub fn start(image: &[u8], marks: &mut [u8], entries: &[u32], pins: &[u32]) -> R
     ensures value { result ≡ reply_of count_values (start_answer image.now marks.old entries.now pins.now) }
     ensures marks_after { marks.new ≡ start_marks image.now marks.old entries.now pins.now }
 {
-    trace_replies::started(trace::start::start(image, marks, entries, pins))
+    trace::start::start(image, marks, entries, pins).into_reply()
 }
 
 // Accepted: the new mark, and how many positions became waiting.
@@ -24,7 +24,7 @@ pub fn step(mode: Mode, image: &[u8], marks: &mut [u8], p: u32) -> Reply
     ensures value { result ≡ reply_of step_values (step_answer mode image.now marks.old p) }
     ensures marks_after { marks.new ≡ step_marks mode image.now marks.old p }
 {
-    trace_replies::stepped(trace::step::step(mode, image, marks, p))
+    trace::step::step(mode, image, marks, p).into_reply()
 }
 
 // Accepted: 1 where it finished or 0 where the limit stopped it, the steps, and the positions noted.
@@ -42,7 +42,7 @@ pub fn run(
     ensures marks_after { marks.new ≡ run_marks mode image.now marks.old order.old entries.now pins.now limit }
     ensures order_after { order.new ≡ run_order mode image.now marks.old order.old entries.now pins.now limit }
 {
-    trace_replies::ran(trace::run::run(mode, image, marks, order, entries, pins, limit))
+    trace::run::run(mode, image, marks, order, entries, pins, limit).into_reply()
 }
 
 // Accepted: the sweeps, the last one counted, and the steps.
@@ -50,5 +50,5 @@ pub fn sweep(mode: Mode, image: &[u8], marks: &mut [u8], entries: &[u32], pins: 
     ensures value { result ≡ reply_of sweep_values (sweep_answer mode image.now marks.old entries.now pins.now) }
     ensures marks_after { marks.new ≡ sweep_leaves mode image.now marks.old entries.now pins.now }
 {
-    trace_replies::swept(sweep::sweep::sweep(mode, image, marks, entries, pins))
+    sweep::sweep::sweep(mode, image, marks, entries, pins).into_reply()
 }

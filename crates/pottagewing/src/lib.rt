@@ -1,6 +1,6 @@
 // The C face: each call answers 0 or the number of a refusal, and puts the values into a room of five that the caller lends.
 // include/pottagewing.h declares the calls for C, which pottagewing_c exports under these names; what each hands over is worked out in
-// c_answers.
+// c_answers. Numbers and lent buffers are all that C passes, so no enum and no Result stands in their signatures.
 #![tactic(auto)]
 
 pub mod codec;
