@@ -1,10 +1,11 @@
 // Numbers of a list, in digits.
-ghost use Rattle.std.specs.Prelude.{◌≡◌};
+ghost use Rattle.std.specs.Prelude.{◌≡◌, ◌<◌, IfSome};
 ghost use Rattle.runner.specs.Digits.{hex_digit_of, decimal_digit_of};
 
 // What an upper-case hex digit stands for.
 pub fn hex_digit(b: u8) -> Option<u8>
-    ensures { result ≡ hex_digit_of b }
+    ensures value { result ≡ hex_digit_of b }
+    ensures below { IfSome result (λ d. d < 16) }
 {
     match b {
         b'0'..=b'9' => Some(b - b'0'),

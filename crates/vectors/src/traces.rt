@@ -1,167 +1,127 @@
 // A whole trace of a short image from two entries, by a run or by sweeps. A line packs it into its numbers: ten bytes of image, five to a
 // number, and afterwards the order list and the marks, a hex digit for each position.
-use crate::{calls, narrow};
+use crate::calls;
+use crate::narrow::{hex_digits, narrow};
 
 // What stands in the lent memory before the run.
 pub const OLD_MARK: u8 = 9;
 
 pub const OLD_PLACE: u32 = 15;
 
-pub const NO_LIMIT: u32 = 0xFFFF_FFFF;
+const NO_LIMIT: u32 = 0xFFFF_FFFF;
+
+// Past every image: a pin there is skipped.
+pub const PAST: u32 = 65_536;
+
+// No line has this number.
+const OTHER: u32 = 255;
+
+// By which calls an image is traced: a run, sweeps, or a start and a step at the first entry.
+#[derive(Clone, Copy)]
+pub enum Way {
+    Run,
+    Sweep,
+    Step,
+}
+
+// What a trace is asked for.
+#[derive(Clone, Copy)]
+pub struct Trace {
+    pub way: Way,
+    pub mode: u32,
+    pub entries: [u32; 2],
+    pub pins: [u32; 2],
+}
+
+impl Trace {
+    // The number that the call answers.
+    pub fn ask(
+        &self,
+        image: &[u8],
+        marks: &mut [u8],
+        order: &mut [u32],
+        answer: &mut [i64; 5],
+    ) -> u32 {
+        let mode = self.mode;
+        let entries = &self.entries;
+        let pins = &self.pins;
+        match self.way {
+            Way::Run => {
+                pottagewing::pw_run(mode, image, marks, order, entries, pins, NO_LIMIT, answer)
+            }
+            Way::Sweep => pottagewing::pw_sweep(mode, image, marks, entries, pins, answer),
+            Way::Step => {
+                pottagewing::pw_start(image, marks, entries, pins, answer);
+                pottagewing::pw_step(mode, image, marks, entries[0], answer)
+            }
+        }
+    }
+}
+
+// The five lowest bytes of a number.
+fn five(z: i64) -> [u8; 5] {
+    let n: u64 = narrow(z);
+    let [_, _, _, a, b, c, d, e] = n.to_be_bytes();
+    [a, b, c, d, e]
+}
 
 // The bytes of two numbers, five of each.
 pub fn image(first: i64, second: i64) -> [u8; 10] {
-    let mut bytes = [0u8; 10];
-    let mut n = narrow::natural(first);
-    let mut m = narrow::natural(second);
-    let mut i: usize = 5;
-    while 0 < i {
-        i -= 1;
-        bytes[i] = (n % 256) as u8;
-        bytes[i + 5] = (m % 256) as u8;
-        n = n / 256;
-        m = m / 256;
-    }
+    let mut bytes = [0; 10];
+    bytes[..5].copy_from_slice(&five(first));
+    bytes[5..].copy_from_slice(&five(second));
     bytes
-}
-
-// The order list and the marks are the digits of these numbers, the last position's the lowest.
-fn are(order: &[u32; 10], marks: &[u8; 10], places: i64, values: i64) -> bool {
-    let mut p = narrow::natural(places);
-    let mut v = narrow::natural(values);
-    let mut i: usize = 10;
-    while 0 < i {
-        i -= 1;
-        if order[i] != (p % 16) as u32 {
-            return false;
-        }
-        if marks[i] != (v % 16) as u8 {
-            return false;
-        }
-        p = p / 16;
-        v = v / 16;
-    }
-    true
-}
-
-// Past every image: a pin there is skipped.
-pub const PAST: u32 = 65536;
-
-// No line has this number.
-pub const OTHER: u32 = 255;
-
-// The number that a run answers, or OTHER where it leaves something else than these digits.
-fn ran(
-    mode: u32,
-    image: &[u8],
-    entries: &[u32; 2],
-    pins: &[u32; 2],
-    places: i64,
-    values: i64,
-    answer: &mut [i64; 5],
-) -> u32 {
-    let mut marks = [OLD_MARK; 10];
-    let mut order = [OLD_PLACE; 10];
-    let number = pottagewing::pw_run(
-        mode, image, &mut marks, &mut order, entries, pins, NO_LIMIT, answer,
-    );
-    if are(&order, &marks, places, values) {
-        number
-    } else {
-        OTHER
-    }
-}
-
-// The same of sweeps, which have no order list.
-fn swept(
-    mode: u32,
-    image: &[u8],
-    entries: &[u32; 2],
-    pins: &[u32; 2],
-    places: i64,
-    values: i64,
-    answer: &mut [i64; 5],
-) -> u32 {
-    let mut marks = [OLD_MARK; 10];
-    let order = [OLD_PLACE; 10];
-    let number = pottagewing::pw_sweep(mode, image, &mut marks, entries, pins, answer);
-    if are(&order, &marks, places, values) {
-        number
-    } else {
-        OTHER
-    }
 }
 
 // A number below 0 packs nothing.
 pub fn told(numbers: &[i64; 11], n: u8, a: u32, b: u32, number: u32, answer: &[i64; 5]) -> bool {
-    if numbers[1] < 0 {
-        return false;
-    }
-    if numbers[2] < 0 {
+    if numbers[1] < 0 || numbers[2] < 0 {
         return false;
     }
     let given = [
-        narrow::of_byte(n),
+        i64::from(n),
         numbers[1],
         numbers[2],
-        narrow::of_word(a),
-        narrow::of_word(b),
+        i64::from(a),
+        i64::from(b),
     ];
     let values = [answer[0], answer[1], answer[2], numbers[9], numbers[10]];
-    calls::same(numbers, &given, number, &values)
+    calls::same(numbers, given, number, values)
 }
 
-// Whether a run, or sweeps, answer and leave what the line says. It gives two entries, or an entry and a pin, which are each told twice.
-fn holds(sweeping: bool, pinned: bool, mode: u32, numbers: &[i64; 11]) -> bool {
-    let n = narrow::byte(numbers[0]);
-    let a = narrow::word(numbers[3]);
-    let b = narrow::word(numbers[4]);
+// Whether a run, or sweeps, answer and leave what the line says: the order list, which sweeps do not have, and the marks. It gives two
+// entries, or an entry and a pin, which are each told twice.
+pub fn holds(way: Way, pinned: bool, mode: u32, numbers: &[i64; 11]) -> bool {
+    let n: u8 = narrow(numbers[0]);
+    let a: u32 = narrow(numbers[3]);
+    let b: u32 = narrow(numbers[4]);
     let bytes = image(numbers[1], numbers[2]);
-    let end = n as usize;
-    if bytes.len() < end {
+    let Some(image) = bytes.get(..usize::from(n)) else {
         return false;
-    }
-    let mut answer = [0i64; 5];
-    let second = if pinned { a } else { b };
-    let pin = if pinned { b } else { PAST };
-    let entries = [a, second];
-    let pins = [pin, pin];
-    let number = if sweeping {
-        swept(
-            mode,
-            &bytes[0..end],
-            &entries,
-            &pins,
-            numbers[9],
-            numbers[10],
-            &mut answer,
-        )
-    } else {
-        ran(
-            mode,
-            &bytes[0..end],
-            &entries,
-            &pins,
-            numbers[9],
-            numbers[10],
-            &mut answer,
-        )
     };
-    told(numbers, n, a, b, number, &answer)
-}
-
-pub fn run(mode: u32, numbers: &[i64; 11]) -> bool {
-    holds(false, false, mode, numbers)
-}
-
-pub fn sweep(mode: u32, numbers: &[i64; 11]) -> bool {
-    holds(true, false, mode, numbers)
-}
-
-pub fn pinned_run(mode: u32, numbers: &[i64; 11]) -> bool {
-    holds(false, true, mode, numbers)
-}
-
-pub fn pinned_sweep(mode: u32, numbers: &[i64; 11]) -> bool {
-    holds(true, true, mode, numbers)
+    let (entries, pins) = if pinned {
+        ([a, a], [b, b])
+    } else {
+        ([a, b], [PAST, PAST])
+    };
+    let trace = Trace {
+        way,
+        mode,
+        entries,
+        pins,
+    };
+    let mut marks = [OLD_MARK; 10];
+    let mut order = [OLD_PLACE; 10];
+    let mut answer = [0; 5];
+    let number = trace.ask(image, &mut marks, &mut order, &mut answer);
+    let is_left = order == hex_digits(numbers[9]).map(u32::from)
+        && marks == hex_digits(numbers[10]);
+    told(
+        numbers,
+        n,
+        a,
+        b,
+        if is_left { number } else { OTHER },
+        &answer,
+    )
 }
