@@ -1,5 +1,5 @@
 // One position taken up.
-ghost use Rattle.std.specs.Prelude.{◌≡◌, [], ◌∷◌, length};
+ghost use Rattle.std.specs.Prelude.{◌≡◌, [], ◌∷◌};
 ghost use Rattle.reach.specs.Note.{note, fresh};
 ghost use Rattle.targets.specs.Ways.{places_in};
 ghost use Rattle.marks.specs.Taken.{going_to, TakenUp};
@@ -16,25 +16,22 @@ pub struct Taken {
 }
 
 // Notes one position: it, where it became waiting.
-pub fn note_place(image: &[u8], marks: &mut [u8], t: u32) -> Places
-    ensures result_value { places_in result ≡ fresh (length image.now) (t ∷ []) marks.old }
-    ensures marks_after { marks.new ≡ note (length image.now) (t ∷ []) marks.old }
+pub fn note_place(marks: &mut [u8], n: usize, t: u32) -> Places
+    ensures result_value { places_in result ≡ fresh n (t ∷ []) marks.old }
+    ensures marks_after { marks.new ≡ note n (t ∷ []) marks.old }
 {
-    if note::note_one(image, marks, t) {
+    if note::note_one(marks, n, t) {
         return Places::First(t);
     }
     Places::Nothing
 }
 
 // Two positions, the first before the second.
-fn note_both(image: &[u8], marks: &mut [u8], s: u32, t: u32) -> Places
-    ensures result_value { places_in result ≡ fresh (length image.now) (s ∷ t ∷ []) marks.old }
-    ensures marks_after { marks.new ≡ note (length image.now) (s ∷ t ∷ []) marks.old }
+fn note_both(marks: &mut [u8], n: usize, s: u32, t: u32) -> Places
+    ensures result_value { places_in result ≡ fresh n (s ∷ t ∷ []) marks.old }
+    ensures marks_after { marks.new ≡ note n (s ∷ t ∷ []) marks.old }
 {
-    match (
-        note::note_one(image, marks, s),
-        note::note_one(image, marks, t),
-    ) {
+    match (note::note_one(marks, n, s), note::note_one(marks, n, t)) {
         (true, true) => Places::Both(s, t),
         (true, false) => Places::First(s),
         (false, true) => Places::First(t),
@@ -43,14 +40,14 @@ fn note_both(image: &[u8], marks: &mut [u8], s: u32, t: u32) -> Places
 }
 
 // These positions noted, in their order.
-fn note_all(image: &[u8], marks: &mut [u8], ps: Places) -> Places
-    ensures result_value { places_in result ≡ fresh (length image.now) (places_in ps) marks.old }
-    ensures marks_after { marks.new ≡ note (length image.now) (places_in ps) marks.old }
+fn note_all(marks: &mut [u8], n: usize, ps: Places) -> Places
+    ensures result_value { places_in result ≡ fresh n (places_in ps) marks.old }
+    ensures marks_after { marks.new ≡ note n (places_in ps) marks.old }
 {
     match ps {
         Places::Nothing => Places::Nothing,
-        Places::First(s) => note_place(image, marks, s),
-        Places::Both(s, t) => note_both(image, marks, s, t),
+        Places::First(s) => note_place(marks, n, s),
+        Places::Both(s, t) => note_both(marks, n, s, t),
     }
 }
 
@@ -66,7 +63,7 @@ pub fn take_up(image: &[u8], marks: &mut [u8], p: u32, to: Places) -> Taken
         };
     }
     Mark::put(marks, p, Mark::TRACED);
-    let noted = note_all(image, marks, to);
+    let noted = note_all(marks, image.len(), to);
     Taken {
         mark: Mark::TRACED,
         noted,

@@ -50,6 +50,12 @@ module _ (w v : Way) (at : ℕ) (c : Counted w v) where
       let K = subst (λ (x : Way). (r.taken ≡ x.taken) × Joined at ts x r) c N in
       (K.0, record { bounds = K.1.bounds; new = K.1.new; old = K.1.old })
 
+  pub after_none : After w at [] v
+  after_none = rw c (refl, record { bounds = λ n k all B. B; new = λ q i. absurd (Memᴰ.not-nil i); old = λ q C. C })
+
+  pub after_one : (s : ℕ) (r : Way) → One v at s r → After w at (s ∷ []) r
+  after_one s r N = recounted (s ∷ []) r N
+
   pub after_two : (s t : ℕ) (x r : Way) → One v at s x → One x at t r → After w at (s ∷ t ∷ []) r
   after_two s t x r I N = recounted (s ∷ t ∷ []) r (
     N.0 ∙ I.0,

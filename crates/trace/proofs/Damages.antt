@@ -4,10 +4,11 @@ use mathlib.Core.Path.{◌≡◌, sym, ap, ◌∙◌}
 use mathlib.Core.Bool.{Bool, true, false, ◌&&◌}
 use mathlib.Core.List.{List, [], ◌∷◌}
 use mathlib.Core.Logic.{◌⊎◌, inl, inr}
-use Prim.Native.Nat.{ℕ, ◌-◌}
+use Prim.Native.Nat.{ℕ, ◌-◌, ◌<◌, ◌≤◌}
 use lib.Dec.{ltb}
 use lib.IntN.{pos}
 use lib.ListN.{length, get_or}
+use borrow.Author.Tests.{lt-ltb, le-ltb}
 use Rattle.instruction.specs.Answer.{Answer, accepted, refused, judge}
 use Rattle.instruction.proofs.Judging.{pass, stop, done, first_of, past_all}
 use Rattle.reach.specs.Mark.{traced_mark}
@@ -28,6 +29,12 @@ abbrev pub judged : ℕ → List ℕ → List ℕ → Answer (Unit {0})
 judged n m ts = judge (damages n m ts) tt
 
 module _ (n : ℕ) (m : List ℕ) (t : ℕ) where
+  pub read_inside : t < n → damaged (get_or m t 0) ≡ damaged_inside n m t
+  read_inside h = rw (lt-ltb t n h)
+
+  pub read_outside : n ≤ t → false ≡ damaged_inside n m t
+  read_outside h = rw (le-ltb t n h)
+
   pub damaged_first : (ts : List ℕ) → damaged_inside n m t ≡ true → refused 6 (pos t ∷ []) ≡ judged n m (t ∷ ts)
   unfolding damages
   damaged_first ts e = sym (stop _ _ _ e)

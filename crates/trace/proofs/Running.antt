@@ -37,6 +37,8 @@ pub record Begun (mode : Mode) (image marks order entries pins m₀ o₀ : List 
   pub noted : Noted (length image) entries (table (length image) pins marks) order 0 m₀ o₀ t₀
   pub marks_fit : length image ≤ length m₀
   pub order_fits : length image ≤ length o₀
+  pub marks_kept : length m₀ ≡ length marks
+  pub order_kept : length o₀ ≡ length order
 
 pub begun_of : (mode : Mode) (image marks order entries pins m o₀ m₀ : List ℕ) (t₀ : ℕ)
     → (length image ≤ 65536) × (length image ≤ length marks) × (length image ≤ length order) → m ≡ table (length image) pins marks
@@ -53,6 +55,8 @@ begun_of mode image marks order entries pins m o₀ m₀ t₀ s e N' =
       noted = N;
       marks_fit = omega (arith, (noted_long N).0, length_table (length image) pins marks h);
       order_fits = omega (arith, (noted_long N).1);
+      marks_kept = (noted_long N).0 ∙ length_table (length image) pins marks h;
+      order_kept = (noted_long N).1;
     }
 
 module _ (mode : Mode) (image marks order entries pins : List ℕ) (limit : ℕ) (B : Base (tracer_of mode image) (table (length image) pins marks)) where

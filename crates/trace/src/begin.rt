@@ -2,11 +2,11 @@
 ghost use Rattle.std.specs.Prelude.{◌≡◌, ◌≤◌, length};
 ghost use Rattle.reach.specs.Pins.{table};
 
-// The marks of an image cleared, and the positions pinned that are inside.
-pub fn begin(image: &[u8], marks: &mut [u8], pins: &[u32])
-    requires { length image.now ≤ length marks.old }
-    ensures { marks.new ≡ table (length image.now) pins.now marks.old }
+// The marks of an image of n bytes cleared, and the positions pinned that are inside.
+pub fn begin(marks: &mut [u8], n: usize, pins: &[u32])
+    requires { n ≤ length marks.old }
+    ensures { marks.new ≡ table n pins.now marks.old }
 {
-    marks::clear(marks, image.len());
-    marks::pin(image, marks, pins);
+    marks::clear(marks, n);
+    marks::pin(marks, n, pins);
 }

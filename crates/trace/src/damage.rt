@@ -11,31 +11,31 @@ use marks::Mark;
 use targets::Places;
 
 // Whether a position is inside and its mark is damaged.
-fn is_damaged_mark(image: &[u8], marks: &[u8], t: u32) -> bool
-    ensures { result ≡ (ltb t (length image.now) && damaged (get_or marks.now t 0)) }
+fn is_damaged_mark(marks: &[u8], n: usize, t: u32) -> bool
+    ensures { result ≡ (ltb t n && damaged (get_or marks.now t 0)) }
 {
-    (t as usize) < image.len() && Mark::HIGHEST < Mark::at(marks, t)
+    (t as usize) < n && Mark::HIGHEST < Mark::at(marks, t)
 }
 
-fn check_one(image: &[u8], marks: &[u8], t: u32) -> Result<(), u32>
-    ensures { damage_of result ≡ judge (damages (length image.now) marks.now (t ∷ [])) tt }
+fn check_one(marks: &[u8], n: usize, t: u32) -> Result<(), u32>
+    ensures { damage_of result ≡ judge (damages n marks.now (t ∷ [])) tt }
 {
-    if is_damaged_mark(image, marks, t) {
+    if is_damaged_mark(marks, n, t) {
         return Err(t);
     }
     Ok(())
 }
 
 // The first of these positions that is damaged is refused.
-fn check_all(image: &[u8], marks: &[u8], ps: Places) -> Result<(), u32>
-    ensures { damage_of result ≡ judge (damages (length image.now) marks.now (places_in ps)) tt }
+fn check_all(marks: &[u8], n: usize, ps: Places) -> Result<(), u32>
+    ensures { damage_of result ≡ judge (damages n marks.now (places_in ps)) tt }
 {
     match ps {
         Places::Nothing => Ok(()),
-        Places::First(s) => check_one(image, marks, s),
+        Places::First(s) => check_one(marks, n, s),
         Places::Both(s, t) => {
-            check_one(image, marks, s)?;
-            check_one(image, marks, t)
+            check_one(marks, n, s)?;
+            check_one(marks, n, t)
         }
     }
 }
@@ -57,5 +57,5 @@ pub fn check(image: &[u8], marks: &[u8], p: u32, to: Places) -> Result<(), u32>
             return Ok(());
         }
     }
-    check_all(image, marks, to)
+    check_all(marks, image.len(), to)
 }

@@ -27,14 +27,14 @@ pub fn put(order: &mut [u32], tail: usize, ps: Places) -> usize
 }
 
 // Notes the entries, in their order, from the list's start: its end.
-pub fn put_entries(image: &[u8], marks: &mut [u8], order: &mut [u32], entries: &[u32]) -> usize
-    requires marks_fit { length image.now ≤ length marks.old }
-    requires order_fits { length image.now ≤ length order.old }
-    ensures { Noted (length image.now) entries.now marks.old order.old 0 marks.new order.new result }
+pub fn put_entries(marks: &mut [u8], order: &mut [u32], n: usize, entries: &[u32]) -> usize
+    requires n_in_bounds { n ≤ length marks.old }
+    requires n_in_bounds_2 { n ≤ length order.old }
+    ensures { Noted n entries.now marks.old order.old 0 marks.new order.new result }
 {
     let mut tail: usize = 0;
     for t in entries {
-        let noted = marks::note_place(image, marks, *t);
+        let noted = marks::note_place(marks, n, *t);
         tail = put(order, tail, noted);
     }
     tail

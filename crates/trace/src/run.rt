@@ -91,9 +91,10 @@ fn run_on(
     ensures { RanTo mode image.now marks.old order.old entries.now pins.now limit result
         marks.new order.new }
 {
-    begin::begin(image, marks, pins);
+    let n = image.len();
+    begin::begin(marks, n, pins);
     let most = limit as usize;
-    let mut tail = queue::put_entries(image, marks, order, entries);
+    let mut tail = queue::put_entries(marks, order, n, entries);
     let mut head: usize = 0;
     // The list grows while it is gone through, so no range stands for the loop.
     while head < tail && head < most {

@@ -7,13 +7,13 @@ use crate::begin;
 use marks::SizeError;
 
 // Notes the entries in their order: how many became waiting.
-fn note_entries(image: &[u8], marks: &mut [u8], entries: &[u32]) -> usize
-    ensures value { result ≡ length (fresh (length image.now) entries.now marks.old) }
-    ensures marks_after { marks.new ≡ note (length image.now) entries.now marks.old }
+fn note_entries(marks: &mut [u8], n: usize, entries: &[u32]) -> usize
+    ensures value { result ≡ length (fresh n entries.now marks.old) }
+    ensures marks_after { marks.new ≡ note n entries.now marks.old }
 {
     let mut set: usize = 0;
     for t in entries {
-        if marks::note_one(image, marks, *t) {
+        if marks::note_one(marks, n, *t) {
             set += 1;
         }
     }
@@ -32,6 +32,7 @@ pub fn start(
     ensures marks_after { marks.new ≡ start_marks image.now marks.old entries.now pins.now }
 {
     marks::check_sizes(image, marks)?;
-    begin::begin(image, marks, pins);
-    Ok(note_entries(image, marks, entries) as u32)
+    let n = image.len();
+    begin::begin(marks, n, pins);
+    Ok(note_entries(marks, n, entries) as u32)
 }

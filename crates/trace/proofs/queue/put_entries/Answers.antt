@@ -14,7 +14,7 @@ put-tail-requires c =
     let a = c.args in
     let l = c.loop-t in
     room_for l.tail (length l.order) _ _ c.note_place-noted.ensures.result_value
-    (noted_room a.entries.now l.t-index l.invariant c.requires.marks_fit (omega arith) c.loop-t-test.true)
+    (noted_room a.entries.now l.t-index l.invariant c.requires.n_in_bounds (omega arith) c.loop-t-test.true)
 
 pub loop-t-preserved : goal.loop-t-preserved
 loop-t-preserved c =

@@ -10,7 +10,7 @@ use Rattle.trace.proofs.start.note_entries.Goals.{then-note_one, else-note_one}
 pub loop-t-init : goal.loop-t-init
 loop-t-init c =
     let a = c.args in
-    (sym (note_nil (length a.image.now) a.marks.now), ap length (sym (fresh_nil (length a.image.now) a.marks.now)))
+    (sym (note_nil a.n a.marks.now), ap length (sym (fresh_nil a.n a.marks.now)))
 
 pub overflow_add-set : goal.overflow_add-set
 overflow_add-set c =
@@ -19,7 +19,7 @@ overflow_add-set c =
     omega (
       arith,
       l.invariant.1,
-      fresh_short (length a.image.now) (take l.t-index a.entries.now) a.marks.now,
+      fresh_short a.n (take l.t-index a.entries.now) a.marks.now,
       length-take-le l.t-index a.entries.now c.loop-t.auto.t-index-end,
     )
 
@@ -28,12 +28,12 @@ loop-t-preserved c =
     let a = c.args in
     let l = c.loop-t in
     let o = c.note_one.ensures in (
-      marks_more (length a.image.now) a.entries.now a.marks.now l.marks l.t-index c.loop-t-test.true l.invariant.0 _ o.marks_after,
+      marks_more a.n a.entries.now a.marks.now l.marks l.t-index c.loop-t-test.true l.invariant.0 _ o.marks_after,
       elim c.if-note_one.branch [
-        | then-note_one w ↦ w.set-is ∙ count_more (length a.image.now) a.entries.now a.marks.now l.marks l.t-index c.loop-t-test.true l.invariant.0 l.set true l.invariant.1
+        | then-note_one w ↦ w.set-is ∙ count_more a.n a.entries.now a.marks.now l.marks l.t-index c.loop-t-test.true l.invariant.0 l.set true l.invariant.1
             (sym w.if-note_one.true ∙ o.value)
         | else-note_one w ↦ w.set-is
             ∙ (let z : l.set ≡ l.set + 0 = omega arith in z)
-            ∙ count_more (length a.image.now) a.entries.now a.marks.now l.marks l.t-index c.loop-t-test.true l.invariant.0 l.set false l.invariant.1 (sym w.if-note_one.false ∙ o.value)
+            ∙ count_more a.n a.entries.now a.marks.now l.marks l.t-index c.loop-t-test.true l.invariant.0 l.set false l.invariant.1 (sym w.if-note_one.false ∙ o.value)
       ],
     )

@@ -6,4 +6,4 @@ use Rattle.trace.proofs.start.note_entries.Given as goal
 
 abbrev pub invariant-loop-t : goal.invariant-loop-t
 invariant-loop-t l =
-    (l.marks ≡ note (length l.image) (take l.t-index l.entries) l.initial.marks) × (l.set ≡ length (fresh (length l.image) (take l.t-index l.entries) l.initial.marks))
+    (l.marks ≡ note l.n (take l.t-index l.entries) l.initial.marks) × (l.set ≡ length (fresh l.n (take l.t-index l.entries) l.initial.marks))
