@@ -1,13 +1,16 @@
 -- An image's lines one by one, and how long they are.
 -- Assumes nothing.
-use mathlib.Core.Logic.{◌⊎◌, inl, inr}
+use mathlib.Core.Bool.{Bool, true, false}
 use mathlib.Core.Path.{◌≡◌, refl, sym, ap, ap₂, ◌∙◌}
-use mathlib.Core.List.{List, [], ◌∷◌, ◌++◌}
-use Prim.Native.Nat.{ℕ, zero, suc, ◌+◌, ◌*◌, ◌-◌, ◌/◌, ◌≤◌, ◌<◌}
+use mathlib.Core.List.{List, [], ◌∷◌, ◌++◌, append-nil}
+use Prim.Native.Nat.{ℕ, zero, suc, ◌+◌, ◌*◌, ◌/◌, ◌≤◌, ◌<◌, min}
 use native.Mathlib.Numerals.{add-one}
 use native.Mathlib.Omega.{arith}
+use borrow.Author.Tests.{ltb-true, ltb-false}
+use lib.Dec.{ltb}
 use lib.ListN.{length, set, take, drop, drop_of_length-le, length-append, length-drop, length-take}
-use lib.Seq.{take_all, drop-drop, append_snoc}
+use lib.Seq.{take_all, append_snoc}
+use Rattle.std.proofs.lemmas.List.{take_at, drop_at}
 use Rattle.listing.specs.Hex.{hex1, hex2, hexes}
 use Rattle.text.specs.Puts.{Puts}
 use Rattle.listing.proofs.Hexing.{hexes_length}
@@ -63,34 +66,26 @@ lines_length (suc k) (b ∷ l) h =
 pub image_length : (l : List ℕ) → length (image_text l) ≡ length l * 2 + (length l + 31) / 32
 image_length l = lines_length (length l) l (omega arith)
 
--- the line from i up to e is the next one
-module _ (l : List ℕ) (i e : ℕ) (from : i < e) (to : e ≤ length l) (most : e ≤ i + 32) (short : e < i + 32 → length l ≤ e) where
-  -- a full line, or all that is left
-  whole : (e ≡ i + 32) ⊎ (e < i + 32)
-  whole = by (i + 32 - e) refl
-    where
-      by : (k : ℕ) → i + 32 - e ≡ k → (e ≡ i + 32) ⊎ (e < i + 32)
-      by zero f = inl (omega arith)
-      by (suc k) f = inr (omega arith)
+no_more : (l : List ℕ) → length l ≡ 0 → l ≡ []
+no_more [] h = refl
+no_more (b ∷ l) h = absurd (omega arith)
 
-  piece : (e ≡ i + 32) ⊎ (e < i + 32) → take (e - i) (drop i l) ≡ take 32 (drop i l)
-  piece (inl f) = let g : e - i ≡ 32 = omega arith in ap (λ (k : ℕ). take k (drop i l)) g
-  piece (inr f) =
-      let g = short f in
-      let d = length-drop i l in
-      take_all (e - i) (drop i l) (omega arith) ∙ sym (take_all 32 (drop i l) (omega arith))
-
-  rest : (e ≡ i + 32) ⊎ (e < i + 32) → drop 32 (drop i l) ≡ drop e l
-  rest (inl f) = drop-drop 32 i l ∙ ap (λ (k : ℕ). drop k l) (sym f)
-  rest (inr f) =
-      let g = short f in
-      let d = length-drop i l in
-      let h : length (drop i l) ≤ 32 = omega arith in drop_of_length-le (drop i l) h ∙ sym (drop_of_length-le l g)
-
-  pub next_line : image_text (drop i l) ≡ line (take (e - i) (drop i l)) ++ image_text (drop e l)
-  next_line =
-      let d = length-drop i l in
-      lines_more (drop i l) (omega arith) ∙ ap₂ (λ (x y : List ℕ). line x ++ image_text y) (sym (piece whole)) (rest whole)
+-- a line's bytes come off the front, as many as there are where they are few
+pub next_line : (l bytes rest : List ℕ) → l ≡ bytes ++ rest → length bytes ≡ min 32 (length l) → 0 < length l → image_text l ≡ line bytes ++ image_text rest
+next_line l bytes rest e n h =
+    let p = by (ltb (length l) 32) refl in
+    lines_more l h ∙ ap₂ (λ (x y : List ℕ). line x ++ image_text y) p.0 p.1
+  where
+    by : (b : Bool) → ltb (length l) 32 ≡ b → (take 32 l ≡ bytes) × (drop 32 l ≡ rest)
+    by true f =
+        let k = ltb-true (length l) 32 f in
+        let z : rest ≡ [] = no_more rest (omega (arith, ap length e, length-append bytes rest, n)) in
+        let w : l ≡ bytes = e ∙ ap (λ (x : List ℕ). bytes ++ x) z ∙ append-nil bytes in
+        (take_all 32 l (omega arith) ∙ w, drop_of_length-le l (let m : length l ≤ 32 = omega arith in m) ∙ sym z)
+    by false f =
+        let k = ltb-false (length l) 32 f in
+        let m : length bytes ≡ 32 = omega (arith, n) in
+        (ap (take 32) e ∙ take_at bytes rest 32 m, ap (drop 32) e ∙ drop_at bytes rest 32 m)
 
 -- the two digits of a byte put
 pub pair_put : (b at x y : ℕ) (o : List ℕ) → x ≡ hex1 (b / 16) → y ≡ hex1 b → Puts (hex2 b) at o (set (set o at x) (at + 1) y) (at + 2)

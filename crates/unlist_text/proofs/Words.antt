@@ -8,18 +8,12 @@ use native.Mathlib.Nat.{pow-suc, pow-le-pow_right}
 use native.Mathlib.Numerals.{add-one}
 use native.Mathlib.Omega.{arith}
 use lib.Dec.{leb}
+use Rattle.std.specs.Prelude.{Some, None}
 use lib.ListN.{length, get_or, drop, drop_of_length-le}
 use lib.Seq.{drop-cons}
 use borrow.Author.Tests.{leb-true, le-leb, lt-leb}
 use Rattle.instruction.proofs.Sign.{never}
 use Rattle.unlist_text.specs.Number.{is_decimal, argument_from, argument_of}
-use Rattle.unlist_text.specs.declared.word.Argument.TheVariants.{Number, NotNumber}
-
-pub in_range : (b : ℕ) → 48 ≤ b → leb b 57 ≡ is_decimal b
-in_range b h = rw (le-leb 48 b h)
-
-pub too_low : (b : ℕ) → b < 48 → leb 48 b ≡ is_decimal b
-too_low b h = rw (lt-leb 48 b h)
 
 pub digit_range : (b : ℕ) → is_decimal b ≡ true → (48 ≤ b) × (b ≤ 57)
 digit_range b e = by (leb 48 b) refl (leb b 57) refl e
@@ -31,11 +25,11 @@ digit_range b e = by (leb 48 b) refl (leb b 57) refl e
 
 module _ (word : List ℕ) where
   -- too short or too long
-  pub empty_word : length word ≡ 0 → NotNumber ≡ argument_of word
+  pub empty_word : length word ≡ 0 → None ≡ argument_of word
   unfolding argument_of
   empty_word e = rw e
 
-  pub long_word : 9 < length word → NotNumber ≡ argument_of word
+  pub long_word : 9 < length word → None ≡ argument_of word
   unfolding argument_of
   long_word h = rw (le-leb 1 (length word) (omega arith), lt-leb (length word) 9 h)
 
@@ -48,7 +42,7 @@ module _ (word : List ℕ) where
       by (suc k) e = rw (le-leb 1 (length word) (omega arith), le-leb (length word) 9 h)
 
   module _ (i n : ℕ) where
-    pub word_stop : i < length word → is_decimal (get_or word i 0) ≡ false → argument_from n (drop i word) ≡ NotNumber
+    pub word_stop : i < length word → is_decimal (get_or word i 0) ≡ false → argument_from n (drop i word) ≡ None
     unfolding argument_from
     word_stop h e = rw (drop-cons word i 0, e)
 
@@ -57,7 +51,7 @@ module _ (word : List ℕ) where
     unfolding argument_from
     word_more h e = rw (add-one, drop-cons word i 0, e)
 
-    pub word_end : length word ≤ i → argument_from n (drop i word) ≡ Number n
+    pub word_end : length word ≤ i → argument_from n (drop i word) ≡ Some n
     unfolding argument_from
     word_end h = rw (drop_of_length-le word h)
 

@@ -7,4 +7,4 @@ mod rooms;
 pub mod word;
 
 pub use print::unlist_text;
-pub use word::{Argument, number};
+pub use word::number;

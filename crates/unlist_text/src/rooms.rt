@@ -14,8 +14,5 @@ pub fn bytes() -> [u8; Image::LIMIT]
 pub fn first(bytes: &[u8], n: usize) -> &[u8]
     ensures { result.now ≡ take n bytes.now }
 {
-    if bytes.len() < n {
-        return bytes;
-    }
-    &bytes[0..n]
+    &bytes[..n.min(bytes.len())]
 }
