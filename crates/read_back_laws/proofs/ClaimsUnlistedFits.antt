@@ -11,7 +11,7 @@ use borrow.Author.Tests.{lt-ltb}
 use lib.IntN.{ℤ, pos}
 use lib.ListN.{length, length-replicate}
 use Rattle.instruction.specs.Answer.{Answer, accepted, refused, refuse}
-use Rattle.text.specs.Cut.{before, lines}
+use Rattle.text.specs.Cut.{lines}
 use Rattle.read_back.specs.Back.{line_refusals, back_answer, back_image}
 use Rattle.read_back.specs.Line.{record_of}
 use Rattle.read_back.specs.Order.{start, place_after}
