@@ -6,7 +6,6 @@ ghost use Rattle.targets.specs.At.{form_here, size_here, fits_here, name_here};
 ghost use Rattle.targets.specs.Ways.{is_naming, name_of};
 
 use crate::image::Image;
-use crate::opening::Opening;
 use crate::{opening, operand};
 use instruction::{Flow, Mode};
 
@@ -17,15 +16,15 @@ pub fn is_naming(flow: Flow) -> bool
     matches!(flow, Flow::Jump | Flow::Branch)
 }
 
-// By what the first byte of the instruction at p says. That it says so of this image and position stands in the contract, here and where
-// places are asked for, since the opening holds neither.
-fn name_by(mode: Mode, image: &[u8], p: u32, opening: Opening) -> u32
+// By where the instruction at p ends and where control goes. What its first byte says is handed on by its fields, here and where places
+// are asked for, since to move the opening whole costs a run half as much again at each position.
+fn name_by(mode: Mode, image: &[u8], p: u32, next: u32, flow: Flow) -> u32
     requires p_in_bounds { (p < length image.now) × (length image.now ≤ 65536) }
-    requires p_value { (fits_here image.now p ≡ true) × (opening.next ≡ p + size_here image.now p) × (opening.flow ≡ flow_of (form_here image.now p)) }
+    requires p_value { (fits_here image.now p ≡ true) × (next ≡ p + size_here image.now p) × (flow ≡ flow_of (form_here image.now p)) }
     ensures { result ≡ name_here mode image.now p }
 {
-    if is_naming(opening.flow) {
-        return operand::place_at(mode, image, p, opening.next);
+    if is_naming(flow) {
+        return operand::place_at(mode, image, p, next);
     }
     Image::NOWHERE
 }
@@ -35,7 +34,7 @@ pub fn name_at(mode: Mode, image: &[u8], p: u32) -> u32
     ensures { result ≡ name_of mode image.now p }
 {
     match opening::opening_at(image, p) {
-        Ok(o) => name_by(mode, image, p, o),
+        Ok(o) => name_by(mode, image, p, o.next, o.flow),
         Err(_) => Image::NOWHERE,
     }
 }

@@ -7,7 +7,6 @@ ghost use Rattle.targets.specs.Ways.{places_in, ways_of, goes_on, falls_to};
 
 use crate::image::Image;
 use crate::not_whole::NotWhole;
-use crate::opening::Opening;
 use crate::{name, opening, operand};
 use instruction::{Flow, Mode};
 
@@ -44,13 +43,11 @@ fn goes_on(flow: Flow) -> bool
 }
 
 // The positions that the targets of the instruction at p name, by what its first byte says.
-fn places_by(mode: Mode, image: &[u8], p: u32, opening: Opening) -> Places
+fn places_by(mode: Mode, image: &[u8], p: u32, next: u32, flow: Flow) -> Places
     requires p_in_bounds { (p < length image.now) × (length image.now ≤ 65536) }
-    requires p_value { (fits_here image.now p ≡ true) × (opening.next ≡ p + size_here image.now p) × (opening.flow ≡ flow_of (form_here image.now p)) }
+    requires p_value { (fits_here image.now p ≡ true) × (next ≡ p + size_here image.now p) × (flow ≡ flow_of (form_here image.now p)) }
     ensures { places_in result ≡ ways_here mode image.now p }
 {
-    let next = opening.next;
-    let flow = opening.flow;
     if name::is_naming(flow) {
         let to = operand::place_at(mode, image, p, next);
         if goes_on(flow) {
@@ -64,12 +61,15 @@ fn places_by(mode: Mode, image: &[u8], p: u32, opening: Opening) -> Places
     Places::Nothing
 }
 
-// The positions that the targets at p name.
+// The positions that the targets at p name. No `?` stands here, and what is opened is handed on by its fields, since to move it whole costs
+// a run half as much again at each position.
 pub fn ways_at(mode: Mode, image: &[u8], p: u32) -> Result<Places, NotWhole>
     ensures { result ≡ ways_of mode image.now p }
 {
-    let opening = opening::opening_at(image, p)?;
-    Ok(places_by(mode, image, p, opening))
+    match opening::opening_at(image, p) {
+        Ok(o) => Ok(places_by(mode, image, p, o.next, o.flow)),
+        Err(e) => Err(e),
+    }
 }
 
 // Whether p stands right behind the instruction at q and control goes on to it. No operand is looked at.

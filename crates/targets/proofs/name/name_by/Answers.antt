@@ -8,9 +8,9 @@ pub returns-then-is_naming : goal.returns-then-is_naming
 returns-then-is_naming c =
     let a = c.args in
     c.place_at.ensures
-    ∙ names a.mode a.image.now a.p (λ n. (c.type_inv.image n).fits) a.opening.flow c.requires.p_value.2 true (sym c.if-is_naming.ensures)
+    ∙ names a.mode a.image.now a.p (λ n. (c.type_inv.image n).fits) a.flow c.requires.p_value.2 true (sym c.if-is_naming.ensures)
 
 pub returns : goal.returns
 returns c =
     let a = c.args in
-    names a.mode a.image.now a.p (λ n. (c.type_inv.image n).fits) a.opening.flow c.requires.p_value.2 false (sym c.if-is_naming.ensures)
+    names a.mode a.image.now a.p (λ n. (c.type_inv.image n).fits) a.flow c.requires.p_value.2 false (sym c.if-is_naming.ensures)
