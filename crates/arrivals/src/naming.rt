@@ -21,7 +21,7 @@ pub fn next_naming(image: &[u8], marks: &[u8], from: u32, end: u32) -> Option<u3
     requires { (end ≤ length image.now) × (end ≤ length marks.now) × (end ≤ 65536) }
     ensures { result ≡ if_below end (lowest_of (may_name image.now marks.now) end from) }
 {
-    // `find` over the same range takes a tenth longer for all arrivals.
+    // `find` over the same range takes a twentieth longer for all arrivals.
     for q in from..end {
         if may_name(image, marks, q) {
             return Some(q);

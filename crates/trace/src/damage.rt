@@ -17,6 +17,7 @@ fn is_damaged_mark(marks: &[u8], n: usize, t: u32) -> bool
     (t as usize) < n && Mark::HIGHEST < Mark::at(marks, t)
 }
 
+// Refuses a damaged mark, by its position.
 fn check_one(marks: &[u8], n: usize, t: u32) -> Result<(), u32>
     ensures { damage_of result ≡ judge (damages n marks.now (t ∷ [])) tt }
 {

@@ -77,7 +77,8 @@ fn take_next(
     }
 }
 
-// A run where the sizes are right.
+// A run where the sizes are right. A struct over the lent marks would have to say in each contract that it still holds them, so the sizes
+// are asked for here.
 fn run_on(
     mode: Mode,
     image: &[u8],

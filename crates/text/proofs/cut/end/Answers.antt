@@ -17,5 +17,5 @@ returns c =
     let all : take n t ≡ t = take_all n t (omega (arith, length-drop c.args.at c.args.text.now)) in
     let given = YieldsList-from_slice (take n t) cc in
     let r =
-        position_from_yields_List (λ b. eqb b c.args.s) _ _ c.position.result c.position.ensures.ran given (λ x b q k. search (rules, tests)) in
+    position_from_yields_List (λ b. eqb b c.args.s) _ _ c.position.result c.position.ensures.ran given (λ x b q k. search (rules, tests)) in
     ap (λ (n : ℕ). c.args.at + n) ((rw all at c.unwrap_or.ensures) ∙ found_at c.args.s t c.position.result (rw all at r))
