@@ -1,6 +1,5 @@
 -- The numbers that the reader's answers carry are lengths and numbers of lines: each fits a value of a reply.
 -- Assumes nothing.
-use mathlib.Core.Bool.{Bool, true, false, not}
 use mathlib.Core.List.{List, [], ◌∷◌}
 use Prim.Native.Nat.{ℕ, ◌+◌, ◌≤◌, ◌<◌, ◌^◌}
 use native.Mathlib.Omega.{arith}
@@ -8,7 +7,7 @@ use lib.ListN.{length}
 use Rattle.instruction.specs.declared.mode.Mode.{Mode}
 use Rattle.instruction.proofs.Carried.{Each}
 use Rattle.text.specs.Cut.{lines}
-use Rattle.read_back.specs.Line.{position_on, record_of}
+use Rattle.read_back.specs.Line.{record_of}
 use Rattle.read_back.specs.Order.{start, place_after}
 use Rattle.read_back.specs.declared.place.Place.{Place}
 use Rattle.read_back.specs.Back.{line_refusals, back_answer}

@@ -1,14 +1,13 @@
 -- The numbers that the answers to an input carry are those of its lines, and of what a good input holds: each fits a value of a reply.
 -- Assumes nothing.
-use mathlib.Core.Path.{◌≡◌}
-use mathlib.Core.Bool.{Bool, true, false, cond, ◌||◌}
+use mathlib.Core.Bool.{◌||◌}
 use mathlib.Core.List.{List, [], ◌∷◌}
 use Prim.Native.Nat.{ℕ, suc, ◌+◌, ◌-◌, ◌<◌, ◌≤◌, ◌^◌}
 use native.Mathlib.Omega.{arith}
 use lib.Dec.{ltb}
 use lib.IntN.{pos}
 use lib.ListN.{length}
-use Rattle.instruction.specs.Answer.{accepted, Refusal, refuse, judge}
+use Rattle.instruction.specs.Answer.{Refusal, refuse, judge}
 use Rattle.instruction.proofs.Carried.{Each}
 use Rattle.text.specs.Bytes.{bytes_of}
 use Rattle.text.specs.Cut.{lines}

@@ -1,13 +1,13 @@
 -- The lengths that the answers of the packed map carry are those of lent slices and of the words needed: each fits a value of a reply.
 -- Assumes nothing.
 use mathlib.Core.Bool.{Bool}
-use mathlib.Core.List.{List, [], ◌∷◌}
+use mathlib.Core.List.{List}
 use Prim.Native.Nat.{ℕ, ◌<◌, ◌^◌}
 use native.Mathlib.Omega.{arith}
 use lib.ListN.{length}
 use Rattle.instruction.specs.Answer.{judge}
 use Rattle.instruction.proofs.Carried.{each_append}
-use Rattle.views.specs.View.{view_refusals, room_answer, view_answer}
+use Rattle.views.specs.View.{view_refusals}
 use Rattle.views.specs.Mask.{mask_of}
 use Rattle.targets.specs.At.{size_here}
 use Rattle.map.specs.Words.{words_for}

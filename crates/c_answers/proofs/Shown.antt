@@ -11,7 +11,7 @@ use lib.IntN.{pos}
 use lib.ListN.{length}
 use Rattle.instruction.specs.Bytes.{Bytes}
 use Rattle.instruction.specs.declared.mode.Mode.{Mode}
-use Rattle.instruction.specs.Answer.{Answer, Refusal, refuse, refused}
+use Rattle.instruction.specs.Answer.{Refusal, refuse, refused}
 use Rattle.instruction.proofs.Accepting.{passed}
 use Rattle.instruction.proofs.Carried.{Each, each_append}
 use Rattle.reach.proofs.Cases.{lt_or_le}

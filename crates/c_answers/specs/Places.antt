@@ -5,7 +5,6 @@ use Rattle.std.specs.Prelude.{ℕ, ◌%◌, ◌^◌, List, [], ◌∷◌, ℤ, p
 use Rattle.instruction.specs.Answer.{Answer, accepted, refused}
 use Rattle.read_back.specs.Read.{Found, listed, ended}
 use Rattle.read_back.specs.declared.place.Place.{Place}
-use Rattle.read_back.specs.declared.place.Record.{Record}
 
 -- the place that four words hold, any words at all: of a number that is larger than its kind, the lower bits. A line's number has 63, as a
 -- value for C has, a position 32, a letter 8
