@@ -48,7 +48,8 @@ pub fn report_text(text: &[u8], room: &mut [u8]) -> Reply
     report_text::report_text(text, room).into_reply()
 }
 
-// Accepted: the number of bytes written, those of a refusal's line among them.
+// Accepted: the number of bytes written, those of a refusal's line among them. The length comes as a number of 32 bits, as every number does
+// that is no length of a slice.
 pub fn unlist_text(text: &[u8], length: u32, room: &mut [u8]) -> Reply
     ensures value { result ≡ reply_of count_values (room_answer [] (unlisted_of text.now length) room.old) }
     ensures room_after { room.new ≡ room_after [] (unlisted_of text.now length) room.old }

@@ -1,5 +1,4 @@
-// Local rooms, each made by a function that says what it holds. One generic function would need a bound for the zero and both its parameters
-// at each call.
+// Local rooms, each made by a function that says what it holds.
 ghost use Rattle.std.specs.Prelude.{◌≡◌, replicate};
 
 use crate::asked::Asked;

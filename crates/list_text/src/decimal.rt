@@ -9,7 +9,7 @@ pub fn width(n: usize) -> usize
 {
     let mut left = n;
     let mut k: usize = 1;
-    // The number says when its digits end, and no sum of the library counts digits by tens.
+    // The number says when its digits end.
     while 10 <= left {
         left /= 10;
         k += 1;

@@ -6,8 +6,8 @@ ghost use Rattle.text.specs.Puts.{Puts};
 use crate::lines;
 use instruction::{Instr, Mode, Parts};
 
-// The `I` line of bytes at p, ended by byte 10: how many bytes it has, 0 where decode or targets refuses. What falls past the end of the
-// room is not written; a line has at most 31 bytes.
+// The `I` line of bytes at p, ended by byte 10: how many bytes it has, 0 where decode or targets refuses, since the definition has no byte
+// there. What falls past the end of the room is not written; a line has at most 31 bytes.
 pub fn code_line(mode: Mode, p: u32, bytes: &[u8], room: &mut [u8]) -> usize
     ensures { Puts (code_line mode p bytes.now) 0 room.old room.new result }
 {

@@ -1,5 +1,4 @@
 // Local rooms, each made by a function that says how long it is. Views are put into them where they stand, so that no copy is made.
-// One generic function would need a bound for the zero and both its parameters at each call.
 ghost use Rattle.std.specs.Prelude.{◌≡◌, length};
 
 use targets::Image;

@@ -41,7 +41,7 @@ pub fn agree(digits: &[u8], image: &[u8], p: usize, end: usize) -> bool
     true
 }
 
-// Where the bytes of these digits, from p on, end; 0 where there are none.
+// Where the bytes of these digits, from p on, end; 0 where there are none, as the definition `far_of` has it.
 pub fn far(digits: &[u8], p: u32) -> usize
     ensures { result ≡ far_of p (bytes_of digits.now) }
 {

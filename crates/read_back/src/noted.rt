@@ -29,7 +29,7 @@ pub fn note(r: Record, table: &mut [u64; WORDS])
     }
 }
 
-// The first position from q on that is noted, of n positions; n where there is none.
+// The first position from q on that is noted, of n positions; n where there is none, as the definition `first_in` has it.
 fn next(table: &[u64; WORDS], n: usize, q: usize) -> usize
     requires { (n ≤ 65536) × (q ≤ n) }
     ensures { result ≡ first_in (data_at table.now) (n - q) q }

@@ -6,7 +6,7 @@ use crate::place::{Place, Record};
 
 const ALONE: u8 = 5;
 
-// Where a letter stands in the order; 0 for any other byte.
+// Where a letter stands in the order; 0 for any other byte, as the definition `rank_of` has it.
 pub fn rank(letter: u8) -> u8
     ensures { result ≡ rank_of letter }
 {

@@ -1,4 +1,5 @@
-// A place in a listing, and what its line says.
+// A place in a listing, and what its line says. A letter stays the byte that it is in the text, since C holds both as numbers; each has a
+// `new`, which docs/CLAIMS.md names for callers.
 ghost use Rattle.std.specs.Prelude.{◌≡◌};
 ghost use Rattle.read_back.specs.Order.{start};
 
