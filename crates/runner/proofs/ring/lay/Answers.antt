@@ -1,5 +1,5 @@
 -- What is laid at the room's end leaves what is laid at its beginning.
-use Rattle.std.proofs.Common.{◌≡◌, ℕ, ◌+◌, ◌-◌, ◌≤◌, List, [], ◌++◌, rules, arith, length, take, drop, refl, ap, ◌∙◌, drop_of_length-le, length-append, length-drop, take_all, append_assoc, append-nil}
+use Rattle.std.proofs.Common.{◌≡◌, ℕ, ◌+◌, ◌-◌, ◌≤◌, List, [], ◌++◌, rules, arith, length, take, drop, ap, ◌∙◌, drop_of_length-le, length-append, length-drop, take_all, append_assoc, append-nil}
 use Rattle.std.proofs.Math.Seq.{take-append-add}
 use borrow.Rule.Slice.PartMut.{put_mid, post_of}
 use Rattle.runner.proofs.ring.lay.Goals as goal
