@@ -1,6 +1,6 @@
 -- What a room holds afterwards, from the tests of the code.
 -- Assumes nothing.
-use Rattle.std.proofs.Common.{◌≡◌, ℕ, ◌<◌, ◌≤◌, true, false, leb, List, [], ◌∷◌, ◌++◌, length, take, drop, ℤ, refl, ◌∙◌, arith, le-leb}
+use Rattle.std.proofs.Common.{◌≡◌, ℕ, ◌<◌, ◌≤◌, true, false, leb, List, [], ◌∷◌, ◌++◌, length, take, drop, ℤ, refl, sym, ◌∙◌, arith, le-leb}
 use borrow.Author.Tests.{lt-leb}
 use Rattle.instruction.specs.declared.kind.Shape.{Shape}
 use Rattle.instruction.specs.declared.kind.Shape.TheVariants.{Bare, Imm, D9, Ri, ImmD9, ImmRi, D9B3, A12, A16, R16, R8, D9B3R8, D9R8, RiR8, ImmR8}
@@ -29,14 +29,14 @@ size_range ImmR8 = (omega arith, omega arith)
 size_range RiImmR8 = (omega arith, omega arith)
 
 module _ (u : ℕ) (t : Shape) (a b c : ℤ) (room : List ℕ) (n : ℕ) (sized : n ≡ length (blank t)) where
-  pub too_short_lem : length room < n → room ≡ written_room u t a b c room
+  pub too_short_lem : length room < n → (false ≡ leb (length (blank t)) (length room)) × (room ≡ written_room u t a b c room)
   unfolding written_room
   too_short_lem h =
-      let e : leb (length (blank t)) (length room) ≡ false = rw (← sized) (lt-leb n (length room) h) in rw e refl
+      let e : leb (length (blank t)) (length room) ≡ false = rw (← sized) (lt-leb n (length room) h) in (sym e, rw e refl)
 
   pub laid : n ≤ length room → (l s : List ℕ) → take (length (blank t)) l ≡ bytes_by u t (code_of a ∷ code_of b ∷ code_of c ∷ []) → s ≡ take n l ++ drop n room
-      → s ≡ written_room u t a b c room
+      → (true ≡ leb (length (blank t)) (length room)) × (s ≡ written_room u t a b c room)
   unfolding written_room
   laid h l s f g =
       let e : leb (length (blank t)) (length room) ≡ true = rw (← sized) (le-leb n (length room) h) in
-      rw e (g ∙ rw (sized, f) refl)
+      (sym e, rw e (g ∙ rw (sized, f) refl))

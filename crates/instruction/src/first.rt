@@ -68,6 +68,12 @@ pub struct FirstByte {
 }
 
 impl FirstByte {
+    pub fn new(size: u32, flow: Flow) -> Self
+        ensures { result ≡ record { size = size; flow = flow } }
+    {
+        Self { size, flow }
+    }
+
     // What this first byte says.
     pub fn read(first: u8) -> Self
         ensures { result ≡ first_says first }

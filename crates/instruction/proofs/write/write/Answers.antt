@@ -9,7 +9,7 @@ Read z = to_z w32 (of_z w32 z) ≡ z
 
 pub returns-then-out-n-clause-out_after : goal.returns-then-out-n-clause-out_after
 returns-then-out-n-clause-out_after c =
-    let a = c.args in too_short_lem a.fixed a.shape a.v.a a.v.b a.v.c a.out.now _ c.size-n.ensures c.if-out-n.true
+    let a = c.args in (too_short_lem a.fixed a.shape a.v.a a.v.b a.v.c a.out.now _ c.size-n.ensures c.if-out-n.true).1
 
 pub slice_bounds-w-end : goal.slice_bounds-w-end
 slice_bounds-w-end c =
@@ -33,5 +33,5 @@ returns-clause-out_after c =
     let q : Read a.v.b = search rules in
     let r : Read a.v.c = search rules in
     let b = rw (c.code-x.ensures, c.code-y.ensures, c.code-z.ensures, p, q, r) at c.bytes-w.ensures in
-    laid a.fixed a.shape a.v.a a.v.b a.v.c a.out.now _ c.size-n.ensures c.if-out-n.false _ _ b
-    (ap (λ (l : List ℕ). l ++ drop c.size-n.result a.out.now) c.copy_from_slice.ensures.after)
+    (laid a.fixed a.shape a.v.a a.v.b a.v.c a.out.now _ c.size-n.ensures c.if-out-n.false _ _ b
+    (ap (λ (l : List ℕ). l ++ drop c.size-n.result a.out.now) c.copy_from_slice.ensures.after)).1
