@@ -24,7 +24,7 @@ pub fn behind(next: u32, offset: u32) -> u32
     requires { (1 ≤ next) × (next ≤ 65536) × (offset ≤ 65535) }
     ensures { (result ≡ (next - 1 + offset) % 65536) × (result ≤ 65535) }
 {
-    (next - 1 + offset) % 65_536
+    u32::from(((next - 1) as u16).wrapping_add(offset as u16))
 }
 
 // The twelve bits of a first byte and the byte after it.
