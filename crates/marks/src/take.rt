@@ -15,6 +15,14 @@ pub struct Taken {
     pub noted: Places,
 }
 
+impl Taken {
+    pub fn new(mark: u8, noted: Places) -> Self
+        ensures { (result.mark ≡ mark) × (result.noted ≡ noted) }
+    {
+        Self { mark, noted }
+    }
+}
+
 // Notes one position: it, where it became waiting.
 pub fn note_place(marks: &mut [u8], n: usize, t: u32) -> Places
     ensures result_value { places_in result ≡ fresh n (t ∷ []) marks.old }
