@@ -19,6 +19,14 @@ pub struct Tally {
     pub steps: u32,
 }
 
+impl Tally {
+    pub fn new(sweeps: u32, steps: u32) -> Self
+        ensures { (result.sweeps ≡ sweeps) × (result.steps ≡ steps) }
+    {
+        Self { sweeps, steps }
+    }
+}
+
 // A sweep meets p. A struct over the lent marks would have to say in each contract that it still holds them, so the sizes are asked for here.
 fn meet(mode: Mode, image: &[u8], marks: &mut [u8], p: u32, way: Way) -> Way
     requires { (p < length image.now) × (length image.now ≤ 65536) × (length image.now ≤ length marks.old) × (way.taken < 65536) }

@@ -19,6 +19,14 @@ pub struct Counts {
     pub noted: u32,
 }
 
+impl Counts {
+    pub fn new(steps: u32, noted: u32) -> Self
+        ensures { (result.steps ≡ steps) × (result.noted ≡ noted) }
+    {
+        Self { steps, noted }
+    }
+}
+
 #[derive(Clone, Copy, Debug, PartialEq, Eq)]
 pub enum Ran {
     // Nothing waiting.
@@ -100,7 +108,11 @@ fn run_on(
     // The list grows while it is gone through, so no range stands for the loop.
     while head < tail && head < most {
         let p = order[head];
-        tail = take_next(mode, image, marks, order, p, tail)?;
+        // What `?` hands on goes through memory here, and a step would take up to half as long again.
+        match take_next(mode, image, marks, order, p, tail) {
+            Ok(end) => tail = end,
+            Err(c) => return Err(RunError::Cut(c)),
+        }
         head += 1;
     }
     let counts = Counts {

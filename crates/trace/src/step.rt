@@ -17,6 +17,14 @@ pub struct Advance {
     pub waiting: u32,
 }
 
+impl Advance {
+    pub fn new(mark: u8, waiting: u32) -> Self
+        ensures { (result.mark ≡ mark) × (result.waiting ≡ waiting) }
+    {
+        Self { mark, waiting }
+    }
+}
+
 #[derive(Clone, Copy, Debug, PartialEq, Eq)]
 pub enum StepError {
     // 1 and 2.

@@ -1,7 +1,6 @@
 -- What is not found of `run::run_on`: where the loop stands, and what is answered where it ends.
 -- Assumes nothing.
 use Rattle.std.proofs.Common.{◌<◌, ◌≤◌, get_or, arith}
-use Rattle.std.proofs.lemmas.Result.{err_from_is_err_and}
 use Rattle.reach.proofs.Begin.{stand_begin}
 use Rattle.reach.proofs.Came.{came_finished, came_stopped, came_cut}
 use Rattle.reach.proofs.Stand.{stand_tail, stand_inside, stand_room}
@@ -38,14 +37,12 @@ take_next-requires-clause-p_in_bounds_2 c =
     let l = c.loop-head in
     stand_room B.marks_fit B.order_fits l.invariant c.loop-head-test.true
 
-pub returns-in_err-tail : goal.returns-in_err-tail
-returns-in_err-tail c =
+pub returns-in-Err : goal.returns-in-Err
+returns-in-Err c =
     let a = c.args in
     let B = begun_of a.mode _ _ _ _ _ _ _ _ _ c.requires c.begin.ensures c.put_entries-tail.ensures in
     let l = c.loop-head in
-    let r = err_from_is_err_and c.from_residual.result c.from_residual.ensures.1 in
-    let o = c.take_next.ensures.off _ c.in_err-tail.was in
-    rw (r.1, r.2)
+    let o = c.take_next.ensures.off _ c.in-Err.is in
     (ran_cut a.mode a.image.now a.marks.now a.order.now a.entries.now a.pins.now a.limit B.base l.marks l.order l.tail l.head (get_or l.order l.head 0) _ o.1
     (came_cut B.base B.room B.noted l.invariant c.loop-head-test.true c.if-head-most.true o.0) _ _ o.2 o.3)
 
@@ -62,7 +59,7 @@ loop-head-preserved c =
     let a = c.args in
     let B = begun_of a.mode _ _ _ _ _ _ _ _ _ c.requires c.begin.ensures c.put_entries-tail.ensures in
     let l = c.loop-head in
-    let o = c.take_next.ensures.on _ c.in_ok-tail.was in
+    let o = c.take_next.ensures.on _ c.in-Ok.is in
     stand_turn B.marks_fit B.order_fits l.invariant c.loop-head-test.true c.if-head-most.true o.0 o.1
 
 pub overflow_cast-counts-2 : goal.overflow_cast-counts-2
