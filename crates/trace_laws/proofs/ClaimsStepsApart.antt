@@ -10,7 +10,8 @@ use Rattle.std.specs.Prelude.{Result, Ok, Err}
 use Rattle.instruction.specs.Answer.{Answer, accepted, refused}
 use Rattle.marks.specs.declared.sizes.SizeError.{SizeError}
 use Rattle.marks.specs.declared.sizes.SizeError.TheVariants.{LongImage, ShortMarks}
-use Rattle.trace_laws.specs.ClaimsSteps.{StartedApart, SteppedApart, RanApart, SweptApart}
+use Rattle.trace_laws.specs.ClaimsSteps.{SizedApart, StartedApart, SteppedApart, RanApart, SweptApart}
+use Rattle.marks.specs.Refusals.{sized_of}
 use Rattle.trace.specs.Run.{ran_of}
 use Rattle.trace.specs.Run as running
 use Rattle.trace.specs.Start.{started_of}
@@ -30,6 +31,18 @@ use Rattle.instruction_laws.proofs.Undone.{undone, number_at, cut}
 
 abbrev size_refused : ℕ → List ℤ → SizeError
 size_refused n vs = cond (eqb n 1) (LongImage (number_at vs 0)) (ShortMarks (number_at vs 0))
+
+abbrev size_answered : Answer (Unit {0}) → Result (Unit {0}) SizeError
+size_answered (accepted u) = Ok u
+size_answered (refused n vs) = Err (size_refused n vs)
+
+size_back : (r : Result (Unit {0}) SizeError) → size_answered (sized_of r) ≡ r
+size_back (Ok u) = refl
+size_back (Err (LongImage n)) = refl
+size_back (Err (ShortMarks n)) = refl
+
+pub sized_apart : SizedApart
+sized_apart = undone sized_of size_answered size_back
 
 abbrev start_answered : Answer ℕ → Result ℕ SizeError
 start_answered (accepted n) = Ok n

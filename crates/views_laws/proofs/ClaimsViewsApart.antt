@@ -12,13 +12,13 @@ use Rattle.instruction_laws.proofs.Undone.{undone, number_at}
 use Rattle.targets.specs.Ways.{places_in, places_named}
 use Rattle.targets.specs.declared.place.Places.{Places}
 use Rattle.targets.specs.declared.place.Places.TheVariants.{Nothing, First, Both}
-use Rattle.views.specs.View.{viewed_of}
+use Rattle.views.specs.View.{viewed_of, checked_of}
 use Rattle.views.specs.declared.view.ViewError.{ViewError}
 use Rattle.views.specs.declared.view.ViewError.TheVariants.{Size, Damaged, NoRoom}
 use Rattle.views.specs.Overlaps.{overlaps_in}
 use Rattle.views.specs.declared.overlaps.Overlaps.{Overlaps}
 use Rattle.views.specs.declared.overlaps.Overlaps.TheVariants as over
-use Rattle.views_laws.specs.ClaimsViews.{ViewedApart, OverlapsApart, PlacesApart}
+use Rattle.views_laws.specs.ClaimsViews.{ViewedApart, CheckedApart, OverlapsApart, PlacesApart}
 
 abbrev answered : Answer ℕ → Result ℕ ViewError
 answered (accepted n) = Ok n
@@ -36,6 +36,23 @@ back (Err (NoRoom n)) = refl
 
 pub viewed_apart : ViewedApart
 viewed_apart = undone viewed_of answered back
+
+abbrev allowed : Answer (Unit {0}) → Result (Unit {0}) ViewError
+allowed (accepted u) = Ok u
+allowed (refused n vs) =
+    cond (eqb n 1) (Err (Size (LongImage (number_at vs 0))))
+    (cond (eqb n 2) (Err (Size (ShortMarks (number_at vs 0))))
+    (cond (eqb n 6) (Err (Damaged (number_at vs 0))) (Err (NoRoom (number_at vs 0)))))
+
+checked : (r : Result (Unit {0}) ViewError) → allowed (checked_of r) ≡ r
+checked (Ok u) = refl
+checked (Err (Size (LongImage n))) = refl
+checked (Err (Size (ShortMarks n))) = refl
+checked (Err (Damaged p)) = refl
+checked (Err (NoRoom n)) = refl
+
+pub checked_apart : CheckedApart
+checked_apart = undone checked_of allowed checked
 
 abbrev overlapping : List ℕ → Overlaps
 overlapping [] = over.Nothing
