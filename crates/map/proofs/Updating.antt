@@ -3,16 +3,17 @@
 use mathlib.Core.Path.{◌≡◌, refl, sym, ap, subst, ◌∙◌}
 use mathlib.Core.Bool.{true, false, not}
 use mathlib.Core.List.{List, [], ◌∷◌, ◌++◌, append_assoc}
-use Prim.Native.Nat.{ℕ, ◌≤◌}
+use Prim.Native.Nat.{ℕ, ◌≤◌, ◌<◌}
 use lib.IntN.{pos}
 use lib.ListN.{length}
-use borrow.Author.Tests.{le-ltb}
+use borrow.Author.Tests.{le-ltb, lt-ltb}
 use Rattle.instruction.specs.Answer.{Answer, accepted, refused, Refusal, refuse, judge, after}
 use Rattle.instruction.proofs.Judging.{pass, stop, done, past_all}
 use Rattle.targets.specs.At.{size_here}
 use Rattle.views.specs.Positions.{traced_at}
 use Rattle.views.specs.View.{Sound, view_refused, view_refusals, room_refusals}
 use Rattle.views.specs.declared.view.ViewError.{ViewError}
+use Rattle.views.specs.declared.view.ViewError.TheVariants.{NoRoom}
 use Rattle.views.proofs.Viewing.{Judged, refused_first, refused_after}
 use Rattle.map.specs.Words.{words_for}
 use Rattle.map.specs.Packed.{covered}
@@ -50,6 +51,11 @@ module _ (image m ws : List ℕ) (p : ℕ) where
   refused_all e f =
       let h : view_refused e ≡ update_answer image m ws p = refused_first roomed untraced (size_here image p) e f ∙ whole in
       (h, refused_after e _ _ ws h)
+
+  pub no_room_lem : Sound image m → length ws < words_for (length image) → Is (refused 11 (pos (words_for (length image)) ∷ [])) ws
+  no_room_lem s h =
+      refused_all (NoRoom (words_for (length image)))
+      (sym (past_all _ 0 tt (view_refusals image m) s ∙ stop _ _ _ (lt-ltb (length ws) (words_for (length image)) h)))
 
   module _ (s : Judged roomed (accepted tt)) where
     rest : update_answer image m ws p ≡ judge untraced (size_here image p)
