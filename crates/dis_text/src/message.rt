@@ -1,5 +1,5 @@
 // The line that says what is wrong.
-ghost use Rattle.std.specs.Prelude.{◌≡◌, [], ◌+◌, ◌≤◌, length};
+ghost use Rattle.std.specs.Prelude.{◌≡◌, [], ◌∷◌, ◌+◌, ◌≤◌, length};
 ghost use Rattle.instruction.specs.Answer.{refused};
 ghost use Rattle.views.specs.View.{room_after};
 ghost use Rattle.text.specs.Puts.{Puts};
@@ -12,7 +12,7 @@ ghost use Rattle.dis_text.specs.Told.{number_of, values_of, cut_reason, bad_reas
 use crate::shown::Shown;
 use instruction::CutOff;
 use list_text::decimal;
-use listing::put;
+use listing::hex1;
 use marks::SizeError;
 use trace::RunError;
 use views::ViewError;
@@ -26,6 +26,17 @@ pub enum DisError {
     Bad(usize),
 }
 
+// Writes a byte at a place, if that is inside the room; the next place.
+fn put_byte(room: &mut [u8], at: usize, b: u8) -> usize
+    requires { at ≤ 2000 }
+    ensures { Puts (b ∷ []) at room.old room.new result }
+{
+    if at < room.len() {
+        room[at] = b;
+    }
+    at + 1
+}
+
 // Writes a text at a place; the next place. What falls past the end of the room is counted and not written.
 fn put(text: &[u8], room: &mut [u8], at: usize) -> usize
     requires { (at ≤ 1000) × (length text.now ≤ 1000) }
@@ -33,7 +44,7 @@ fn put(text: &[u8], room: &mut [u8], at: usize) -> usize
 {
     let mut to = at;
     for b in text {
-        to = put::put_byte(room, to, *b);
+        to = put_byte(room, to, *b);
     }
     to
 }
@@ -54,7 +65,8 @@ fn put_position(p: u32, room: &mut [u8], at: usize) -> usize
     requires { at ≤ 1000 }
     ensures { Puts (hex4 p) at room.old room.new result }
 {
-    put::put_hex4(room, at, p)
+    let digits = [hex1(p / 4096), hex1(p / 256), hex1(p / 16), hex1(p)];
+    put(&digits, room, at)
 }
 
 // Where an instruction is cut off, and how many bytes are missing.

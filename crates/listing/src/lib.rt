@@ -6,7 +6,7 @@ pub mod code;
 pub mod hex;
 mod lines;
 mod operands;
-pub mod put;
+mod put;
 mod rooms;
 pub mod tabbed;
 mod walk;
