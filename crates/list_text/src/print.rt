@@ -1,6 +1,9 @@
 // What the listing program prints.
 ghost use Rattle.std.specs.Prelude.{◌≡◌, [], ◌≤◌, length};
 ghost use Rattle.views.specs.View.{viewed_of, room_answer, room_after};
+ghost use Rattle.instruction.specs.declared.mode.Mode.TheVariants.{Unwrapped};
+ghost use Rattle.listing.specs.Walk.{listing_answer, listing_room};
+ghost use Rattle.listing.specs.declared.tabbed.Arrivals.TheVariants.{Declined};
 ghost use Rattle.list_text.specs.Output.{output_text, traced_text, output_of};
 
 use crate::parsed::ParseError;
@@ -10,7 +13,15 @@ use marks::SizeError;
 use trace::RunError;
 use views::ViewError;
 
-// The listing of a run in this image from these entries, without arrivals, or the line of a refusal.
+// The listing that the program prints: without arrivals.
+fn show(image: &[u8], marks: &[u8], room: &mut [u8]) -> Result<usize, ViewError>
+    ensures result_value { viewed_of result ≡ listing_answer Unwrapped image.now marks.now Declined room.old }
+    ensures room_after { room.new ≡ listing_room Unwrapped image.now marks.now Declined room.old }
+{
+    listing::listing_declined(Mode::Unwrapped, image, marks, room)
+}
+
+// The listing of a run in this image from these entries, or the line of a refusal.
 fn list_image(image: &[u8], entries: &[u32], room: &mut [u8]) -> Result<usize, ViewError>
     requires { length image.now ≤ 16384 }
     ensures result_value { viewed_of result ≡ room_answer [] (output_text (traced_text image.now entries.now)) room.old }
@@ -28,7 +39,7 @@ fn list_image(image: &[u8], entries: &[u32], room: &mut [u8]) -> Result<usize, V
         &[],
         n as u32,
     ) {
-        Ok(_) => listing::listing_declined(Mode::Unwrapped, image, &marks[..n], room),
+        Ok(_) => show(image, &marks[..n], room),
         Err(RunError::Size(SizeError::LongImage(_))) => refusal::put_number(1, room),
         Err(RunError::Size(SizeError::ShortMarks(_))) => refusal::put_number(2, room),
         Err(RunError::ShortOrder(_)) => refusal::put_number(3, room),

@@ -30,8 +30,8 @@ pub slice_bounds-marks-end-in-Ok : goal.slice_bounds-marks-end-in-Ok
 slice_bounds-marks-end-in-Ok c =
     within c.args.image.now 16384 c.requires c.bytes-marks.result c.bytes-marks.ensures c.run.new.marks c.run.auto.marks
 
-pub slice_bounds-listing_declined-end : goal.slice_bounds-listing_declined-end
-slice_bounds-listing_declined-end c =
+pub slice_bounds-show-end : goal.slice_bounds-show-end
+slice_bounds-show-end c =
     sized c.args.image.now 16384 c.requires c.bytes-marks.result c.bytes-marks.ensures c.run.new.marks c.run.auto.marks
 
 pub returns-in-Ok : goal.returns-in-Ok
@@ -44,7 +44,7 @@ returns-in-Ok c =
     let l = listed_run Unwrapped image a.entries.now [] Declined (omega (arith, c.requires)) _ _ (lent_is image 16384 c.requires c.bytes-marks.result b)
     (lent_is image 16384 c.requires c.positions-order.result c.positions-order.ensures) r.0 (sym r.1 ∙ c.in-Ok.ensures.result_value) _
     (front ∙ c.run.ensures.marks_after) (ap length front ∙ c.run.auto.marks) _ _ a.room.now
-    (c.listing_declined.ensures.result_value, c.listing_declined.ensures.room_after) in
+    (c.show.ensures.result_value, c.show.ensures.room_after) in
     let h = said (listing_of Unwrapped image (take (length image) (c.run.new.marks ++ drop (length image) c.bytes-marks.result)) Declined) _
     (sym (ap output_text l.0)) _ _ a.room.now (l.1, l.2) in
     record { result_value = h.0; room_after = h.1 }
