@@ -70,6 +70,11 @@ module _ (n : List ℕ) where
   unfolding is_name
   all_letters g h e = rw (le-leb 1 (length n) (omega arith), le-leb (length n) 32 h, sym (all_as n) ∙ e)
 
+pub too_short_lem : (l : List ℕ) → length l < 3 → is_name_line l ≡ false
+unfolding is_name_line
+too_short_lem l h =
+    not_second (eqb (get_or l 0 0) 78) _ (not_second (eqb (get_or l 1 0) 9) _ (no_letter (name_in l) (omega (arith, length-drop 2 l))))
+
 module _ (l n : List ℕ) (s : pointwise eqb (take 2 l) (78 ∷ 9 ∷ []) ≡ true) (e : n ≡ name_in l) where
   from_name : (b : Bool) → is_name n ≡ b → is_name_line l ≡ b
   from_name b h = started l s ∙ ap is_name (sym e) ∙ h

@@ -1,6 +1,6 @@
 -- What is claimed of a report. Document 02, W14.
 -- Assumes nothing.
-use Rattle.std.specs.Prelude.{ℕ, ◌+◌, ◌≤◌, Bool, true, false, List, [], ◌∷◌, ◌++◌, ◌⊎◌, ◌≡◌, ℤ, length}
+use Rattle.std.specs.Prelude.{ℕ, ◌+◌, ◌≤◌, Bool, true, false, List, [], ◌∷◌, ◌++◌, ◌⊎◌, ◌≡◌, ℤ, length, Result}
 use Rattle.instruction.specs.Answer.{Answer, accepted, refused, Apart}
 use Rattle.list_text.specs.Refusal.{number_line}
 use Rattle.list_text.specs.Text.{first}
@@ -8,13 +8,21 @@ use Rattle.report_text.specs.Figures.{code_bytes, data_bytes}
 use Rattle.report_text.specs.Name.{name_of}
 use Rattle.report_text.specs.Image.{reported_of, image_answer}
 use Rattle.report_text.specs.Sums.{no_sums, adding, fitting}
+use Rattle.report_text.specs.Term.{taken_of, used_of, term_of}
 use Rattle.report_text.specs.Report.{image_line, total_line, reported}
 use Rattle.report_text.specs.declared.figures.Figures.{Figures}
 use Rattle.report_text.specs.declared.sums.Sums.{Sums}
+use Rattle.report_text.specs.declared.term.Term.{Term}
+use Rattle.report_text.specs.declared.term.Taken.{Taken}
+use Rattle.views.specs.declared.view.ViewError.{ViewError}
 
 -- the number and values of the answers tell all cases and all values apart
 abbrev pub ReportedApart : Type 0
 ReportedApart = Apart reported_of
+
+-- and what one call took, how many bytes it used and the record after it leave one answer
+abbrev pub TakenApart : Type 0
+TakenApart = (t : Term) (r s : Result Taken ViewError) → taken_of r ≡ taken_of s → used_of r ≡ used_of s → term_of r t ≡ term_of s t → r ≡ s
 
 -- code and data bytes add up to the length
 abbrev pub CodeAndData : Type 0
