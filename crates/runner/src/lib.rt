@@ -3,17 +3,17 @@
 #![tactic(auto)]
 
 pub mod call;
-mod digits;
-mod entries;
+pub mod digits;
+pub mod entries;
 mod input;
 pub mod ring;
 mod room;
-mod sum;
+pub mod sum;
 mod tally;
 
-pub use digits::{decimal_digit, hex_digit, number};
+pub use digits::{Numeral, decimal_digit, hex_digit, number};
 pub use entries::Entries;
 pub use input::{read_file, read_full};
-pub use room::{copy, filled, put};
+pub use room::{copy, filled, put_hex};
 pub use sum::checksum;
 pub use tally::Tally;

@@ -1,7 +1,9 @@
 // Rooms of fixed length, and what is put into them.
-ghost use Rattle.std.specs.Prelude.{◌≡◌, ℕ, ◌+◌, ◌-◌, ◌≤◌, min, List, length, replicate};
+ghost use Rattle.std.specs.Prelude.{◌≡◌, ◌+◌, ◌-◌, min, length, replicate};
 ghost use Rattle.std.proofs.lemmas.List.Edits.{sets};
-ghost use Rattle.std.specs.Iterator.{DrainsIf, IsFinite};
+ghost use Rattle.runner.specs.Digits.{in_pairs};
+
+use crate::digits;
 
 // A room that holds this item everywhere.
 pub fn filled<T: Copy, const N: usize>(item: T) -> [T; N]
@@ -23,18 +25,17 @@ pub fn copy<T: Copy>(part: &[T], at: usize, room: &mut [T]) -> usize
     at + n
 }
 
-// Puts bytes at a place, as far as there is room: the next place.
-pub fn put<I: Iterator<Item = u8>>(bytes: I, at: usize, room: &mut [u8]) -> usize
-    requires { I.Iterator.can_next bytes × IsFinite (I.Iterator.remaining bytes) }
-    ensures { (xs : List ℕ) × DrainsIf I.Iterator.next_gives (length xs ≤ length room.old - at) bytes xs
-        × (room.new ≡ sets room.old at xs) × (result ≡ at + min (length xs) (length room.old - at)) }
+// Puts the bytes that are written in hex at a place, as far as there is room: the next place.
+pub fn put_hex(digits: &[u8], at: usize, room: &mut [u8]) -> usize
+    ensures room_after { room.new ≡ sets room.old at (in_pairs digits.now) }
+    ensures next { result ≡ at + min (length (in_pairs digits.now)) (length room.old - at) }
 {
     let mut next = at;
-    for b in bytes {
+    for pair in digits.chunks(2) {
         if room.len() <= next {
             return next;
         }
-        room[next] = b;
+        room[next] = digits::byte(pair);
         next += 1;
     }
     next

@@ -1,9 +1,7 @@
 // What the lines of a case say, and whether it holds.
-ghost use Rattle.std.specs.Prelude.{◌<◌};
-
 use crate::listings::{Listings, Output};
 use instruction::Mode;
-use runner::{Entries, Tally, call};
+use runner::{Entries, Numeral, Tally, call};
 
 // What is given stands in one room: the input or the image, then the marks or the words, then the output's beginning.
 #[derive(Clone, Copy)]
@@ -47,18 +45,15 @@ fn meant(b: u8) -> u8 {
     }
 }
 
-fn hex_digit(b: u8) -> u8
-    ensures { result < 16 }
-{
-    runner::hex_digit(b).unwrap_or(0)
-}
-
-// The byte of two hex digits; 0 for one.
-fn in_hex(digits: &[u8]) -> u8 {
-    match digits {
-        [high, low] => hex_digit(*high) * 16 + hex_digit(*low),
-        _ => 0,
+// Puts the bytes that the characters of a text stand for at a place, as far as there is room: the next place.
+fn put_meant(text: &[u8], at: usize, given: &mut [u8]) -> usize {
+    let end = runner::copy(text, at, given);
+    if let Some(copied) = given.get_mut(at..end) {
+        for b in copied {
+            *b = meant(*b);
+        }
     }
+    end
 }
 
 // Nothing where there is no such part.
@@ -67,18 +62,22 @@ fn part(given: &[u8], from: usize, to: usize) -> &[u8] {
 }
 
 fn number(digits: &[u8]) -> usize {
-    runner::number(digits, |b| runner::hex_digit(b))
+    runner::number(digits, Numeral::Hex)
 }
 
 impl Case {
-    // Puts a part as often as it is meant: where what is given ends.
+    // Puts a part as often as it is meant, or until no more of it is put: where what is given ends.
     fn put(&self, letter: u8, rest: &[u8], given: &mut [u8]) -> usize {
         let mut end = self.told;
         for _ in 0..self.times {
-            end = match letter {
-                b'B' | b'M' => runner::put(rest.chunks(2).map(in_hex), end, given),
-                _ => runner::put(rest.iter().map(|b| meant(*b)), end, given),
+            let next = match letter {
+                b'B' | b'M' => runner::put_hex(rest, end, given),
+                _ => put_meant(rest, end, given),
             };
+            if next == end {
+                return end;
+            }
+            end = next;
         }
         end
     }

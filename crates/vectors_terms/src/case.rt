@@ -4,7 +4,7 @@ ghost use Rattle.std.specs.Prelude.{◌<◌};
 use crate::blocks;
 use report_text::Term;
 use runner::call::{Call, CallError};
-use runner::{Entries, Tally, call};
+use runner::{Entries, Numeral, Tally, call};
 use views::ViewError;
 
 // What is given stands in one room: the text, then the output's beginning.
@@ -57,8 +57,19 @@ fn meant(b: u8) -> u8 {
     }
 }
 
+// Puts the bytes that the characters of a text stand for at a place, as far as there is room: the next place.
+fn put_meant(text: &[u8], at: usize, given: &mut [u8]) -> usize {
+    let end = runner::copy(text, at, given);
+    if let Some(copied) = given.get_mut(at..end) {
+        for b in copied {
+            *b = meant(*b);
+        }
+    }
+    end
+}
+
 fn number(digits: &[u8]) -> usize {
-    runner::number(digits, |b| runner::decimal_digit(b))
+    runner::number(digits, Numeral::Decimal)
 }
 
 // Nothing where there is no such part.
@@ -106,11 +117,15 @@ impl Told<'_> {
 }
 
 impl Case {
-    // Puts a part as often as it is meant: where what is given ends.
+    // Puts a part as often as it is meant, or until no more of it is put: where what is given ends.
     fn put(&self, rest: &[u8], given: &mut [u8]) -> usize {
         let mut end = self.told;
         for _ in 0..self.times {
-            end = runner::put(rest.iter().map(|b| meant(*b)), end, given);
+            let next = put_meant(rest, end, given);
+            if next == end {
+                return end;
+            }
+            end = next;
         }
         end
     }

@@ -10,13 +10,13 @@ laid j a k front ys last e h =
     let t : take a (front ++ ys) ≡ front ++ take j ys = ap (λ n. take n (front ++ ys)) e ∙ take-append-add front ys j in
     let d : post_of a k (front ++ ys) ≡ [] = drop_of_length-le (drop a (front ++ ys)) (omega (arith, length-drop a (front ++ ys))) in rw (t, d) (simp (append_assoc, append-nil))
 
-pub returns : goal.returns
-returns c =
+pub returns-clause-laid : goal.returns-clause-laid
+returns-clause-laid c ring =
     let a = c.args in
     let n = length a.room.now in
     let front = c.copy_from_slice.new.self in
     let five : length front ≡ 5 = search rules in
-    let h : 10 ≤ n = search rules in
+    let h : 10 ≤ n = ring.1 in
     let all : length (front ++ drop 5 a.room.now) ≡ n = length-append front (drop 5 a.room.now) ∙ omega (arith, length-drop 5 a.room.now) in
     let e = laid (n - 5 - 5) (n - 5) (length (front ++ drop 5 a.room.now) - (n - 5)) front (drop 5 a.room.now) c.copy_from_slice-2.new.self (omega arith) (omega arith) in
     let first : front ≡ drop 5 a.ten.now =
