@@ -9,7 +9,9 @@ const LONGEST: usize = 65_536;
 
 const RET: u8 = 0xA0;
 
-// The answer's value is the length of the image, which no byte of a line can tell.
+// The answer's value is the length of the image, which no byte of a line can tell. Neither of these two is compiled into its caller, so that a
+// list without such lines takes no stack for their images.
+#[inline(never)]
 pub fn target_marks_hold(line: &Line, mode: u32) -> bool {
     let mut image: [u8; LONGEST] = runner::filled(RET);
     ring::lay(line.image(), &mut image);
@@ -33,6 +35,7 @@ fn place(b: u8) -> u32 {
     }
 }
 
+#[inline(never)]
 pub fn arrivals_hold(line: &Line, mode: u32) -> bool {
     let mut image: [u8; LONGEST] = runner::filled(RET);
     ring::lay(line.image(), &mut image);
