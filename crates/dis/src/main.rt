@@ -2,6 +2,8 @@
 // to standard output, what is wrong to standard error.
 #![tactic(auto)]
 
+ghost use Rattle.std.specs.Prelude.{◌≡◌, length};
+
 use dis_text::Shown;
 use std::env::FillError;
 use std::fmt::InlineText;
@@ -14,6 +16,19 @@ const IMAGE: usize = 65_537;
 
 // 77 bytes for each of 65,536 positions, as long as an output can be: DisFits in crates/dis_text/specs.
 const OUTPUT: usize = 5_046_272;
+
+// The rooms have these lengths by contract, so that no slip in a number above is compiled.
+fn image() -> [u8; IMAGE]
+    ensures { 65537 ≡ length result }
+{
+    [0; IMAGE]
+}
+
+fn output() -> [u8; OUTPUT]
+    ensures { 5046272 ≡ length result }
+{
+    [0; OUTPUT]
+}
 
 // How many arguments there are, the program's own name among them.
 fn arg_count(rt: &HostRuntime) -> usize {
@@ -74,10 +89,10 @@ fn open_read(rt: &HostRuntime, name: &[u8]) -> io::Result<File> {
 
 // Reads the file and shows what is made of it. Not in `dis`, where Rattle's own compiler would have the output on the stack twice.
 fn read(rt: &HostRuntime, mut file: File, words: &[u8]) -> io::Result<()> {
-    let mut image: [u8; IMAGE] = runner::filled(0);
+    let mut image = image();
     let n = runner::read_full(&mut file, &mut image)?;
     drop(file);
-    let mut out: [u8; OUTPUT] = runner::filled(0);
+    let mut out = output();
     show(rt, words, &image[..n], &mut out)
 }
 

@@ -1,6 +1,8 @@
 // The listing program: reads standard input, calls the one function that makes the output of it, and writes that.
 #![tactic(auto)]
 
+ghost use Rattle.std.specs.Prelude.{◌≡◌, length};
+
 use std::io;
 
 // One byte more than the longest input that is not malformed: what is longer is refused with 13 by what was read of it.
@@ -8,6 +10,19 @@ const INPUT: usize = 50_433;
 
 // As long as an output can be: OutputFits in crates/list_text/specs.
 const OUTPUT: usize = 983_040;
+
+// The rooms have these lengths by contract, so that no slip in a number above is compiled.
+fn input() -> [u8; INPUT]
+    ensures { 50433 ≡ length result }
+{
+    [0; INPUT]
+}
+
+fn output() -> [u8; OUTPUT]
+    ensures { 983040 ≡ length result }
+{
+    [0; OUTPUT]
+}
 
 fn show(rt: &HostRuntime, text: &[u8], out: &mut [u8]) -> io::Result<()> {
     if let Ok(n) = list_text::list_text(text, out)
@@ -19,8 +34,8 @@ fn show(rt: &HostRuntime, text: &[u8], out: &mut [u8]) -> io::Result<()> {
 }
 
 fn main(rt: HostRuntime) -> io::Result<()> {
-    let mut text: [u8; INPUT] = runner::filled(0);
+    let mut text = input();
     let n = runner::read_full(&mut rt.stdin(), &mut text)?;
-    let mut out: [u8; OUTPUT] = runner::filled(0);
+    let mut out = output();
     show(&rt, &text[..n], &mut out)
 }

@@ -2,6 +2,8 @@
 // argument is the image's length.
 #![tactic(auto)]
 
+ghost use Rattle.std.specs.Prelude.{◌≡◌, length};
+
 use std::io;
 use std::rt::Env;
 
@@ -10,6 +12,19 @@ const LISTING: usize = 5_046_273;
 
 // The image lines of 65,536 bytes.
 const OUTPUT: usize = 133_120;
+
+// The rooms have these lengths by contract, so that no slip in a number above is compiled.
+fn listing() -> [u8; LISTING]
+    ensures { 5046273 ≡ length result }
+{
+    [0; LISTING]
+}
+
+fn output() -> [u8; OUTPUT]
+    ensures { 133120 ≡ length result }
+{
+    [0; OUTPUT]
+}
 
 fn show(rt: &HostRuntime, text: &[u8], length: usize, out: &mut [u8]) -> io::Result<()> {
     if let Ok(n) = unlist_text::unlist_text(text, length, out)
@@ -21,14 +36,14 @@ fn show(rt: &HostRuntime, text: &[u8], length: usize, out: &mut [u8]) -> io::Res
 }
 
 fn unlist(rt: &HostRuntime, length: usize) -> io::Result<()> {
-    let mut text: [u8; LISTING] = runner::filled(0);
+    let mut text = listing();
     let n = runner::read_full(&mut rt.stdin(), &mut text)?;
     if n == text.len() {
         return rt
             .stderr()
             .write_all(b"unlist: the listing is longer than 5046272 bytes\n");
     }
-    let mut out: [u8; OUTPUT] = runner::filled(0);
+    let mut out = output();
     show(rt, &text[..n], length, &mut out)
 }
 
