@@ -24,8 +24,11 @@ fn output() -> [u8; OUTPUT]
     [0; OUTPUT]
 }
 
-fn show(rt: &HostRuntime, text: &[u8], out: &mut [u8]) -> io::Result<()> {
-    if let Ok(n) = list_text::list_text(text, out)
+// Not in `main`, where the room for the output would be filled before the input is read, and once more after it.
+#[inline(never)]
+fn show(rt: &HostRuntime, text: &[u8]) -> io::Result<()> {
+    let mut out = output();
+    if let Ok(n) = list_text::list_text(text, &mut out)
         && let Some(written) = out.get(..n)
     {
         rt.write_all(written)?;
@@ -36,6 +39,5 @@ fn show(rt: &HostRuntime, text: &[u8], out: &mut [u8]) -> io::Result<()> {
 fn main(rt: HostRuntime) -> io::Result<()> {
     let mut text = input();
     let n = runner::read_full(&mut rt.stdin(), &mut text)?;
-    let mut out = output();
-    show(&rt, &text[..n], &mut out)
+    show(&rt, &text[..n])
 }
