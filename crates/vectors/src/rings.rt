@@ -1,6 +1,8 @@
 // A trace of an image of the longest length over the end of memory, by a run, by sweeps or by one step. A line packs it as it does that of a
 // short image. Its ten bytes are the last five of the image and then the first five, all others are Ret; the ten positions of the order list
 // and of the marks are the same ten, and no other is to be come to.
+ghost use Rattle.std.specs.Prelude.{◌≡◌, length};
+
 use crate::narrow::{hex_digits, narrow};
 use crate::traces;
 use crate::traces::{OLD_MARK, OLD_PLACE, PAST, Trace, Way};
@@ -10,6 +12,25 @@ use runner::ring;
 const LONGEST: usize = 65_536;
 
 const RET: u8 = 0xA0;
+
+// The rooms have this length by contract, so that no slip in the number is compiled.
+fn image_room() -> [u8; LONGEST]
+    ensures { 65536 ≡ length result }
+{
+    runner::filled(RET)
+}
+
+fn marks_room() -> [u8; LONGEST]
+    ensures { 65536 ≡ length result }
+{
+    runner::filled(OLD_MARK)
+}
+
+fn order_room() -> [u32; LONGEST]
+    ensures { 65536 ≡ length result }
+{
+    runner::filled(OLD_PLACE)
+}
 
 // What stands in the order list for a digit of a line: the position of a place, or what stood there before.
 fn noted(digit: u8) -> u32 {
@@ -40,10 +61,10 @@ pub fn holds(way: Way, mode: u32, numbers: &[i64; 11]) -> bool {
         entries: [a, b],
         pins: [PAST; 2],
     };
-    let mut image: [u8; LONGEST] = runner::filled(RET);
+    let mut image = image_room();
     ring::lay(&traces::image(numbers[1], numbers[2]), &mut image);
-    let mut marks: [u8; LONGEST] = runner::filled(OLD_MARK);
-    let mut order: [u32; LONGEST] = runner::filled(OLD_PLACE);
+    let mut marks = marks_room();
+    let mut order = order_room();
     let mut answer = [0; 5];
     let number = trace.ask(&image, &mut marks, &mut order, &mut answer);
     are_marks(&marks, numbers[10])
