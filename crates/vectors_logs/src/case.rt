@@ -1,5 +1,5 @@
 // What the lines of a case say, and whether it holds.
-ghost use Rattle.std.specs.Prelude.{◌≤◌};
+ghost use Rattle.std.specs.Prelude.{◌≡◌, ◌≤◌, length};
 
 use crate::log::Lent;
 use crate::number;
@@ -15,6 +15,13 @@ pub const HALF: usize = 70_000;
 
 // A count before, where no other is told.
 pub const OLD: u64 = 7;
+
+// The counts now. The room has this length by contract, so that no slip in the number above is compiled.
+fn now_room() -> [u64; HALF]
+    ensures { 70000 ≡ length result }
+{
+    runner::filled(0)
+}
 
 #[derive(Clone, Copy)]
 struct Case {
@@ -176,7 +183,7 @@ impl<'a> List<'a> {
     }
 
     fn holds(&self, wanted: Result<Totals, ReplayError>) -> bool {
-        let mut now: [u64; HALF] = runner::filled(0);
+        let mut now = now_room();
         let Some(now) = now.get_mut(..self.case.counts) else {
             return false;
         };

@@ -2,6 +2,8 @@
 // The list was made by `compare/run --logs SRC`; data/ABOUT describes its lines.
 #![tactic(auto)]
 
+ghost use Rattle.std.specs.Prelude.{◌≡◌, length};
+
 mod case;
 mod log;
 mod number;
@@ -20,16 +22,48 @@ const GIVEN: usize = 140_000;
 
 const ENTRIES: usize = 100;
 
+// The rooms have these lengths by contract, so that no slip in a number above is compiled.
+fn list_room() -> [u8; LIST]
+    ensures { 100000 ≡ length result }
+{
+    runner::filled(0)
+}
+
+fn text_room() -> [u8; TEXT]
+    ensures { 1000 ≡ length result }
+{
+    runner::filled(0)
+}
+
+fn given_room() -> [u8; GIVEN]
+    ensures { 140000 ≡ length result }
+{
+    runner::filled(0)
+}
+
+fn entries_room() -> [u32; ENTRIES]
+    ensures { 100 ≡ length result }
+{
+    runner::filled(0)
+}
+
+// The counts before, or those that are wanted.
+fn counts_room() -> [u64; case::HALF]
+    ensures { 70000 ≡ length result }
+{
+    runner::filled(case::OLD)
+}
+
 fn main(rt: HostRuntime) -> io::Result<()> {
-    let mut room: [u8; LIST] = runner::filled(0);
+    let mut room = list_room();
     let Some(list) = runner::read_file(&rt, "logs", &mut room)? else {
         return println!(rt; "logs: too long");
     };
-    let mut text: [u8; TEXT] = runner::filled(0);
-    let mut given: [u8; GIVEN] = runner::filled(0);
-    let mut entries: [u32; ENTRIES] = runner::filled(0);
-    let mut before: [u64; case::HALF] = runner::filled(case::OLD);
-    let mut after: [u64; case::HALF] = runner::filled(case::OLD);
+    let mut text = text_room();
+    let mut given = given_room();
+    let mut entries = entries_room();
+    let mut before = counts_room();
+    let mut after = counts_room();
     let mut cases = List::new(&mut text, &mut given, &mut entries, &mut before, &mut after);
     println!(rt; "logs: {}", case::replay(list, &mut cases))
 }
