@@ -1,5 +1,5 @@
 // What the lines of a case say, and whether it holds.
-ghost use Rattle.std.specs.Prelude.{◌≤◌};
+ghost use Rattle.std.specs.Prelude.{◌≡◌, ◌≤◌, length};
 
 use crate::answers;
 use instruction::Mode;
@@ -9,6 +9,13 @@ use text::{bytes, cut, four};
 
 // A room longer than any of the list; and where the marks begin in what is wanted, after the image.
 pub const HALF: usize = 70_000;
+
+// The room has this length by contract, so that no slip in the number above is compiled.
+fn room() -> [u8; HALF]
+    ensures { 70000 ≡ length result }
+{
+    runner::filled(answers::OLD)
+}
 
 #[derive(Clone, Copy)]
 struct Case {
@@ -102,8 +109,8 @@ fn holds(
     let Some(text) = text.get(..c.text) else {
         return false;
     };
-    let mut image: [u8; HALF] = runner::filled(answers::OLD);
-    let mut marks: [u8; HALF] = runner::filled(answers::OLD);
+    let mut image = room();
+    let mut marks = room();
     let told = c.ask(text, &mut image, &mut marks);
     let n = if answer.is_ok() { c.length } else { 0 };
     told == answer
