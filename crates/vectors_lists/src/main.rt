@@ -2,6 +2,8 @@
 // The list was made by `compare/run --lists SRC`; data/ABOUT describes its lines.
 #![tactic(auto)]
 
+ghost use Rattle.std.specs.Prelude.{◌≡◌, length};
+
 mod case;
 mod listings;
 
@@ -13,12 +15,25 @@ const SMALL: usize = 140_000;
 // Two bytes more than any output: 77 for each of 65,536 positions, DisFits in crates/dis_text/specs.
 const LARGE: usize = 5_046_274;
 
+// The rooms have these lengths by contract, so that no slip in a number above is compiled.
+fn small() -> [u8; SMALL]
+    ensures { 140000 ≡ length result }
+{
+    runner::filled(0)
+}
+
+fn large() -> [u8; LARGE]
+    ensures { 5046274 ≡ length result }
+{
+    runner::filled(0)
+}
+
 fn main(rt: HostRuntime) -> io::Result<()> {
-    let mut room: [u8; SMALL] = runner::filled(0);
+    let mut room = small();
     let Some(list) = runner::read_file(&rt, "lists", &mut room)? else {
         return println!(rt; "listings: too long");
     };
-    let mut given: [u8; SMALL] = runner::filled(0);
-    let mut room: [u8; LARGE] = runner::filled(0);
+    let mut given = small();
+    let mut room = large();
     println!(rt; "listings: {}", case::replay(list, &mut given, &mut room))
 }
