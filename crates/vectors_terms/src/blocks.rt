@@ -1,6 +1,7 @@
 // A term in blocks.
 ghost use Rattle.std.specs.Prelude.{◌<◌};
 
+use crate::rooms;
 use report_text::{Term, term};
 
 // The record after a block, and where what was printed ends: as many calls as the block needs; none where one takes nothing or more than
@@ -31,8 +32,8 @@ fn feed(
 pub fn report(before: Term, size: usize, text: &[u8], room: &mut [u8]) -> Option<usize>
     requires { 0 < size }
 {
-    let mut held: [u8; Term::MOST] = runner::filled(0);
-    let mut line: [u8; Term::MOST_PRINTED] = runner::filled(0);
+    let mut held = rooms::held();
+    let mut line = rooms::printed();
     let mut fed = (before, 0);
     for block in text.chunks(size) {
         fed = feed(fed, block, &mut held, &mut line, room)?;

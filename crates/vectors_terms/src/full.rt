@@ -1,6 +1,6 @@
 // Sums that are nearly full, which no text reaches. For each of the eight: where the image just fits, its line and the sums are printed; with
 // one more, 22 alone, whatever follows.
-ghost use Rattle.std.specs.Prelude.{◌<◌, ◌≤◌};
+ghost use Rattle.std.specs.Prelude.{◌<◌, ◌≡◌, ◌≤◌, length};
 
 use crate::blocks;
 use report_text::{Sums, Term};
@@ -14,6 +14,13 @@ const BLOCK: usize = 7;
 
 // As long as what is printed of one image and the sums can be.
 const PRINTED: usize = Term::MOST_PRINTED;
+
+// The room has this length by contract, so that no slip in the constant above is compiled.
+fn room() -> [u8; PRINTED]
+    ensures { 512 ≡ length result }
+{
+    runner::filled(0)
+}
 
 // What is printed of a text of one image, and what is printed last where all sums were 0 before.
 #[derive(Clone, Copy)]
@@ -98,7 +105,7 @@ impl Case {
         let Some((before, added, after)) = self.around(at) else {
             return false;
         };
-        let mut room: [u8; PRINTED] = runner::filled(0);
+        let mut room = room();
         let Some(n) = blocks::report(begun(at, u64::MAX - added), BLOCK, self.text, &mut room)
         else {
             return false;
@@ -118,7 +125,7 @@ impl Case {
         if added == 0 {
             return false;
         }
-        let mut room: [u8; PRINTED] = runner::filled(0);
+        let mut room = room();
         let before = begun(at, u64::MAX - (added - 1));
         let n = blocks::report(before, BLOCK, text, &mut room);
         let printed = b"R\t22\n";

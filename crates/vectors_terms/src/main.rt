@@ -6,23 +6,18 @@
 mod blocks;
 mod case;
 mod full;
+mod rooms;
 mod short;
 
 use std::io;
 
-// More than the list has, and more than any of its cases is given.
-const GIVEN: usize = 120_000;
-
-// More than any output.
-const OUTPUT: usize = 210_000;
-
 fn main(rt: HostRuntime) -> io::Result<()> {
-    let mut room: [u8; GIVEN] = runner::filled(0);
+    let mut room = rooms::given();
     let Some(list) = runner::read_file(&rt, "terms", &mut room)? else {
         return println!(rt; "terms: too long");
     };
-    let mut given: [u8; GIVEN] = runner::filled(0);
-    let mut room: [u8; OUTPUT] = runner::filled(0);
+    let mut given = rooms::given();
+    let mut room = rooms::output();
     println!(rt; "terms: {}", case::replay(list, &mut given, &mut room))?;
     println!(rt; "sums: {}", full::replay())?;
     println!(rt; "rooms: {}", short::replay())

@@ -1,6 +1,7 @@
 // Rooms of a block and of the end that are one byte too short: refused with what is needed, nothing taken and nothing written.
 ghost use Rattle.std.specs.Prelude.{◌≤◌};
 
+use crate::rooms;
 use report_text::{Term, term};
 use runner::Tally;
 use runner::call::{OLD, is_old};
@@ -24,8 +25,8 @@ fn is_end_refused(need: usize, held: &[u8], line: &mut [u8]) -> bool {
 fn is_refused(n: usize, k: usize, need: usize) -> bool
     requires { (n ≤ 51200) × (k ≤ 512) }
 {
-    let mut held: [u8; Term::MOST] = runner::filled(0);
-    let mut line: [u8; Term::MOST_PRINTED] = runner::filled(0);
+    let mut held = rooms::held();
+    let mut line = rooms::printed();
     let held = &mut held[..n];
     let line = &mut line[..k];
     is_block_refused(need, held, line) && is_end_refused(need, held, line)
