@@ -2,17 +2,17 @@
 -- Assumes nothing.
 use mathlib.Core.Path.{◌≡◌, refl, sym, ap, ◌∙◌}
 use mathlib.Core.Logic.{◌⊎◌, inl, inr}
-use mathlib.Core.Bool.{true, false, cond}
-use mathlib.Core.List.{List, ◌∷◌}
+use mathlib.Core.Bool.{true, false, cond, ◌&&◌}
+use mathlib.Core.List.{List, [], ◌∷◌}
 use Prim.Native.Nat.{ℕ, zero, suc, ◌+◌, ◌*◌, ◌-◌, ◌≤◌, ◌<◌}
 use native.Mathlib.Numerals.{add-one}
 use native.Mathlib.Omega.{arith}
-use borrow.Author.Tests.{lt-ltb, le-ltb, le-leb, lt-leb, leb-true, leb-false}
-use lib.Dec.{leb}
+use borrow.Author.Tests.{ltb-true, lt-ltb, le-ltb, le-leb, lt-leb, leb-true, leb-false}
+use lib.Dec.{leb, ltb}
 use lib.ListN.{length, get_or, drop, drop_of_length-le}
 use lib.Seq.{drop-cons}
 use Rattle.std.specs.Prelude.{Option, Some, None}
-use Rattle.instruction.proofs.Ands.{not_second}
+use Rattle.instruction.proofs.Ands.{first_part, second_part, not_second}
 use Rattle.text.specs.Hex.{within, value_of}
 use Rattle.dis_text.specs.Word.{value_in, all_digits, number_from, is_number, number_in}
 
@@ -50,6 +50,24 @@ four_digits (suc (suc (suc (suc (suc i))))) h = absurd (omega arith)
 
 pub one_more_lem : (i n d : ℕ) → n < most i → d < 16 → n * 16 + d < most (suc i)
 one_more_lem i n d h k = omega arith
+
+-- digits after i others, which stand for n
+pub number_below : (w : List ℕ) (i n : ℕ) → n < most i → all_digits w ≡ true → number_from n w < most (i + length w)
+unfolding all_digits number_from
+number_below [] i n h e = let z : i + 0 ≡ i = omega arith in rw z h
+number_below (b ∷ w) i n h e =
+    let d = ltb-true (value_in b) 16 (first_part (ltb (value_in b) 16) (all_digits w) e) in
+    let z : i + suc (length w) ≡ suc i + length w = omega arith in
+    rw z (number_below w (suc i) (n * 16 + value_in b) (one_more_lem i n (value_in b) h d) (second_part (ltb (value_in b) 16) (all_digits w) e))
+
+-- every number is below 65,536
+pub number_small : (w : List ℕ) → is_number w ≡ true → number_from 0 w < 65536
+unfolding is_number
+number_small w e =
+    let t = first_part (leb 1 (length w) && leb (length w) 4) (all_digits w) e in
+    let few = leb-true (length w) 4 (second_part (leb 1 (length w)) (leb (length w) 4) t) in
+    let less = number_below w 0 0 (omega arith) (second_part (leb 1 (length w) && leb (length w) 4) (all_digits w) e) in
+    omega (arith, four_digits (0 + length w) (omega arith), less)
 
 -- a word from a place on, after digits that stand for n
 abbrev pub rest : ℕ → List ℕ → Option ℕ
