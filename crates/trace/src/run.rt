@@ -108,7 +108,7 @@ fn run_on(
     // The list grows while it is gone through, so no range stands for the loop.
     while head < tail && head < most {
         let p = order[head];
-        // What `?` hands on goes through memory here, and a step of straight code would take up to as long again.
+        // What `?` hands on goes through memory here, and a step of straight code would take twice as long.
         match take_next(mode, image, marks, order, p, tail) {
             Ok(end) => tail = end,
             Err(c) => return Err(RunError::Cut(c)),

@@ -13,7 +13,7 @@ const LONGEST: usize = 65_536;
 
 const RET: u8 = 0xA0;
 
-// The rooms have this length by contract, so that no slip in the number is compiled.
+// The rooms have this length by contract, so that no slip in `LONGEST` is compiled.
 fn image_room() -> [u8; LONGEST]
     ensures { 65536 ≡ length result }
 {

@@ -16,7 +16,7 @@ pub const HALF: usize = 70_000;
 // A count before, where no other is told.
 pub const OLD: u64 = 7;
 
-// The counts now. The room has this length by contract, so that no slip in the number above is compiled.
+// The counts now. The room has this length by contract, so that no slip in `HALF` is compiled.
 fn now_room() -> [u64; HALF]
     ensures { 70000 ≡ length result }
 {
