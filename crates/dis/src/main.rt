@@ -21,13 +21,13 @@ const OUTPUT: usize = 5_046_272;
 fn image() -> [u8; IMAGE]
     ensures { 65537 ≡ length result }
 {
-    [0; IMAGE]
+    runner::filled(0)
 }
 
 fn output() -> [u8; OUTPUT]
     ensures { 5046272 ≡ length result }
 {
-    [0; OUTPUT]
+    runner::filled(0)
 }
 
 // How many arguments there are, the program's own name among them.

@@ -15,13 +15,13 @@ const OUTPUT: usize = 983_040;
 fn input() -> [u8; INPUT]
     ensures { 50433 ≡ length result }
 {
-    [0; INPUT]
+    runner::filled(0)
 }
 
 fn output() -> [u8; OUTPUT]
     ensures { 983040 ≡ length result }
 {
-    [0; OUTPUT]
+    runner::filled(0)
 }
 
 // Not in `main`, where the room for the output would be filled before the input is read, and once more after it.

@@ -17,13 +17,13 @@ const OUTPUT: usize = 133_120;
 fn listing() -> [u8; LISTING]
     ensures { 5046273 ≡ length result }
 {
-    [0; LISTING]
+    runner::filled(0)
 }
 
 fn output() -> [u8; OUTPUT]
     ensures { 133120 ≡ length result }
 {
-    [0; OUTPUT]
+    runner::filled(0)
 }
 
 fn show(rt: &HostRuntime, text: &[u8], length: usize, out: &mut [u8]) -> io::Result<()> {

@@ -6,7 +6,7 @@ use Rattle.runner.specs.Digits.{byte_of, in_pairs}
 use Rattle.runner.proofs.room.put_hex.Goals as goal
 use Rattle.runner.proofs.room.put_hex.Goals.{In-Some}
 
--- what a pair comes first of
+-- the bytes of digits that begin with a pair: that of the pair, and then those of the rest
 first_pair : (pair rest : List ℕ) → length pair ≡ min 2 (length (pair ++ rest)) → 1 ≤ length pair → in_pairs (pair ++ rest) ≡ byte_of pair ∷ in_pairs rest
 first_pair [] rest e h = absurd (omega arith)
 first_pair (b ∷ []) [] e h = refl
