@@ -15,7 +15,7 @@ ghost use Rattle.listing.specs.Lines.{label_line, overlap_line, arrival_line, in
 ghost use Rattle.text.specs.Puts.{Puts};
 
 use crate::chain::Indexed;
-use crate::{operands, put};
+use crate::{operands, pieces};
 use instruction::{Mode, Parts};
 use views::Overlaps;
 
@@ -27,8 +27,8 @@ pub fn put_label(out: &mut [u8], at: usize, p: u32, mark: u8) -> usize
     if mark == 0 {
         return at;
     }
-    let a = put::put_start(out, at, b'L', p);
-    put::put_byte(out, a, b'\n')
+    let a = pieces::put_start(out, at, b'L', p);
+    pieces::put_byte(out, a, b'\n')
 }
 
 // Positions as fields, and the end of the line.
@@ -38,9 +38,9 @@ fn put_places(out: &mut [u8], at: usize, places: &[u32]) -> usize
 {
     let mut a = at;
     for p in places {
-        a = put::put_place(out, a, *p);
+        a = pieces::put_place(out, a, *p);
     }
-    put::put_byte(out, a, b'\n')
+    pieces::put_byte(out, a, b'\n')
 }
 
 fn put_found(out: &mut [u8], at: usize, o: Overlaps) -> usize
@@ -65,7 +65,7 @@ pub fn put_overlaps(image: &[u8], marks: &[u8], out: &mut [u8], at: usize, p: u3
     if o.count() == 0 {
         return at;
     }
-    let a = put::put_start(out, at, b'O', p);
+    let a = pieces::put_start(out, at, b'O', p);
     put_found(out, a, o)
 }
 
@@ -86,12 +86,12 @@ fn put_arrived(lent: &Indexed, out: &mut [u8], at: usize, p: u32, named: u32, fa
     let mut q = c.min(f);
     // The next arrival is the lower of two that are looked up, so there is no range to go through.
     while q < n {
-        a = put::put_place(out, a, q);
+        a = pieces::put_place(out, a, q);
         c = lent.held_past(p, c, q);
         f = lent.fall_past(p, f, q);
         q = c.min(f);
     }
-    put::put_byte(out, a, b'\n')
+    pieces::put_byte(out, a, b'\n')
 }
 
 // `A`, where there are any arrivals.
@@ -106,7 +106,7 @@ pub fn put_arrivals(lent: &Indexed, out: &mut [u8], at: usize, p: u32) -> usize
     if lent.image.len() <= named.min(falls) as usize {
         return at;
     }
-    let a = put::put_start(out, at, b'A', p);
+    let a = pieces::put_start(out, at, b'A', p);
     put_arrived(lent, out, a, p, named, falls)
 }
 
@@ -119,9 +119,9 @@ fn put_parts(mode: Mode, bytes: &[u8], out: &mut [u8], at: usize, p: u32, v: Par
     let n = v.size();
     let word = v.mnemonic();
     let next = p as u64 + n as u64;
-    let a1 = put::put_start(out, at, b'I', p);
-    let a2 = put::put_bytes(out, a1, &bytes[..n]);
-    let a3 = put::put_word(out, a2, word);
+    let a1 = pieces::put_start(out, at, b'I', p);
+    let a2 = pieces::put_bytes(out, a1, &bytes[..n]);
+    let a3 = pieces::put_word(out, a2, word);
     operands::put_operands(out, a3, mode, next, v)
 }
 
@@ -129,7 +129,7 @@ fn put_parts(mode: Mode, bytes: &[u8], out: &mut [u8], at: usize, p: u32, v: Par
 pub fn put_rest(mode: Mode, out: &mut [u8], next: u64, v: Parts) -> usize
     ensures { Puts (rest_alone mode next v) 0 out.old out.new result }
 {
-    let a = put::put_word(out, 0, v.mnemonic());
+    let a = pieces::put_word(out, 0, v.mnemonic());
     operands::put_operands(out, a, mode, next, v)
 }
 
@@ -172,7 +172,7 @@ pub fn put_data(out: &mut [u8], at: usize, p: u32, bytes: &[u8]) -> usize
     if all_zero(bytes) {
         return at;
     }
-    let a = put::put_start(out, at, b'D', p);
-    let b = put::put_bytes(out, a, bytes);
-    put::put_byte(out, b, b'\n')
+    let a = pieces::put_start(out, at, b'D', p);
+    let b = pieces::put_bytes(out, a, bytes);
+    pieces::put_byte(out, b, b'\n')
 }

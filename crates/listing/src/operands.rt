@@ -6,7 +6,7 @@ ghost use Rattle.listing.specs.Alone.{shown_alone, field_alone, operands_alone};
 ghost use Rattle.listing.specs.Operand.{target};
 ghost use Rattle.text.specs.Puts.{Puts};
 
-use crate::put;
+use crate::pieces;
 use instruction::{Kind, Mode, Parts};
 use targets::Image;
 
@@ -18,26 +18,26 @@ fn put_target(out: &mut [u8], at: usize, mode: Mode, next: u64, kind: Kind, z: i
     let t = targets::operand_place(mode, next, kind, z);
     // The definition `operand_place` answers that number where no position is named.
     if Image::NOWHERE <= t {
-        return put::put_byte(out, at, b'?');
+        return pieces::put_byte(out, at, b'?');
     }
-    put::put_hex4(out, at, t)
+    pieces::put_hex4(out, at, t)
 }
 
 fn put_immediate(out: &mut [u8], at: usize, n: u32) -> usize
     requires { at < 2 ^ 59 }
     ensures { Puts (35 ∷ hex2 n) at out.old out.new result }
 {
-    let a = put::put_byte(out, at, b'#');
-    put::put_hex2(out, a, n)
+    let a = pieces::put_byte(out, at, b'#');
+    pieces::put_hex2(out, a, n)
 }
 
 fn put_register(out: &mut [u8], at: usize, n: u32) -> usize
     requires { at < 2 ^ 59 }
     ensures { Puts (64 ∷ 82 ∷ hex1 n ∷ []) at out.old out.new result }
 {
-    let a = put::put_byte(out, at, b'@');
-    let b = put::put_byte(out, a, b'R');
-    put::put_digit(out, b, n)
+    let a = pieces::put_byte(out, at, b'@');
+    let b = pieces::put_byte(out, a, b'R');
+    pieces::put_digit(out, b, n)
 }
 
 // An operand's number without its sign; of those that are shown none is below 0.
@@ -56,9 +56,9 @@ fn put_operand(out: &mut [u8], at: usize, mode: Mode, next: u64, kind: Kind, z: 
     match kind {
         Kind::Absent => at,
         Kind::Immediate => put_immediate(out, at, n),
-        Kind::Direct => put::put_hex3(out, at, n),
+        Kind::Direct => pieces::put_hex3(out, at, n),
         Kind::Register => put_register(out, at, n),
-        Kind::BitNumber => put::put_digit(out, at, n),
+        Kind::BitNumber => pieces::put_digit(out, at, n),
         Kind::Page | Kind::Far | Kind::Short | Kind::Long => {
             put_target(out, at, mode, next, kind, z)
         }
@@ -73,7 +73,7 @@ fn put_field(out: &mut [u8], at: usize, mode: Mode, next: u64, kind: Kind, z: i3
     if !kind.is_given() {
         return at;
     }
-    let a = put::put_byte(out, at, b'\t');
+    let a = pieces::put_byte(out, at, b'\t');
     put_operand(out, a, mode, next, kind, z)
 }
 
@@ -89,5 +89,5 @@ pub fn put_operands(out: &mut [u8], at: usize, mode: Mode, next: u64, v: Parts) 
     let a = put_field(out, at, mode, next, ka, v.a);
     let b = put_field(out, a, mode, next, kb, v.b);
     let c = put_field(out, b, mode, next, kc, v.c);
-    put::put_byte(out, c, b'\n')
+    pieces::put_byte(out, c, b'\n')
 }

@@ -63,7 +63,7 @@ impl Numeral {
 }
 
 // A decimal number, each of whose digits stands for what it stands for in this numeral, or for 0; what is past twelve digits is not read.
-pub fn number(digits: &[u8], numeral: Numeral) -> usize
+pub fn number_by(digits: &[u8], numeral: Numeral) -> usize
     ensures { result ≡ number_from (digit_of numeral) 0 digits.now }
 {
     let mut value: usize = 0;

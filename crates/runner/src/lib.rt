@@ -5,14 +5,16 @@
 pub mod call;
 pub mod digits;
 pub mod entries;
+mod handed;
 mod input;
 pub mod ring;
 mod room;
 pub mod sum;
 mod tally;
 
-pub use digits::{Numeral, decimal_digit, hex_digit, number};
+pub use digits::{Numeral, decimal_digit, hex_digit, number_by};
 pub use entries::Entries;
+pub use handed::{number, put};
 pub use input::{read_file, read_full};
 pub use room::{copy, filled, put_hex};
 pub use sum::checksum;

@@ -62,7 +62,7 @@ fn part(given: &[u8], from: usize, to: usize) -> &[u8] {
 }
 
 fn number(digits: &[u8]) -> usize {
-    runner::number(digits, Numeral::Hex)
+    runner::number_by(digits, Numeral::Hex)
 }
 
 impl Case {

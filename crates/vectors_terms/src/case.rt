@@ -69,7 +69,7 @@ fn put_meant(text: &[u8], at: usize, given: &mut [u8]) -> usize {
 }
 
 fn number(digits: &[u8]) -> usize {
-    runner::number(digits, Numeral::Decimal)
+    runner::number_by(digits, Numeral::Decimal)
 }
 
 // Nothing where there is no such part.

@@ -1,0 +1,14 @@
+-- `pieces::put_hex4` meets its contract.
+-- Assumes nothing.
+use borrow.Author.Rules.{rules}
+use Rattle.listing.specs.Hex.{hex4}
+use Rattle.text.proofs.Putting.{puts_then}
+use Rattle.listing.proofs.pieces.put_hex4.Statement.{statement}
+use Rattle.listing.proofs.pieces.put_hex4.Tie as tie
+
+returns : tie.Need-returns
+unfolding hex4
+returns c = let k = c.before.before in puts_then k.put_digit-a.ensures k.put_hex3.ensures
+
+pub put_hex4_spec : {M : Type 1} → statement M
+put_hex4_spec = tie.close (tie.spec (λ c κs. search rules) (λ c κs. search rules) (λ c. search rules) returns)

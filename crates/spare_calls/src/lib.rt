@@ -1,0 +1,7 @@
+// Tests of public calls of libraries here that no program makes. What is wanted was worked out by hand.
+#![tactic(auto)]
+
+#[cfg(test)]
+mod listing_puts;
+#[cfg(test)]
+mod runner_calls;
