@@ -56,7 +56,7 @@ pub fn put_hex4(out: &mut [u8], at: usize, n: u32) -> usize
     pieces::put_hex4(out, at, n)
 }
 
-// A line's letter and position.
+// A line's letter and position. The letter is a byte of the text, by which no choice is made.
 pub fn put_start(out: &mut [u8], at: usize, letter: u8, p: u32) -> usize
     ensures puts { at < 2 ^ 57 → Puts (letter ∷ 9 ∷ hex4 p) at out.old out.new result }
     ensures kept { ¬ (at < 2 ^ 57) → (out.new ≡ out.old) × (result ≡ at) }

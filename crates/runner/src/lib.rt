@@ -5,7 +5,7 @@
 pub mod call;
 pub mod digits;
 pub mod entries;
-mod handed;
+pub mod handed;
 mod input;
 pub mod ring;
 mod room;

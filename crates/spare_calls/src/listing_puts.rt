@@ -29,7 +29,7 @@ fn fields_are_put(rt: HostRuntime) {
 }
 
 #[test]
-fn past_the_end_all_is_counted(rt: HostRuntime) {
+fn what_falls_past_the_end_is_counted(rt: HostRuntime) {
     let mut room = *b"...";
     assert_eq!(rt; put::put_byte(&mut room, 3, b'x'), 4);
     assert_eq!(rt; put::put_hex4(&mut room, 1, 0xBEEF), 5);
@@ -42,7 +42,7 @@ fn past_the_end_all_is_counted(rt: HostRuntime) {
 }
 
 #[test]
-fn from_the_limit_on_nothing_is(rt: HostRuntime) {
+fn nothing_is_put_from_the_limit_on(rt: HostRuntime) {
     let mut room = *b"...";
     assert_eq!(rt; put::put_byte(&mut room, FAR, b'x'), FAR);
     assert_eq!(rt; put::put_digit(&mut room, usize::MAX, 1), usize::MAX);
