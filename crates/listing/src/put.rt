@@ -1,5 +1,6 @@
-// What lines are made of, for crates that write lines of their own. Each call puts what the one of its name in `pieces` puts, which asks for a
-// place below a limit. Here nothing is asked: from that limit on nothing is put, and the next place is the place itself.
+// Parts of lines, put into lent room, for crates that write lines of their own. A put writes what of its text falls inside the room and answers
+// the next place, which may lie past the end. Each hands on to the function of its name in `pieces`, which asks for a place below a limit. Here
+// nothing is asked: from that limit on nothing is written, and the answer is the place that was given.
 ghost use Rattle.std.specs.Prelude.{◌≡◌, [], ◌∷◌, ◌^◌, ◌≤◌, ◌<◌, length};
 ghost use Rattle.listing.specs.Hex.{hex1, hex2, hex3, hex4, hexes};
 ghost use Rattle.text.specs.Puts.{Puts, letters};
@@ -78,7 +79,7 @@ pub fn put_place(out: &mut [u8], at: usize, p: u32) -> usize
     pieces::put_place(out, at, p)
 }
 
-// A field with bytes, of which there may be as many as in the longest image; where there are more, too, nothing is put.
+// A field with bytes, at most as many as the longest image has; where there are more, nothing is put either.
 pub fn put_bytes(out: &mut [u8], at: usize, bytes: &[u8]) -> usize
     ensures puts { (at < 2 ^ 58) × (length bytes.now ≤ 65536) → Puts (9 ∷ hexes bytes.now) at out.old out.new result }
     ensures kept { ¬ ((at < 2 ^ 58) × (length bytes.now ≤ 65536)) → (out.new ≡ out.old) × (result ≡ at) }

@@ -62,7 +62,7 @@ impl Numeral {
     }
 }
 
-// A decimal number, each of whose digits stands for what it stands for in this numeral, or for 0; what is past twelve digits is not read.
+// A decimal number, each of whose digits stands for what it stands for in this numeral, or for 0; once it is above 10^12, nothing more is read.
 pub fn number_by(digits: &[u8], numeral: Numeral) -> usize
     ensures { result ≡ number_from (digit_of numeral) 0 digits.now }
 {

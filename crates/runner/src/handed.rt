@@ -1,11 +1,11 @@
-// What is handed over to be called: a closure that reads digits, an iterator that gives bytes. That it can be called, and that the iterator
-// ends, is asked of whoever hands it over, since no type says so.
+// Functions over what a caller hands over: a closure that reads digits, an iterator that gives bytes. That the closure can be called, and that
+// the iterator can be gone through and ends, is asked of the caller, since no type says so.
 ghost use Rattle.std.specs.Prelude.{◌≡◌, ℕ, ◌+◌, ◌-◌, ◌<◌, ◌≤◌, min, List, Option, length};
 ghost use Rattle.std.proofs.lemmas.List.Edits.{sets};
 ghost use Rattle.std.specs.Iterator.{DrainsIf, IsFinite};
 ghost use Rattle.runner.specs.Digits.{number_from};
 
-// A decimal number, whose digits are read by `digit`, and 0 for what is none; what is past twelve digits is not read.
+// A decimal number, whose digits are read by `digit`, and 0 for what is none; once it is above 10^12, nothing more is read.
 pub fn number<F: Fn(u8) -> Option<u8>>(digits: &[u8], digit: F) -> usize
     requires { F.IsAlwaysCallable digit }
     ensures { (f : ℕ → Option ℕ) → ((b : ℕ) (d : Option ℕ) → b < 256 → F.post digit b d → d ≡ f b)

@@ -1,4 +1,4 @@
-// Tests of public calls of libraries here that no program makes. What is wanted was worked out by hand.
+// Tests of public calls of libraries here, most of which no program makes. What is wanted was worked out by hand.
 #![tactic(auto)]
 
 #[cfg(test)]

@@ -1,4 +1,4 @@
-// What lines are made of, put by `listing::put`.
+// Parts of lines, put by `listing::put`.
 use listing::put;
 
 // The limit of a byte and of a digit; those of all others are lower.

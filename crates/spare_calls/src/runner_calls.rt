@@ -1,4 +1,4 @@
-// What is handed over to be called, by `runner`.
+// Numbers read and bytes put by `runner`, with what is handed over: a closure, a numeral, an iterator.
 use runner::Numeral;
 
 // Tallies: a stroke is one, and a cross ten.
