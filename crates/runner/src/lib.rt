@@ -1,5 +1,5 @@
 // What the programs share: a file or a stream read into a room of fixed length, and, for those that replay a stored list, its entries and
-// how many of them hold.
+// how many of them hold. Two calls besides, by what is handed over, are for callers elsewhere (`handed`).
 #![tactic(auto)]
 
 pub mod call;
